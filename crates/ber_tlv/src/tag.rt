@@ -1,0 +1,27 @@
+ghost use Rattle.std.specs.Prelude.{◌≡◌};
+ghost use Rattle.ber_tlv.specs.Tag.{first_byte_of, names_template};
+
+/// A tag: its one to three bytes as one big-endian number, as `0x9f36` for the tag 9F36
+/// (EMV 4.3 Book 3 Annex B1).
+#[derive(Clone, Copy, PartialEq, Eq, PartialOrd, Ord, Hash, Debug, Default)]
+pub struct Tag(pub u32);
+
+/// Whether the tag names a constructed object, one whose value is itself a list of objects:
+/// bit 6 of its first byte (EMV 4.3 Book 3 Annex B1).
+pub fn is_constructed(tag: Tag) -> bool
+    ensures { result ≡ names_template tag.0 }
+{
+    first_byte(tag.0) / 32 % 2 == 1
+}
+
+fn first_byte(number: u32) -> u32
+    ensures { result ≡ first_byte_of number }
+{
+    if number < 256 {
+        number
+    } else if number < 65536 {
+        number / 256
+    } else {
+        number / 65536
+    }
+}
