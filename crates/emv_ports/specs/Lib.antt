@@ -1,0 +1,4 @@
+pub mod Causes
+pub mod Growth
+pub mod Reading
+pub mod State

@@ -1,0 +1,23 @@
+//! The outside of the terminal, the card and the host: where bytes come from and go to.
+//!
+//! Each port is a trait whose ghost members say what an implementation means, so that the crates
+//! above are proved once, for every implementation. `Source` and `Sink` count their faults: a call
+//! answers `Failed` only where that count rose.
+#![tactic(auto)]
+
+pub mod memory_sink;
+pub mod memory_source;
+pub mod sink;
+pub mod source;
+pub mod standard;
+pub mod transfer;
+
+pub use memory_sink::MemorySink;
+pub use memory_source::MemorySource;
+pub use sink::Sink;
+pub use source::{Failed, Source};
+pub use standard::{StdinSource, StdoutSink};
+pub use transfer::{ReadFault, read_up_to, write_all};
+
+#[cfg(test)]
+mod tests;

@@ -1,0 +1,101 @@
+ghost use Rattle.std.specs.Prelude.{◌≡◌, ℕ, List, Some, [], ◌+◌, ◌-◌, ◌≤◌, ◌<◌, ◌++◌, ◌↔◌, ◌⊎◌, min, length, Contains, IsErr, IfOk, OnErr};
+ghost use Rattle.std.specs.declared.option.Option.{Option};
+ghost use Rattle.std.specs.Io.{WritesAtMost};
+ghost use Rattle.std.specs.Io.KnownBytes.{WriteAppends};
+ghost use Rattle.emv_ports.specs.Causes.{HasCause, one_more};
+
+use crate::memory_source::is_numbered;
+use crate::{Failed, Sink};
+use std::alloc::{AllocError, Global};
+use std::marker::Model;
+
+/// A sink over memory of a fixed room that fails at chosen calls.
+#[derive(Drop)]
+pub struct MemorySink {
+    bytes: Vec<u8>,
+    room: usize,
+    fails: Vec<u32>,
+    calls: u64,
+    faults: u64,
+}
+
+impl Model for MemorySink {
+    ghost use Rattle.std.specs.Prelude.{◌≤◌, vec_len, vec_capacity};
+    ghost use Rattle.emv_ports.specs.State.{SinkState};
+
+    ghost Value = { SinkState };
+
+    ghost view = { λ s. record { held = s.bytes.items; room = s.room; fails = s.fails.items; calls = s.calls; faults = s.faults } };
+
+    ghost invariant = { λ s. (vec_len s.bytes ≤ s.room) × (s.room ≤ vec_capacity s.bytes) };
+}
+
+impl MemorySink {
+    /// An empty sink that can hold `room` bytes, all of them reserved now. The calls of `write`
+    /// with these numbers fail; the first call is number 1.
+    pub fn new(alloc: Global, room: usize, fails: Vec<u32>) -> Result<MemorySink, AllocError>
+        ensures held { IfOk result (λ s. s.held ≡ []) }
+        ensures room { IfOk result (λ s. s.room ≡ room) }
+        ensures fails { IfOk result (λ s. s.fails ≡ fails.items) }
+        ensures calls { IfOk result (λ s. s.calls ≡ 0) }
+        ensures faults { IfOk result (λ s. s.faults ≡ 0) }
+    {
+        Ok(MemorySink {
+            bytes: Vec::with_capacity(alloc, room)?,
+            room,
+            fails,
+            calls: 0,
+            faults: 0,
+        })
+    }
+
+    /// What the sink holds.
+    pub fn bytes(&self) -> &[u8]
+        ensures { result.now ≡ self.now.held }
+    {
+        &self.bytes
+    }
+
+    fn fail(&mut self) -> Failed
+        ensures held { self.new.held ≡ self.old.held }
+        ensures room { self.new.room ≡ self.old.room }
+        ensures fails { self.new.fails ≡ self.old.fails }
+        ensures calls { self.new.calls ≡ self.old.calls }
+        ensures faults { self.new.faults ≡ one_more self.old.faults }
+    {
+        self.faults = self.faults.saturating_add(1);
+        Failed
+    }
+}
+
+impl Sink for MemorySink {
+    ghost held = { λ s. Some s.held };
+
+    ghost faults = { λ s. s.faults };
+
+    /// Takes as much as fits.
+    fn write(&mut self, piece: &[u8]) -> Result<usize, Failed>
+        ensures bound { WritesAtMost result piece.now }
+        ensures bytes { WriteAppends (Some self.old.held) (Some self.new.held) result piece.now }
+        ensures takes { 0 < length piece.now → IfOk result (λ n. 0 < n) }
+        ensures cause { HasCause self.old.faults self.new.faults result }
+        ensures exactly { IsErr result ↔ (Contains self.old.fails self.new.calls ⊎ ((0 < length piece.now) × (self.old.room ≤ length self.old.held))) }
+        ensures fits { IfOk result (λ n. n ≡ min (length piece.now) (self.old.room - length self.old.held)) }
+        ensures calls { self.new.calls ≡ one_more self.old.calls }
+        ensures faults { OnErr result (self.new.faults ≡ one_more self.old.faults) }
+        ensures kept { (self.new.fails ≡ self.old.fails) × (self.new.room ≡ self.old.room) }
+    {
+        self.calls = self.calls.saturating_add(1);
+        if is_numbered(&self.fails, self.calls) {
+            return Err(self.fail());
+        }
+        let count = piece.len().min(self.room - self.bytes.len());
+        if count == 0 && !piece.is_empty() {
+            return Err(self.fail());
+        }
+        if self.bytes.extend_from_slice(&piece[..count]).is_err() {
+            unreachable!();
+        }
+        Ok(count)
+    }
+}

@@ -1,0 +1,72 @@
+ghost use Rattle.std.specs.Prelude.{◌≡◌, ℕ, ◌<◌, length, IfOk};
+ghost use Rattle.std.specs.declared.option.Option.{Option};
+
+use crate::{Failed, Sink, Source};
+use std::io::{Read, Write};
+
+/// A source over standard input, or any reader. It tells what is left only where the reader does.
+#[derive(Drop)]
+pub struct StdinSource<R: Read + Drop> {
+    reader: R,
+    faults: u64,
+}
+
+impl<R: Read + Drop> StdinSource<R> {
+    pub fn new(reader: R) -> Self
+        ensures reader { result.reader ≡ reader }
+        ensures faults { result.faults ≡ 0 }
+    {
+        StdinSource { reader, faults: 0 }
+    }
+}
+
+impl<R: Read + Drop> Source for StdinSource<R> {
+    ghost left = { λ s. R.remaining s.reader };
+
+    ghost faults = { λ s. s.faults };
+
+    fn read(&mut self, out: &mut [u8]) -> Result<usize, Failed> {
+        match self.reader.read(out) {
+            Ok(count) => Ok(count),
+            Err(_) => {
+                self.faults = self.faults.saturating_add(1);
+                Err(Failed)
+            }
+        }
+    }
+}
+
+/// A sink over standard output, or any writer. It tells what it holds only where the writer does.
+#[derive(Drop)]
+pub struct StdoutSink<W: Write + Drop> {
+    writer: W,
+    faults: u64,
+}
+
+impl<W: Write + Drop> StdoutSink<W> {
+    pub fn new(writer: W) -> Self
+        ensures writer { result.writer ≡ writer }
+        ensures faults { result.faults ≡ 0 }
+    {
+        StdoutSink { writer, faults: 0 }
+    }
+}
+
+impl<W: Write + Drop> Sink for StdoutSink<W> {
+    ghost held = { λ s. W.contents s.writer };
+
+    ghost faults = { λ s. s.faults };
+
+    fn write(&mut self, piece: &[u8]) -> Result<usize, Failed> {
+        match self.writer.write(piece) {
+            Ok(count) => {
+                if count > 0 || piece.is_empty() {
+                    return Ok(count);
+                }
+            }
+            Err(_) => {}
+        }
+        self.faults = self.faults.saturating_add(1);
+        Err(Failed)
+    }
+}
