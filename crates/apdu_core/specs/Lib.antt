@@ -1,0 +1,3 @@
+pub mod Command
+pub mod Response
+pub mod Seen

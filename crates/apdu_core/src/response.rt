@@ -1,0 +1,48 @@
+ghost use Rattle.std.specs.Prelude.{◌≡◌, ◌↔◌, ◌<◌, ◌≤◌, length, IfOk, IsErrOf, IsOk};
+ghost use Rattle.apdu_core.specs.Response.{response_bytes};
+
+use crate::ApduFault;
+use crate::command::append;
+use arrayvec::ArrayVec;
+
+/// The bytes of a response: at most 256 body bytes and the status.
+pub type Answer = ArrayVec<u8, 258>;
+
+/// An answer of the card (EMV 4.3 Book 3 section 6.3.3).
+#[derive(Clone, Copy, PartialEq, Eq, Debug)]
+pub struct Response<'a> {
+    /// The body, of at most 256 bytes; empty where there is none.
+    pub body: &'a [u8],
+    /// SW1 SW2 as one number, as 0x9000.
+    pub status: u16,
+}
+
+/// Reads a response from all of `bytes`: a body of at most 256 bytes, then the status. Fewer than
+/// two bytes are `Short`, more than 258 `LengthMismatch`.
+pub fn read_response(bytes: &[u8]) -> Result<Response<'_>, ApduFault>
+    ensures spelled { IfOk result (λ response. response_bytes response.body.now response.status ≡ bytes.now) }
+    ensures short { IsErrOf result ApduFault.Short ↔ (length bytes.now < 2) }
+    ensures mismatch { IsErrOf result ApduFault.LengthMismatch ↔ (258 < length bytes.now) }
+{
+    if bytes.len() > 258 {
+        return Err(ApduFault::LengthMismatch);
+    }
+    let [body @ .., high, low] = bytes else {
+        return Err(ApduFault::Short);
+    };
+    Ok(Response {
+        body,
+        status: u16::from(*high) * 256 + u16::from(*low),
+    })
+}
+
+/// Writes a response's bytes to `out`, in place of what it held.
+pub fn write_response(response: &Response<'_>, out: &mut Answer)
+    requires { length response.now.body.now ≤ 256 }
+    ensures { out.new.items ≡ response_bytes response.now.body.now response.now.status }
+{
+    out.clear();
+    append(out, response.body);
+    out.push((response.status / 256) as u8);
+    out.push((response.status % 256) as u8);
+}
