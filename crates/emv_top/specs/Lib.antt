@@ -1,0 +1,4 @@
+pub mod Values
+pub mod Form
+pub mod Seen
+pub mod SeenForm

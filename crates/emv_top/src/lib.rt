@@ -1,0 +1,5 @@
+//! The whole program as one call: the words of the command line, a source and a sink go in, a
+//! status comes out. The contract of `run` is what the project promises.
+#![tactic(auto)]
+
+pub mod short_form;
