@@ -1,0 +1,9 @@
+//! The data dictionary of EMV 4.3 Book 3 Annex A as far as a contact payment uses it, the
+//! terminal's flags of Annex C, and the plain types that the terminal, the card and the issuer share.
+#![tactic(auto)]
+
+pub mod digits;
+pub mod name;
+
+pub use digits::Digits;
+pub use name::Name;
