@@ -1,2 +1,5 @@
 pub mod Digits
 pub mod Name
+pub mod Dictionary
+pub mod Listing
+pub mod Flags
