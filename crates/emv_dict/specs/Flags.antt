@@ -6,13 +6,21 @@ use Rattle.std.specs.Prelude.{ℕ, ◌+◌, ◌-◌, ◌*◌, ◌^◌, ◌==◌,
 abbrev pub place_among : ℕ → ℕ → ℕ → ℕ
 place_among bytes byte bit = 8 * (bytes - byte) + (bit - 1)
 
+-- the place of a bit of the terminal verification results, by its byte and its number there
+abbrev pub tvr_place : ℕ → ℕ → ℕ
+tvr_place byte bit = place_among 5 byte bit
+
+-- the place of a bit of the transaction status information
+abbrev pub tsi_place : ℕ → ℕ → ℕ
+tsi_place byte bit = place_among 2 byte bit
+
 -- the five bytes of the terminal verification results as one number in which this bit alone stands
 abbrev pub tvr_bit : ℕ → ℕ → ℕ
-tvr_bit byte bit = 2 ^ place_among 5 byte bit
+tvr_bit byte bit = 2 ^ tvr_place byte bit
 
 -- the two bytes of the transaction status information as one number in which this bit alone stands
 abbrev pub tsi_bit : ℕ → ℕ → ℕ
-tsi_bit byte bit = 2 ^ place_among 2 byte bit
+tsi_bit byte bit = 2 ^ tsi_place byte bit
 
 -- the named bits of the terminal verification results
 abbrev pub tvr_bits : List (List ℕ × ℕ)

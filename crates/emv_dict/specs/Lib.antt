@@ -1,5 +1,8 @@
-pub mod Digits
-pub mod Name
+pub mod Date
 pub mod Dictionary
-pub mod Listing
+pub mod Digits
 pub mod Flags
+pub mod Listing
+pub mod Name
+pub mod Nibbles
+pub mod Pan
