@@ -1,0 +1,28 @@
+//! The data dictionary of EMV 4.3 Book 3 Annex A as far as a contact payment uses it, the
+//! terminal's flags of Annex C, and the plain types that the terminal, the card and the issuer share.
+#![tactic(auto)]
+
+pub mod date;
+pub mod dictionary;
+pub mod digits;
+pub mod ending;
+pub mod name;
+pub mod nibble;
+pub mod pan;
+pub mod purchase;
+pub mod tsi;
+pub mod tvr;
+
+pub use date::Date;
+pub use dictionary::{Format, Origin, Row, tag_row};
+pub use digits::Digits;
+pub use ending::{Cause, Ending, Kind, Step};
+pub use name::Name;
+pub use nibble::nibble_at;
+pub use pan::{PanFault, pan_digits};
+pub use purchase::{AidRow, Logged, Purchase, Settings};
+pub use tsi::Tsi;
+pub use tvr::Tvr;
+
+#[cfg(test)]
+mod tests;

@@ -1,0 +1,86 @@
+ghost use Rattle.std.specs.Prelude.{⊤, ◌≡◌, ◌<◌, ◌^◌, drop};
+ghost use Rattle.std.specs.Int.{to_be_bytes, w64};
+ghost use Rattle.emv_dict.specs.Flags.{tvr_bits, have_common_bit};
+
+use bitflags::{Flag, Flags, bitflag_items};
+
+/// The terminal verification results (EMV 4.3 Book 3 Annex C5): what the terminal's checks found.
+/// The number's low 40 bits are the object's five bytes, big-endian; bits above them are no part of it.
+#[derive(Clone, Copy, PartialEq, Eq, Debug, Default)]
+pub struct Tvr(pub u64);
+
+bitflag_items! {
+    impl Tvr: u64 {
+        const OFFLINE_DATA_AUTHENTICATION_NOT_PERFORMED = 0x80_00_00_00_00;
+        const ICC_DATA_MISSING = 0x20_00_00_00_00;
+        const EXCEPTION_FILE = 0x10_00_00_00_00;
+        const VERSIONS_DIFFER = 0x00_80_00_00_00;
+        const EXPIRED = 0x00_40_00_00_00;
+        const NOT_YET_EFFECTIVE = 0x00_20_00_00_00;
+        const SERVICE_NOT_ALLOWED = 0x00_10_00_00_00;
+        const NEW_CARD = 0x00_08_00_00_00;
+        const VERIFICATION_NOT_SUCCESSFUL = 0x00_00_80_00_00;
+        const UNRECOGNISED_CVM = 0x00_00_40_00_00;
+        const PIN_TRY_LIMIT_EXCEEDED = 0x00_00_20_00_00;
+        const PIN_PAD_NOT_PRESENT_OR_NOT_WORKING = 0x00_00_10_00_00;
+        const PIN_NOT_ENTERED = 0x00_00_08_00_00;
+        const ONLINE_PIN_ENTERED = 0x00_00_04_00_00;
+        const FLOOR_LIMIT_EXCEEDED = 0x00_00_00_80_00;
+        const LOWER_CONSECUTIVE_LIMIT_EXCEEDED = 0x00_00_00_40_00;
+        const UPPER_CONSECUTIVE_LIMIT_EXCEEDED = 0x00_00_00_20_00;
+        const RANDOMLY_SELECTED = 0x00_00_00_10_00;
+        const MERCHANT_FORCED_ONLINE = 0x00_00_00_08_00;
+        const ISSUER_AUTHENTICATION_FAILED = 0x00_00_00_00_40;
+        const SCRIPT_FAILED_BEFORE_FINAL_CRYPTOGRAM = 0x00_00_00_00_20;
+        const SCRIPT_FAILED_AFTER_FINAL_CRYPTOGRAM = 0x00_00_00_00_10;
+    }
+}
+
+impl Flags for Tvr {
+    type Bits = u64;
+
+    ghost exact = { ⊤ };
+
+    ghost table = { tvr_bits };
+
+    ghost set_of = { λ t. t.0 };
+
+    fn flags<'a>() -> &'a [Flag<Tvr>] {
+        Tvr::FLAGS
+    }
+
+    fn bits(&self) -> u64 {
+        self.0
+    }
+
+    fn from_bits_retain(bits: u64) -> Tvr {
+        Tvr(bits)
+    }
+}
+
+impl Tvr {
+    /// The five bytes of the data object 95, its first byte first.
+    pub fn bytes(&self) -> [u8; 5]
+        ensures { result ≡ drop 3 (to_be_bytes w64 self.now.0) }
+    {
+        let all = self.0.to_be_bytes();
+        [all[3], all[4], all[5], all[6], all[7]]
+    }
+
+    /// The results that these five bytes say, or the action code that they are (EMV 4.3 Book 3
+    /// section 10.7: an action code has a bit for each bit of the results).
+    pub fn from_bytes(bytes: [u8; 5]) -> Tvr
+        ensures bytes { drop 3 (to_be_bytes w64 result.0) ≡ bytes }
+        ensures small { result.0 < 2 ^ 40 }
+    {
+        let [a, b, c, d, e] = bytes;
+        Tvr(u64::from_be_bytes([0, 0, 0, a, b, c, d, e]))
+    }
+
+    /// Whether some bit of the results stands in the action code too (EMV 4.3 Book 3 section 10.7).
+    pub fn meets(&self, code: &Tvr) -> bool
+        ensures { result ≡ have_common_bit self.now.0 code.now.0 }
+    {
+        self.0 & code.0 != 0
+    }
+}
