@@ -1,1 +1,5 @@
+pub mod Item
+pub mod Items
+pub mod Left
+pub mod Seen
 pub mod Tag

@@ -2,6 +2,10 @@
 //! bytes and definite lengths of one to three bytes.
 #![tactic(auto)]
 
+pub mod cursor;
+pub mod item;
 pub mod tag;
 
+pub use cursor::{Cursor};
+pub use item::{Item, TlvFault};
 pub use tag::{Tag, is_constructed};

@@ -1,0 +1,72 @@
+ghost use Rattle.std.specs.Prelude.{◌≡◌, ◌+◌, ◌<◌, ◌≤◌, length, IfOk, IfErr, IfSome, IfNone, OnErr};
+ghost use Rattle.ber_tlv.specs.Items.{Zeros, Begins, NextItem, NextFault};
+ghost use Rattle.ber_tlv.specs.Seen.{CursorData, seen};
+
+use std::marker::Model;
+
+use crate::item::{Item, TlvFault, item_at};
+
+/// Goes through the data objects of a byte string in order (EMV 4.3 Book 3 Annex B).
+#[derive(Drop)]
+pub struct Cursor<'a> {
+    bytes: &'a [u8],
+    place: usize,
+}
+
+impl<'a> Model for Cursor<'a> {
+    ghost Value = { CursorData };
+
+    ghost view = { λ c. record { bytes = c.bytes.now; place = c.place } };
+
+    ghost invariant = { λ c. c.place ≤ length c.bytes.now };
+}
+
+impl<'a> Cursor<'a> {
+    /// A cursor at the first byte.
+    pub fn new(bytes: &'a [u8]) -> Cursor<'a>
+        ensures bytes { result.bytes ≡ bytes.now }
+        ensures place { result.place ≡ 0 }
+    {
+        Cursor { bytes, place: 0 }
+    }
+
+    /// The next data object, `None` at the end, or why no object stands where one should. Bytes 00
+    /// before, between and after objects are passed over. After a fault each further call gives
+    /// the same fault.
+    pub fn next(&mut self) -> Result<Option<Item<'a>>, TlvFault>
+        ensures item {
+            IfOk result (λ found. IfSome found (λ item.
+              NextItem self.old.bytes self.old.place (seen item) self.new.place))
+        }
+        ensures end {
+            IfOk result (λ found. IfNone found
+              (Zeros self.old.bytes self.old.place (length self.old.bytes)))
+        }
+        ensures fault { IfErr result (NextFault self.old.bytes self.old.place) }
+        ensures onward { IfOk result (λ found. IfSome found (λ _. self.old.place < self.new.place)) }
+        ensures within { self.new.place ≤ length self.new.bytes }
+        ensures same_bytes { self.new.bytes ≡ self.old.bytes }
+        ensures stays { OnErr result (self.new ≡ self.old) }
+    {
+        let start = skip_zeros(self.bytes, self.place);
+        if start == self.bytes.len() {
+            self.place = start;
+            return Ok(None);
+        }
+        let (item, next) = item_at(self.bytes, start)?;
+        self.place = next;
+        Ok(Some(item))
+    }
+}
+
+fn skip_zeros(bytes: &[u8], place: usize) -> usize
+    requires { place ≤ length bytes.now }
+    ensures zeros { Zeros bytes.now place result }
+    ensures begins { result < length bytes.now → Begins bytes.now result }
+{
+    let mut start = place;
+    while start < bytes.len() && bytes[start] == 0 {
+        start += 1;
+    }
+    start
+}
