@@ -1,0 +1,2 @@
+pub mod ItemBounds
+pub mod Reading
