@@ -1,6 +1,6 @@
 -- Each byte string is either a list of objects or has a fault: what `items_behind` gives at each
 -- kind of place, and that it agrees with `Items` and `FaultBehind`.
-use Rattle.std.proofs.Common.{◌≡◌, ℕ, zero, suc, ◌+◌, ◌-◌, ◌<◌, ◌≤◌, ◌==◌, if◌then◌else◌, true, false, List, [], ◌∷◌, length, Option, Some, None, Result, Ok, Err, slice_get, refl, arith, sym, ap, ◌∙◌, ◌⊎◌, inl, inr, MatchResult}
+use Rattle.std.proofs.Common.{◌≡◌, ℕ, zero, suc, ◌+◌, ◌-◌, ◌<◌, ◌≤◌, ◌==◌, if◌then◌else◌, true, false, List, [], ◌∷◌, length, Option, Some, None, Result, Ok, Err, slice_get, refl, arith, sym, ap, ◌∙◌, ◌⊎◌, inl, inr, subst, ◌↔◌}
 use Rattle.std.proofs.Math.Nat.{eq-or-lt_of_le}
 use Rattle.std.proofs.lemmas.Option.{slice_get_past, slice_get_within, slice_get_cases}
 use Rattle.ber_tlv.specs.Item.{ItemData, ◌>>=◌, item_at}
@@ -151,3 +151,14 @@ Reads-count (suc count) bytes place within enough =
 pub left-Reads : (bytes : List ℕ) (place : ℕ) → place ≤ length bytes → Reads bytes place (items_behind bytes place)
 unfolding items_behind
 left-Reads bytes place within = Reads-count (suc (length bytes)) bytes place within (omega arith)
+
+Reads-at : (bytes : List ℕ) (reading : Result (List ItemData) TlvFault) → items_of bytes ≡ reading → Reads bytes 0 reading
+Reads-at bytes reading e =
+  let P : Result (List ItemData) TlvFault → Type 0 = λ r. Reads bytes 0 r in
+  subst P e (left-Reads bytes 0 (omega arith))
+
+pub reads_list : (bytes : List ℕ) (items : List ItemData) → (items_of bytes ≡ Ok items) ↔ Items bytes 0 items
+reads_list bytes items = (λ e. Reads-at bytes (Ok items) e, Items-left bytes 0 items)
+
+pub reads_fault : (bytes : List ℕ) (fault : TlvFault) → (items_of bytes ≡ Err fault) ↔ ((items : List ItemData) × FaultBehind bytes 0 items fault)
+reads_fault bytes fault = (λ e. Reads-at bytes (Err fault) e, λ (items, behind). FaultBehind-left bytes 0 items fault behind)

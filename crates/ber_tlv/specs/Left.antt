@@ -28,3 +28,8 @@ items_behind bytes place = items_from (suc (length bytes)) bytes place
 -- the objects of a byte string, or its fault
 abbrev pub items_of : List ℕ → Result (List ItemData) TlvFault
 items_of bytes = items_behind bytes 0
+
+-- the fault, where there is one
+abbrev pub fault_of : Result (List ItemData) TlvFault → Option TlvFault
+fault_of (Ok items) = None
+fault_of (Err fault) = Some fault

@@ -3,3 +3,4 @@ pub mod Items
 pub mod Left
 pub mod Seen
 pub mod Tag
+pub mod Written

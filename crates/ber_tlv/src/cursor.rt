@@ -1,6 +1,8 @@
-ghost use Rattle.std.specs.Prelude.{◌≡◌, ◌+◌, ◌<◌, ◌≤◌, length, IfOk, IfErr, IfSome, IfNone, OnErr};
-ghost use Rattle.ber_tlv.specs.Items.{Zeros, Begins, NextItem, NextFault};
-ghost use Rattle.ber_tlv.specs.Seen.{CursorData, seen};
+ghost use Rattle.std.specs.Prelude.{◌≡◌, ℕ, ◌<◌, ◌≤◌, ◌↔◌, List, length, Ok, Err, IfOk, IfErr, IfSome, IfNone, OnErr};
+ghost use Rattle.ber_tlv.specs.Items.{Zeros, Begins, NextItem, NextFault, Items, FaultBehind};
+ghost use Rattle.ber_tlv.specs.Left.{items_behind, items_of, fault_of};
+ghost use Rattle.ber_tlv.specs.Seen.{CursorData, seen, then_rest};
+ghost use Rattle.ber_tlv.specs.Item.{ItemData};
 
 use std::marker::Model;
 
@@ -43,6 +45,12 @@ impl<'a> Cursor<'a> {
               (Zeros self.old.bytes self.old.place (length self.old.bytes)))
         }
         ensures fault { IfErr result (NextFault self.old.bytes self.old.place) }
+        ensures ends { IfOk result (λ found. IfNone found (self.new.place ≡ length self.new.bytes)) }
+        // What the step gave, with what is left behind it, is what was left before.
+        ensures left {
+            then_rest result (items_behind self.new.bytes self.new.place)
+              ≡ items_behind self.old.bytes self.old.place
+        }
         ensures onward { IfOk result (λ found. IfSome found (λ _. self.old.place < self.new.place)) }
         ensures within { self.new.place ≤ length self.new.bytes }
         ensures same_bytes { self.new.bytes ≡ self.old.bytes }
@@ -56,6 +64,34 @@ impl<'a> Cursor<'a> {
         let (item, next) = item_at(self.bytes, start)?;
         self.place = next;
         Ok(Some(item))
+    }
+}
+
+/// Each byte string has exactly one list of data objects or exactly one fault: the one that
+/// `items_of` names.
+pub fn one_reading(bytes: &[u8])
+    ensures list {
+        (items : List ItemData) → (items_of bytes.now ≡ Ok items) ↔ Items bytes.now 0 items
+    }
+    ensures fault {
+        (fault : TlvFault) → (items_of bytes.now ≡ Err fault)
+          ↔ ((items : List ItemData) × FaultBehind bytes.now 0 items fault)
+    }
+{
+}
+
+/// Why the byte string is no list of data objects, or `None` where it is one: the fault at the first
+/// place that its objects reach and where none stands (EMV 4.3 Book 3 Annex B).
+pub fn first_fault(bytes: &[u8]) -> Option<TlvFault>
+    ensures { result ≡ fault_of (items_of bytes.now) }
+{
+    let mut cursor = Cursor::new(bytes);
+    loop {
+        match cursor.next() {
+            Ok(Some(_)) => {}
+            Ok(None) => return None,
+            Err(fault) => return Some(fault),
+        }
     }
 }
 

@@ -5,7 +5,9 @@
 pub mod cursor;
 pub mod item;
 pub mod tag;
+pub mod write;
 
 pub use cursor::{Cursor};
 pub use item::{Item, TlvFault};
-pub use tag::{Tag, is_constructed};
+pub use tag::{Tag, is_constructed, is_readable};
+pub use write::{Full, write_item};
