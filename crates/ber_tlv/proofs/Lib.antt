@@ -1,2 +1,3 @@
 pub mod ItemBounds
+pub mod ReadAgain
 pub mod Reading

@@ -11,3 +11,6 @@ pub use cursor::{Cursor};
 pub use item::{Item, TlvFault};
 pub use tag::{Tag, is_constructed, is_readable};
 pub use write::{Full, write_item};
+
+#[cfg(test)]
+mod tests;

@@ -1,5 +1,6 @@
 ghost use Rattle.std.specs.Prelude.{◌≡◌, ℕ, ◌+◌, ◌<◌, ◌≤◌, ◌^◌, ◌↔◌, ◌++◌, List, length, IsTrue, IsOk, OnOk, OnErr, IfErr, Ok};
 ghost use Rattle.arrayvec.specs.ArrayVec.{array_vec_len};
+ghost use Rattle.ber_tlv.specs.Item.{item_at};
 ghost use Rattle.ber_tlv.specs.Tag as tag_spec;
 ghost use Rattle.ber_tlv.specs.Written as spec;
 
@@ -29,6 +30,12 @@ pub fn write_item<const N: usize>(
     ensures needed { IfErr result (λ full. full.needed ≡ length (spec.written tag.0 value.now)) }
     ensures free { IfErr result (λ full. full.free + length out.old.items ≡ N) }
     ensures err { OnErr result (out.new ≡ out.old) }
+
+    // What was written is read again, whatever stands behind it.
+    ensures read_again {
+        OnOk result ((rest : List ℕ) → item_at (out.new.items ++ rest) (length out.old.items)
+          ≡ Ok (record { tag = tag.0; value = value.now; start = length out.old.items }, length out.new.items))
+    }
 {
     let tag_bytes = tag_bytes(tag.0);
     let length_bytes = length_bytes(value.len());
