@@ -1,6 +1,7 @@
 -- Where an object ends: behind its first byte, and within the string.
-use Rattle.std.proofs.Common.{◌≡◌, ℕ, Bool, true, false, ◌+◌, ◌-◌, ◌*◌, ◌<◌, ◌≤◌, ◌%◌, ◌==◌, nat_lt, nat_le, if◌then◌else◌, List, length, Option, Some, None, Result, Ok, Err, IfOk, slice_get, refl, arith, sym, ap, ◌⊎◌, inl, inr}
+use Rattle.std.proofs.Common.{◌≡◌, ℕ, Bool, true, false, ◌+◌, ◌-◌, ◌*◌, ◌<◌, ◌≤◌, ◌%◌, ◌==◌, nat_lt, nat_le, if◌then◌else◌, List, length, Option, Some, None, Result, Ok, Err, IfOk, slice_get, refl, arith, sym, ap, ◌∙◌, min, length-drop, ◌⊎◌, inl, inr}
 use Rattle.std.specs.List.{slice_range}
+use Rattle.std.proofs.lemmas.List.{length-take}
 use Rattle.ber_tlv.specs.Item.{ItemData, ◌>>=◌, or_cut, byte_at, tag_at, second_tag_byte, third_tag_byte, length_at, long_length, one_byte_length, two_byte_length, value_at, item_at}
 use Rattle.ber_tlv.specs.declared.item.TlvFault.{TlvFault}
 use Rattle.ber_tlv.specs.declared.item.TlvFault.TheVariants.{Truncated, BadLength, LongTag}
@@ -97,3 +98,11 @@ item_at-lies bytes start item next stands =
   let tag_onward = tag_at-onward bytes start tag.0 tag.1 in
   let length_onward = length_at-onward bytes start tag.0.1 count.0 count.1 in
   value_at-lies bytes start tag.0.0 count.0.1 count.0.0 item next (omega arith) count.2
+
+-- a value has as many bytes as lie between its first place and the next object's
+pub lies-length : (bytes : List ℕ) (start : ℕ) (item : ItemData) (next : ℕ) (lies : Lies bytes start item next) → lies.from + length item.value ≡ next
+lies-length bytes start item next lies =
+  let count : length item.value ≡ min (next - lies.from) (length bytes - lies.from) = ap length lies.value ∙ simp (length-take, length-drop) in
+  let upward = lies.upward in
+  let within = lies.within in
+  omega arith
