@@ -87,14 +87,14 @@ abbrev pub Reads : List ℕ → ℕ → Result (List ItemData) TlvFault → Type
 Reads bytes place (Ok items) = Items bytes place items
 Reads bytes place (Err fault) = (items : List ItemData) × FaultBehind bytes place items fault
 
-Zeros-padding : (bytes : List ℕ) (place start : ℕ) → slice_get bytes place ≡ Some 0 → Zeros bytes (place + 1) start → Zeros bytes place start
+pub Zeros-padding : (bytes : List ℕ) (place start : ℕ) → slice_get bytes place ≡ Some 0 → Zeros bytes (place + 1) start → Zeros bytes place start
 Zeros-padding bytes place start padding zeros =
   record { upward = omega (arith, zeros.upward); within = zeros.within; zero = λ k from to.
     elim (eq-or-lt_of_le from) [
       inl here ↦ ap (slice_get bytes) (sym here) ∙ padding
     | inr behind ↦ zeros.zero k (omega arith) to ] }
 
-NextItem-padding : (bytes : List ℕ) (place : ℕ) (item : ItemData) (next : ℕ) → slice_get bytes place ≡ Some 0 → NextItem bytes (place + 1) item next → NextItem bytes place item next
+pub NextItem-padding : (bytes : List ℕ) (place : ℕ) (item : ItemData) (next : ℕ) → slice_get bytes place ≡ Some 0 → NextItem bytes (place + 1) item next → NextItem bytes place item next
 NextItem-padding bytes place item next padding step =
   record { start = step.start; zeros = Zeros-padding bytes place step.start padding step.zeros; begins = step.begins; stands = step.stands }
 
@@ -106,7 +106,7 @@ Reads-padding bytes place (Err fault) padding ([], step) =
 Reads-padding bytes place (Err fault) padding (item ∷ items, (next, step, rest)) =
   (item ∷ items, (next, NextItem-padding bytes place item next padding step, rest))
 
-no_zeros : (bytes : List ℕ) (place : ℕ) → place ≤ length bytes → Zeros bytes place place
+pub no_zeros : (bytes : List ℕ) (place : ℕ) → place ≤ length bytes → Zeros bytes place place
 no_zeros bytes place within = record { upward = omega arith; within = within; zero = λ k from to. absurd (omega arith) }
 
 Reads-item : (bytes : List ℕ) (place : ℕ) (item : ItemData) (next : ℕ) (rest : Result (List ItemData) TlvFault) → NextItem bytes place item next → Reads bytes next rest → Reads bytes place (then_left item rest)
@@ -127,12 +127,17 @@ Reads-start bytes place rest (Err fault) begins broken all =
 none_some : (byte : ℕ) → ◌≡◌ {A = Option ℕ} None (Some byte) → ⊥
 none_some byte e = cc
 
-Reads-byte : (bytes : List ℕ) (place : ℕ) (byte : Option ℕ) (padding object : Result (List ItemData) TlvFault) → place ≤ length bytes → slice_get bytes place ≡ byte
-  → (slice_get bytes place ≡ Some 0 → Reads bytes (place + 1) padding) → (Begins bytes place → Reads bytes place object) → Reads bytes place (by_byte byte padding object)
-Reads-byte bytes place None padding object within e by_padding by_object =
+-- where no byte stands, the string ends
+pub ends_at : (bytes : List ℕ) (place : ℕ) → place ≤ length bytes → slice_get bytes place ≡ None → Zeros bytes place (length bytes)
+ends_at bytes place within e =
   elim (slice_get_cases bytes place).1 [
     inl (byte, inside, there, _) ↦ absurd (none_some byte (sym e ∙ there))
   | inr (past, _) ↦ record { upward = within; within = omega arith; zero = λ k from to. absurd (omega arith) } ]
+
+Reads-byte : (bytes : List ℕ) (place : ℕ) (byte : Option ℕ) (padding object : Result (List ItemData) TlvFault) → place ≤ length bytes → slice_get bytes place ≡ byte
+  → (slice_get bytes place ≡ Some 0 → Reads bytes (place + 1) padding) → (Begins bytes place → Reads bytes place object) → Reads bytes place (by_byte byte padding object)
+Reads-byte bytes place None padding object within e by_padding by_object =
+  ends_at bytes place within e
 Reads-byte bytes place (Some zero) padding object within e by_padding by_object = Reads-padding bytes place padding e (by_padding e)
 Reads-byte bytes place (Some (suc byte)) padding object within e by_padding by_object =
   rw (by_byte-begins (suc byte) padding object (omega arith))
