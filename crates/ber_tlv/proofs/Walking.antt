@@ -1,5 +1,5 @@
 -- What `walk_behind` gives at each kind of place, and that it agrees with `Spells`.
-use Rattle.std.proofs.Common.{◌≡◌, ℕ, zero, suc, ◌+◌, ◌-◌, ◌<◌, ◌≤◌, ◌==◌, Bool, true, false, if◌then◌else◌, List, [], ◌∷◌, length, take, Option, Some, None, Result, Ok, Err, slice_get, refl, arith, sym, ap, subst, ◌∙◌, MatchBool}
+use Rattle.std.proofs.Common.{◌≡◌, ℕ, zero, suc, ◌+◌, ◌-◌, ◌<◌, ◌≤◌, ◌==◌, Bool, true, false, if◌then◌else◌, List, [], ◌∷◌, length, take, Option, Some, None, Result, Ok, Err, slice_get, refl, arith, sym, ap, subst, ◌∙◌, MatchBool, IsNone, ◌↔◌}
 use Rattle.std.proofs.lemmas.List.{length-take-le}
 use Rattle.std.proofs.lemmas.Option.{slice_get_past, slice_get_within}
 use Rattle.ber_tlv.specs.Item.{ItemData, item_at}
@@ -175,3 +175,27 @@ walk_of_forest-fault (Grown item children behind) =
 
 pub spelled-walk : (bytes : List ℕ) (forest : Forest) → Spells bytes 0 forest → walk_fault (walk_of bytes) ≡ None
 spelled-walk bytes forest spells = ap walk_fault (Spells-walk bytes 0 forest spells) ∙ walk_of_forest-fault forest
+
+-- a fault of the first walk is the fault of both
+pub fault_of_first : (walk behind : Walked) (fault : TlvFault) → walk_fault walk ≡ Some fault → walk_fault (then_walked walk behind) ≡ Some fault
+fault_of_first Done behind fault e = absurd (some_none fault (sym e))
+fault_of_first (Broken broken) behind fault e = e
+fault_of_first (Met item rest) behind fault e = fault_of_first rest behind fault e
+
+pub fault_of_second : (walk behind : Walked) → walk_fault walk ≡ None → walk_fault (then_walked walk behind) ≡ walk_fault behind
+fault_of_second Done behind e = refl
+fault_of_second (Broken fault) behind e = absurd (some_none fault e)
+fault_of_second (Met item rest) behind e = fault_of_second rest behind e
+
+is_none : (fault : Option TlvFault) → IsNone fault → fault ≡ None
+is_none None none = refl
+is_none (Some fault) none = cc
+
+none_is : (fault : Option TlvFault) → fault ≡ None → IsNone fault
+none_is fault e = let P : Option TlvFault → Type 0 = λ o. IsNone o in subst P (sym e) refl
+
+-- a walk meets no fault exactly where the bytes are objects in a row
+pub no_fault-spelled : (bytes : List ℕ) → IsNone (walk_fault (walk_of bytes)) ↔ ((forest : Forest) × Spells bytes 0 forest)
+no_fault-spelled bytes =
+  ( λ none. walk-spelled bytes (is_none (walk_fault (walk_of bytes)) none)
+  , λ (forest, spells). none_is (walk_fault (walk_of bytes)) (spelled-walk bytes forest spells))

@@ -1,7 +1,8 @@
-ghost use Rattle.std.specs.Prelude.{◌≡◌, ℕ, ◌<◌, ◌≤◌, ◌↔◌, List, length, Ok, Err, IfOk, IfErr, IfSome, IfNone, OnErr};
+ghost use Rattle.std.specs.Prelude.{◌≡◌, ℕ, ◌+◌, ◌-◌, ◌<◌, ◌≤◌, ◌↔◌, List, length, take, Ok, Err, IfOk, IfErr, IfSome, IfNone, OnErr};
 ghost use Rattle.ber_tlv.specs.Items.{Zeros, Begins, NextItem, NextFault, Items, FaultBehind};
 ghost use Rattle.ber_tlv.specs.Left.{items_behind, items_of, fault_of};
-ghost use Rattle.ber_tlv.specs.Seen.{CursorData, seen, then_rest};
+ghost use Rattle.ber_tlv.specs.Walked.{walk_behind};
+ghost use Rattle.ber_tlv.specs.Seen.{CursorData, seen, then_rest, then_walk};
 ghost use Rattle.ber_tlv.specs.Item.{ItemData};
 
 use std::marker::Model;
@@ -51,7 +52,15 @@ impl<'a> Cursor<'a> {
             then_rest result (items_behind self.new.bytes self.new.place)
               ≡ items_behind self.old.bytes self.old.place
         }
-        ensures onward { IfOk result (λ found. IfSome found (λ _. self.old.place < self.new.place)) }
+        // The same for the walk over objects at any depth.
+        ensures walk {
+            then_walk result self.new.bytes self.new.place
+              ≡ walk_behind self.old.bytes self.old.place
+        }
+        ensures onward {
+            IfOk result (λ found. IfSome found (λ item.
+              self.old.place + 2 + length item.value.now ≤ self.new.place))
+        }
         ensures within { self.new.place ≤ length self.new.bytes }
         ensures same_bytes { self.new.bytes ≡ self.old.bytes }
         ensures stays { OnErr result (self.new ≡ self.old) }
@@ -64,6 +73,17 @@ impl<'a> Cursor<'a> {
         let (item, next) = item_at(self.bytes, start)?;
         self.place = next;
         Ok(Some(item))
+    }
+
+    /// A cursor over the objects that the value of `item` is made of, where `item` is the object
+    /// that `next` gave last. Its places count from the first byte of the whole string.
+    pub fn inside(&self, item: &Item<'a>) -> Cursor<'a>
+        requires { length item.now.value.now ≤ self.now.place }
+        ensures bytes { result.bytes ≡ take self.now.place self.now.bytes }
+        ensures place { result.place ≡ self.now.place - length item.now.value.now }
+    {
+        let start = self.place - item.value.len();
+        Cursor { bytes: &self.bytes[..self.place], place: start }
     }
 }
 

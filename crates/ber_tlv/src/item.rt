@@ -143,7 +143,9 @@ fn value_at<'a>(
           (λ r. spec.value_at bytes.now start tag place count ≡ Ok (seen r.0, r.1))
           (λ fault. spec.value_at bytes.now start tag place count ≡ Err fault)
     }
-    ensures within { IfOk result (λ r. (place ≤ r.1) × (r.1 ≤ length bytes.now)) }
+    ensures within {
+        IfOk result (λ r. (place + length r.0.value.now ≡ r.1) × (r.1 ≤ length bytes.now))
+    }
 {
     if count > bytes.len() - place {
         return Err(TlvFault::Truncated(start));
@@ -161,7 +163,9 @@ pub(crate) fn item_at<'a>(bytes: &'a [u8], start: usize) -> Result<(Item<'a>, us
           (λ r. spec.item_at bytes.now start ≡ Ok (seen r.0, r.1))
           (λ fault. spec.item_at bytes.now start ≡ Err fault)
     }
-    ensures within { IfOk result (λ r. (start < r.1) × (r.1 ≤ length bytes.now)) }
+    ensures within {
+        IfOk result (λ r. (start + 2 + length r.0.value.now ≤ r.1) × (r.1 ≤ length bytes.now))
+    }
 {
     let (tag, length_place) = tag_at(bytes, start)?;
     let (count, value_place) = length_at(bytes, start, length_place)?;

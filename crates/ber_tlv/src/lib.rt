@@ -5,11 +5,13 @@
 pub mod cursor;
 pub mod item;
 pub mod tag;
+pub mod walk;
 pub mod write;
 
 pub use cursor::{Cursor};
 pub use item::{Item, TlvFault};
 pub use tag::{Tag, is_constructed, is_readable};
+pub use walk::deep_fault;
 pub use write::{Full, write_item};
 
 #[cfg(test)]
