@@ -2,6 +2,17 @@
 //! bytes and definite lengths of one to three bytes.
 #![tactic(auto)]
 
+pub mod cursor;
+pub mod item;
 pub mod tag;
+pub mod walk;
+pub mod write;
 
-pub use tag::{Tag, is_constructed};
+pub use cursor::{Cursor};
+pub use item::{Item, TlvFault};
+pub use tag::{Tag, is_constructed, is_readable};
+pub use walk::deep_fault;
+pub use write::{Full, write_item};
+
+#[cfg(test)]
+mod tests;

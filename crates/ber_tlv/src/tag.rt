@@ -1,4 +1,5 @@
 ghost use Rattle.std.specs.Prelude.{◌≡◌};
+ghost use Rattle.ber_tlv.specs.Tag as spec;
 ghost use Rattle.ber_tlv.specs.Tag.{first_byte_of, names_template};
 
 /// A tag: its one to three bytes as one big-endian number, as `0x9f36` for the tag 9F36
@@ -12,6 +13,25 @@ pub fn is_constructed(tag: Tag) -> bool
     ensures { result ≡ names_template tag.0 }
 {
     first_byte(tag.0) / 32 % 2 == 1
+}
+
+/// Whether a tag of one to three bytes stands so in a byte string: more bytes follow the first
+/// exactly where its five low bits are all 1, a third follows the second exactly where bit 8 of
+/// that is 1, and the first is not 00 (EMV 4.3 Book 3 Annex B1).
+pub fn is_readable(tag: Tag) -> bool
+    ensures { result ≡ spec.is_readable tag.0 }
+{
+    let number = tag.0;
+    if number < 256 {
+        0 < number && number % 32 != 31
+    } else if number < 65536 {
+        number / 256 % 32 == 31 && number % 256 < 128
+    } else {
+        number < 16777216
+            && number / 65536 % 32 == 31
+            && 128 <= number / 256 % 256
+            && number % 256 < 128
+    }
 }
 
 fn first_byte(number: u32) -> u32

@@ -1,0 +1,4 @@
+pub mod ItemBounds
+pub mod ReadAgain
+pub mod Reading
+pub mod Walking

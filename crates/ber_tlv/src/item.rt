@@ -1,0 +1,173 @@
+ghost use Rattle.std.specs.Prelude.{◌≡◌, ◌+◌, ◌*◌, ◌<◌, ◌≤◌, length, Ok, Err, IfOk, MatchResult};
+ghost use Rattle.ber_tlv.specs.Item as spec;
+ghost use Rattle.ber_tlv.specs.Seen.{seen};
+
+use crate::tag::Tag;
+
+/// A data object in a byte string: its tag, the bytes of its value, and the place of its first
+/// byte, from 0 (EMV 4.3 Book 3 Annex B).
+#[derive(Clone, Copy, Debug)]
+pub struct Item<'a> {
+    pub tag: Tag,
+    pub value: &'a [u8],
+    pub start: usize,
+}
+
+/// Why no data object stands at a place. Places count the bytes of the whole string, from 0.
+#[derive(Clone, Copy, PartialEq, Eq, Debug)]
+pub enum TlvFault {
+    /// The bytes end within the object that begins at this place.
+    Truncated(usize),
+    /// The length byte at this place is 80 or 83 to FF (EMV 4.3 Book 3 Annex B2).
+    BadLength(usize),
+    /// The tag that begins at this place has more than three bytes.
+    LongTag(usize),
+}
+
+#[tactic(auto, unfolding(crate::specs::Item::byte_at))]
+fn byte_at(bytes: &[u8], start: usize, place: usize) -> Result<u8, TlvFault>
+    ensures exact { result ≡ spec.byte_at bytes.now start place }
+    ensures within { IfOk result (λ _. place < length bytes.now) }
+{
+    bytes.get(place).copied().ok_or(TlvFault::Truncated(start))
+}
+
+#[tactic(auto, unfolding(crate::specs::Item::third_tag_byte))]
+fn third_tag_byte(bytes: &[u8], start: usize, front: u32) -> Result<(u32, usize), TlvFault>
+    requires known { start + 1 < length bytes.now }
+    requires small { front < 65536 }
+    ensures exact { result ≡ spec.third_tag_byte bytes.now start front }
+    ensures within { IfOk result (λ r. (start < r.1) × (r.1 ≤ length bytes.now)) }
+{
+    let third = byte_at(bytes, start, start + 2)?;
+    if third < 128 {
+        Ok((front * 256 + u32::from(third), start + 3))
+    } else {
+        Err(TlvFault::LongTag(start))
+    }
+}
+
+#[tactic(auto, unfolding(crate::specs::Item::second_tag_byte))]
+fn second_tag_byte(bytes: &[u8], start: usize, first: u8) -> Result<(u32, usize), TlvFault>
+    requires { start < length bytes.now }
+    ensures exact { result ≡ spec.second_tag_byte bytes.now start first }
+    ensures within { IfOk result (λ r. (start < r.1) × (r.1 ≤ length bytes.now)) }
+{
+    let second = byte_at(bytes, start, start + 1)?;
+    let front = u32::from(first) * 256 + u32::from(second);
+    if second < 128 {
+        Ok((front, start + 2))
+    } else {
+        third_tag_byte(bytes, start, front)
+    }
+}
+
+#[tactic(auto, unfolding(crate::specs::Item::tag_at))]
+fn tag_at(bytes: &[u8], start: usize) -> Result<(u32, usize), TlvFault>
+    ensures exact { result ≡ spec.tag_at bytes.now start }
+    ensures within { IfOk result (λ r. (start < r.1) × (r.1 ≤ length bytes.now)) }
+{
+    let first = byte_at(bytes, start, start)?;
+    if first % 32 == 31 {
+        second_tag_byte(bytes, start, first)
+    } else {
+        Ok((u32::from(first), start + 1))
+    }
+}
+
+#[tactic(auto, unfolding(crate::specs::Item::one_byte_length))]
+fn one_byte_length(bytes: &[u8], start: usize, place: usize) -> Result<(usize, usize), TlvFault>
+    requires { place < length bytes.now }
+    ensures exact { result ≡ spec.one_byte_length bytes.now start place }
+    ensures within { IfOk result (λ r. (place < r.1) × (r.1 ≤ length bytes.now) × (r.0 < 65536)) }
+{
+    let low = byte_at(bytes, start, place + 1)?;
+    Ok((usize::from(low), place + 2))
+}
+
+#[tactic(auto, unfolding(crate::specs::Item::two_byte_length))]
+fn two_byte_length(bytes: &[u8], start: usize, place: usize) -> Result<(usize, usize), TlvFault>
+    requires { place < length bytes.now }
+    ensures exact { result ≡ spec.two_byte_length bytes.now start place }
+    ensures within { IfOk result (λ r. (place < r.1) × (r.1 ≤ length bytes.now) × (r.0 < 65536)) }
+{
+    let high = byte_at(bytes, start, place + 1)?;
+    let low = byte_at(bytes, start, place + 2)?;
+    Ok((usize::from(high) * 256 + usize::from(low), place + 3))
+}
+
+#[tactic(auto, unfolding(crate::specs::Item::long_length))]
+fn long_length(
+    bytes: &[u8],
+    start: usize,
+    place: usize,
+    first: u8,
+) -> Result<(usize, usize), TlvFault>
+    requires { place < length bytes.now }
+    ensures exact { result ≡ spec.long_length bytes.now start place first }
+    ensures within { IfOk result (λ r. (place < r.1) × (r.1 ≤ length bytes.now) × (r.0 < 65536)) }
+{
+    if first == 0x81 {
+        one_byte_length(bytes, start, place)
+    } else if first == 0x82 {
+        two_byte_length(bytes, start, place)
+    } else {
+        Err(TlvFault::BadLength(place))
+    }
+}
+
+#[tactic(auto, unfolding(crate::specs::Item::length_at))]
+fn length_at(bytes: &[u8], start: usize, place: usize) -> Result<(usize, usize), TlvFault>
+    ensures exact { result ≡ spec.length_at bytes.now start place }
+    ensures within { IfOk result (λ r. (place < r.1) × (r.1 ≤ length bytes.now) × (r.0 < 65536)) }
+{
+    let first = byte_at(bytes, start, place)?;
+    if first < 128 {
+        Ok((usize::from(first), place + 1))
+    } else {
+        long_length(bytes, start, place, first)
+    }
+}
+
+#[tactic(auto, unfolding(crate::specs::Item::value_at))]
+fn value_at<'a>(
+    bytes: &'a [u8],
+    start: usize,
+    tag: u32,
+    place: usize,
+    count: usize,
+) -> Result<(Item<'a>, usize), TlvFault>
+    requires { place ≤ length bytes.now }
+    ensures exact {
+        MatchResult result
+          (λ r. spec.value_at bytes.now start tag place count ≡ Ok (seen r.0, r.1))
+          (λ fault. spec.value_at bytes.now start tag place count ≡ Err fault)
+    }
+    ensures within {
+        IfOk result (λ r. (place + length r.0.value.now ≡ r.1) × (r.1 ≤ length bytes.now))
+    }
+{
+    if count > bytes.len() - place {
+        return Err(TlvFault::Truncated(start));
+    }
+    let end = place + count;
+    let value = &bytes[place..end];
+    Ok((Item { tag: Tag(tag), value, start }, end))
+}
+
+/// The data object that begins at a place of a byte string, and the place behind it.
+#[tactic(auto, unfolding(crate::specs::Item::item_at))]
+pub(crate) fn item_at<'a>(bytes: &'a [u8], start: usize) -> Result<(Item<'a>, usize), TlvFault>
+    ensures exact {
+        MatchResult result
+          (λ r. spec.item_at bytes.now start ≡ Ok (seen r.0, r.1))
+          (λ fault. spec.item_at bytes.now start ≡ Err fault)
+    }
+    ensures within {
+        IfOk result (λ r. (start + 2 + length r.0.value.now ≤ r.1) × (r.1 ≤ length bytes.now))
+    }
+{
+    let (tag, length_place) = tag_at(bytes, start)?;
+    let (count, value_place) = length_at(bytes, start, length_place)?;
+    value_at(bytes, start, tag, value_place, count)
+}

@@ -1,0 +1,52 @@
+use std::array;
+
+use arrayvec::ArrayVec;
+
+use crate::cursor::{Cursor, first_fault};
+use crate::item::{Item, TlvFault};
+use crate::tag::{Tag, is_constructed, is_readable};
+use crate::write::{Full, write_item};
+
+fn is_item(found: &Result<Option<Item>, TlvFault>, tag: u32, value: &[u8], start: usize) -> bool {
+    match found {
+        Ok(Some(item)) => item.tag == Tag(tag) && item.value == value && item.start == start,
+        _ => false,
+    }
+}
+
+#[test]
+fn reads_items_and_faults(rt: HostRuntime) {
+    let bytes = [0x5A, 0x81, 0x05, 1, 2, 3, 4, 5];
+    let mut cursor = Cursor::new(&bytes);
+    assert!(rt; is_item(&cursor.next(), 0x5A, &[1, 2, 3, 4, 5], 0));
+    assert!(rt; matches!(cursor.next(), Ok(None)));
+    assert!(rt; matches!(cursor.next(), Ok(None)));
+    assert!(rt; first_fault(&bytes).is_none());
+
+    // 5A 82 01 00 wants 256 bytes, and 255 stand behind it.
+    let mut cut = [0u8; 259];
+    cut[..4].copy_from_slice(&[0x5A, 0x82, 0x01, 0x00]);
+    let mut cursor = Cursor::new(&cut);
+    assert!(rt; matches!(cursor.next(), Err(TlvFault::Truncated(0))));
+    assert!(rt; matches!(cursor.next(), Err(TlvFault::Truncated(0))));
+    assert!(rt; first_fault(&cut) == Some(TlvFault::Truncated(0)));
+
+    assert!(rt; first_fault(&[0x5A, 0x80]) == Some(TlvFault::BadLength(1)));
+    assert!(rt; first_fault(&[0x9F, 0x81, 0x81, 0x01]) == Some(TlvFault::LongTag(0)));
+    // Padding, a whole object, padding, and a tag that is cut.
+    assert!(rt; first_fault(&[0, 0x50, 0x01, 0x41, 0, 0x9F]) == Some(TlvFault::Truncated(5)));
+}
+
+#[test]
+fn writes_the_shortest_spelling(rt: HostRuntime) {
+    let mut out: ArrayVec<u8, 140> = ArrayVec::new();
+    assert!(rt; write_item(&mut out, Tag(0x9F36), &[0x00, 0x0A]).is_ok());
+    assert!(rt; out.as_slice() == [0x9F, 0x36, 0x02, 0x00, 0x0A].as_slice());
+    let value: [u8; 131] = array::repeat(7);
+    assert!(rt; write_item(&mut out, Tag(0x50), &value) == Ok(()));
+    assert!(rt; &out[5..8] == [0x50, 0x81, 0x83].as_slice());
+    assert!(rt; write_item(&mut out, Tag(0x84), &[1]) == Err(Full { needed: 3, free: 1 }));
+    assert!(rt; out.len() == 139);
+    assert!(rt; is_constructed(Tag(0x6F)) && !is_constructed(Tag(0x9F36)));
+    assert!(rt; is_readable(Tag(0x9F36)) && !is_readable(Tag(0x9F)) && !is_readable(Tag(0x9F81)));
+}
