@@ -1,0 +1,107 @@
+//! Writers of the pieces of a line. Each appends; the room that a line needs is counted by its
+//! callers.
+ghost use Rattle.std.specs.Prelude.{◌≡◌, ◌+◌, ◌*◌, ◌≤◌, ◌++◌, length, decimal};
+ghost use Rattle.std.specs.Fmt.{signed_decimal};
+ghost use Rattle.arrayvec.specs.ArrayVec.{array_vec_len};
+ghost use Rattle.hex.specs.Hex.{encode_lower};
+ghost use Rattle.report_text.specs.Pieces.{hex_or_dash, digits_text, tag_bytes, two_bytes};
+
+use crate::Text;
+use ber_tlv::Tag;
+use emv_dict::Digits;
+use itoa::Buffer;
+
+pub(crate) fn append(out: &mut Text, bytes: &[u8])
+    requires { array_vec_len out.old + length bytes.now ≤ 8192 }
+    ensures text { out.new.items ≡ out.old.items ++ bytes.now }
+    ensures len { array_vec_len out.new ≡ array_vec_len out.old + length bytes.now }
+{
+    if out.try_extend_from_slice(bytes).is_err() {
+        unreachable!();
+    }
+}
+
+/// A number in decimal.
+pub(crate) fn number(out: &mut Text, number: u64)
+    requires { array_vec_len out.old + 40 ≤ 8192 }
+    ensures text { out.new.items ≡ out.old.items ++ decimal number }
+    ensures len { array_vec_len out.new ≤ array_vec_len out.old + 40 }
+{
+    let mut buffer = Buffer::new();
+    append(out, buffer.format(number).as_bytes());
+}
+
+/// An amount in decimal, with a minus sign below zero.
+pub(crate) fn amount(out: &mut Text, amount: i128)
+    requires { array_vec_len out.old + 40 ≤ 8192 }
+    ensures text { out.new.items ≡ out.old.items ++ signed_decimal amount }
+    ensures len { array_vec_len out.new ≤ array_vec_len out.old + 40 }
+{
+    let mut buffer = Buffer::new();
+    append(out, buffer.format(amount).as_bytes());
+}
+
+/// At most 2,048 bytes in hexadecimal.
+pub(crate) fn hex(out: &mut Text, bytes: &[u8])
+    requires few { length bytes.now ≤ 2048 }
+    requires room { array_vec_len out.old + 2 * length bytes.now ≤ 8192 }
+    ensures text { out.new.items ≡ out.old.items ++ encode_lower bytes.now }
+    ensures len { array_vec_len out.new ≡ array_vec_len out.old + 2 * length bytes.now }
+{
+    let mut room = [0u8; 4096];
+    let count = 2 * bytes.len();
+    if hex::encode_to_slice(bytes, &mut room[..count]).is_err() {
+        unreachable!();
+    }
+    append(out, &room[..count]);
+}
+
+/// At most 2,048 bytes in hexadecimal, or a dash where there are none.
+#[tactic(auto, unfolding(crate::specs::Pieces::hex_or_dash))]
+pub(crate) fn hex_or_dash(out: &mut Text, bytes: &[u8])
+    requires few { length bytes.now ≤ 2048 }
+    requires room { array_vec_len out.old + (2 * length bytes.now + 1) ≤ 8192 }
+    ensures text { out.new.items ≡ out.old.items ++ hex_or_dash bytes.now }
+    ensures len { array_vec_len out.new ≤ array_vec_len out.old + (2 * length bytes.now + 1) }
+{
+    if bytes.is_empty() {
+        return append(out, b"-");
+    }
+    hex(out, bytes);
+}
+
+/// The bytes of a tag in hexadecimal.
+pub(crate) fn tag(out: &mut Text, tag: Tag)
+    requires { array_vec_len out.old + 6 ≤ 8192 }
+    ensures text { out.new.items ≡ out.old.items ++ encode_lower (tag_bytes tag.0) }
+    ensures len { array_vec_len out.new ≤ array_vec_len out.old + 6 }
+{
+    let [_, high, middle, low] = tag.0.to_be_bytes();
+    if tag.0 < 256 {
+        return hex(out, &[low]);
+    }
+    if tag.0 < 65536 {
+        return hex(out, &[middle, low]);
+    }
+    hex(out, &[high, middle, low]);
+}
+
+/// The two bytes of a number in hexadecimal.
+pub(crate) fn two_bytes(out: &mut Text, number: u16)
+    requires { array_vec_len out.old + 4 ≤ 8192 }
+    ensures text { out.new.items ≡ out.old.items ++ encode_lower (two_bytes number) }
+    ensures len { array_vec_len out.new ≡ array_vec_len out.old + 4 }
+{
+    hex(out, &number.to_be_bytes());
+}
+
+/// Digits as characters.
+pub(crate) fn digits(out: &mut Text, digits: &Digits)
+    requires { array_vec_len out.old + 19 ≤ 8192 }
+    ensures text { out.new.items ≡ out.old.items ++ digits_text digits.now }
+    ensures len { array_vec_len out.new ≤ array_vec_len out.old + 19 }
+{
+    for digit in digits.as_slice() {
+        append(out, &[*digit + 48]);
+    }
+}

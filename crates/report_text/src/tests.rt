@@ -1,0 +1,314 @@
+use super::*;
+use arrayvec::ArrayVec;
+use ber_tlv::Tag;
+use emv_dict::{Cause, Digits, Ending, Step, Tsi, Tvr};
+use std::test::Fail;
+
+/// As many of the items as fit.
+fn some<T: Default + Copy, const N: usize>(items: &[T]) -> ArrayVec<T, N> {
+    let mut held = ArrayVec::new();
+    for item in items {
+        let _ = held.try_push(*item);
+    }
+    held
+}
+
+fn same_text(line: &Line, want: &str) -> bool {
+    let mut out: Text = some(b"what an earlier line left");
+    write_line(line, &mut out);
+    out.as_slice() == want.as_bytes()
+}
+
+fn opened() -> Shown {
+    Shown {
+        counter: 10,
+        last_online: 9,
+        count: 0,
+        sum: 0,
+        tries: 3,
+        flags: 0,
+    }
+}
+
+fn greatest() -> Shown {
+    Shown {
+        counter: 65535,
+        last_online: 65535,
+        count: 255,
+        sum: 18446744073709551615,
+        tries: 255,
+        flags: 255,
+    }
+}
+
+#[test]
+fn lines_of_a_lane(rt: HostRuntime) {
+    for (line, want) in [
+        (
+            Line::Power {
+                lane: 0,
+                card: some(b"c1"),
+                apps: some(&[opened()]),
+            },
+            "L0 power c1 10,9,0,0,3,0\n",
+        ),
+        (
+            Line::Power {
+                lane: 15,
+                card: some(b"abcdefghijklmnop"),
+                apps: some(&[opened(), greatest(), opened(), greatest()]),
+            },
+            "L15 power abcdefghijklmnop 10,9,0,0,3,0 65535,65535,255,18446744073709551615,255,255 10,9,0,0,3,0 65535,65535,255,18446744073709551615,255,255\n",
+        ),
+        (
+            Line::PowerTorn {
+                lane: 0,
+                card: some(b"c1"),
+            },
+            "L0 power c1 torn\n",
+        ),
+        (
+            Line::ToCard {
+                lane: 0,
+                bytes: some(&[0x80, 0xca, 0x9f, 0x36, 0x00]),
+            },
+            "L0 > 80ca9f3600\n",
+        ),
+        (
+            Line::FromCard {
+                lane: 3,
+                bytes: some(&[0x6a, 0x82]),
+            },
+            "L3 < 6a82\n",
+        ),
+        (
+            Line::FromCard {
+                lane: 0,
+                bytes: some(&[]),
+            },
+            "L0 < -\n",
+        ),
+        (Line::Torn { lane: 0 }, "L0 < torn\n"),
+        (
+            Line::ToHost {
+                lane: 0,
+                bytes: some(&[0xe1, 0x00]),
+            },
+            "L0 host > e100\n",
+        ),
+        (
+            Line::FromHost {
+                lane: 0,
+                bytes: some(&[0xe2, 0x04, 0x8a, 0x02, 0x30, 0x30]),
+            },
+            "L0 host < e2048a023030\n",
+        ),
+        (Line::NoReply { lane: 2 }, "L2 host < none\n"),
+        (
+            Line::SettleCall {
+                lane: 0,
+                bytes: some(&[0xe3]),
+            },
+            "S0 > e3\n",
+        ),
+        (
+            Line::SettleReply {
+                lane: 1,
+                bytes: some(&[0xe2, 0xff]),
+            },
+            "S1 < e2ff\n",
+        ),
+    ] {
+        assert!(rt; same_text(&line, want), "{want}");
+    }
+}
+
+#[test]
+fn lines_of_a_card_an_account_and_a_reading(rt: HostRuntime) -> Result<(), Fail> {
+    let pan = Digits::new(&[4, 7, 6, 1, 7, 3, 9, 0, 0, 1, 0, 1, 0, 0, 1, 0]).ok_or("digits")?;
+    let other = Digits::new(&[9, 0, 9]).ok_or("digits")?;
+    for (line, want) in [
+        (
+            Line::AuditPower {
+                card: some(b"c1"),
+                apps: some(&[opened()]),
+            },
+            "A c1 power 10,9,0,0,3,0\n",
+        ),
+        (
+            Line::AuditAsk {
+                card: some(b"c1"),
+                bytes: some(&[0x00, 0xa4]),
+            },
+            "A c1 > 00a4\n",
+        ),
+        (
+            Line::AuditAnswer {
+                card: some(b"z9"),
+                bytes: some(&[0x90, 0x00]),
+            },
+            "A z9 < 9000\n",
+        ),
+        (
+            Line::Balance { pan, amount: 97500 },
+            "balance 4761739001010010 97500\n",
+        ),
+        (
+            Line::Balance {
+                pan: other,
+                amount: -1,
+            },
+            "balance 909 -1\n",
+        ),
+        (Line::Done { number: 10000 }, "done 10000\n"),
+        (
+            Line::Object {
+                tag: Tag(0x5a),
+                value: some(&[0x47, 0x61]),
+            },
+            "object 5a 4761\n",
+        ),
+        (
+            Line::Object {
+                tag: Tag(0x9f0d),
+                value: some(&[]),
+            },
+            "object 9f0d -\n",
+        ),
+        (
+            Line::Object {
+                tag: Tag(0x9f8101),
+                value: some(&[0xab]),
+            },
+            "object 9f8101 ab\n",
+        ),
+        (Line::ReadOk, "read ok\n"),
+        (
+            Line::ReadEnded {
+                ending: Ending::Terminated(Step::Select, Cause::NoCandidate),
+            },
+            "read terminated select no-candidate\n",
+        ),
+    ] {
+        assert!(rt; same_text(&line, want), "{want}");
+    }
+    Ok(())
+}
+
+#[test]
+fn every_ending_step_and_cause(rt: HostRuntime) {
+    for (ending, want) in [
+        (
+            Ending::Approved { online: false },
+            "read approved offline\n",
+        ),
+        (Ending::Approved { online: true }, "read approved online\n"),
+        (
+            Ending::Declined { online: false },
+            "read declined offline\n",
+        ),
+        (Ending::Declined { online: true }, "read declined online\n"),
+        (Ending::CutOff(Step::Power), "read cut power\n"),
+        (Ending::CutOff(Step::Script), "read cut script\n"),
+        (
+            Ending::Terminated(Step::Select, Cause::CardBlocked),
+            "read terminated select card-blocked\n",
+        ),
+        (
+            Ending::Terminated(Step::Initiate, Cause::Afl(2)),
+            "read terminated initiate afl 2\n",
+        ),
+        (
+            Ending::Terminated(Step::Read, Cause::Status(0x6a83)),
+            "read terminated read status 6a83\n",
+        ),
+        (
+            Ending::Terminated(Step::Read, Cause::Coding(200)),
+            "read terminated read coding 200\n",
+        ),
+        (
+            Ending::Terminated(Step::Read, Cause::Repeated(Tag(0x5f24))),
+            "read terminated read repeated 5f24\n",
+        ),
+        (
+            Ending::Terminated(Step::Read, Cause::Missing(Tag(0x8c))),
+            "read terminated read missing 8c\n",
+        ),
+        (
+            Ending::Terminated(Step::Read, Cause::Value(Tag(0x9f42))),
+            "read terminated read value 9f42\n",
+        ),
+        (
+            Ending::Terminated(Step::Read, Cause::TooMuch),
+            "read terminated read too-much\n",
+        ),
+        (
+            Ending::Terminated(Step::Verify, Cause::Answer),
+            "read terminated verify answer\n",
+        ),
+        (
+            Ending::Terminated(Step::Risk, Cause::Answer),
+            "read terminated risk answer\n",
+        ),
+        (
+            Ending::Terminated(Step::First, Cause::Dol(Tag(0x8c))),
+            "read terminated first dol 8c\n",
+        ),
+        (
+            Ending::Terminated(Step::First, Cause::Kind(0xc0)),
+            "read terminated first kind c0\n",
+        ),
+        (
+            Ending::Terminated(Step::Authenticate, Cause::Answer),
+            "read terminated authenticate answer\n",
+        ),
+        (
+            Ending::Terminated(Step::Second, Cause::Kind(0x80)),
+            "read terminated second kind 80\n",
+        ),
+    ] {
+        assert!(rt; same_text(&Line::ReadEnded { ending }, want), "{want}");
+    }
+}
+
+fn ended(number: u32, parts: EndParts) -> Line {
+    Line::End {
+        lane: 0,
+        number,
+        parts,
+    }
+}
+
+#[test]
+fn end_lines(rt: HostRuntime) {
+    let approved = EndParts {
+        ending: Ending::Approved { online: false },
+        tvr: Tvr::from_bytes([0x80, 0, 0, 0, 0]),
+        tsi: Tsi::from_bytes([0x68, 0]),
+        cvm: [0x41, 0x03, 0x02],
+        arc: Some(*b"Y1"),
+        atc_ac: Some((11, [0x01, 0x23, 0x45, 0x67, 0x89, 0xab, 0xcd, 0xef])),
+        scripts: some(&[]),
+    };
+    assert!(rt;
+        same_text(
+            &ended(1, approved),
+            "L0 end 1 approved offline tvr=8000000000 tsi=6800 cvm=410302 arc=Y1 atc=000b ac=0123456789abcdef scripts=-\n"
+        )
+    );
+    let cut = EndParts {
+        ending: Ending::CutOff(Step::First),
+        tvr: Tvr::from_bytes([0x12, 0x34, 0x56, 0x78, 0x9a]),
+        tsi: Tsi::from_bytes([0xbc, 0xde]),
+        cvm: [0; 3],
+        arc: None,
+        atc_ac: None,
+        scripts: some(&[[0x12, 0, 0, 0, 1]; 8]),
+    };
+    assert!(rt;
+        same_text(
+            &ended(10000, cut),
+            "L0 end 10000 cut first tvr=123456789a tsi=bcde cvm=000000 arc=-- atc=---- ac=---------------- scripts=12000000011200000001120000000112000000011200000001120000000112000000011200000001\n"
+        )
+    );
+}
