@@ -1,5 +1,5 @@
 -- The bytes of a command (ISO/IEC 7816-4 section 5.1, the four cases with short lengths).
-use Rattle.std.specs.Prelude.{ℕ, List, [], ◌∷◌, ◌++◌, length, Some, None}
+use Rattle.std.specs.Prelude.{ℕ, List, [], ◌∷◌, ◌++◌, ◌+◌, ◌==◌, length, take, slice_index, Some, None, option_map, if◌then◌else◌}
 use Rattle.std.specs.declared.option.Option.{Option}
 
 pub record CommandData : Type 0 where
@@ -26,3 +26,26 @@ tail_bytes body expects = field_bytes body ++ expected_bytes expects
 
 abbrev pub command_bytes : CommandData → List ℕ
 command_bytes c = c.class ∷ c.ins ∷ c.p1 ∷ c.p2 ∷ tail_bytes c.body c.expects
+
+-- what stands behind the header, read back: a data field must not be empty where it has a length,
+-- and one more byte is the expected length
+abbrev pub field_of : ℕ → List ℕ → Option (List ℕ × Option ℕ)
+field_of count field =
+  if count == 0 then None
+  else if length field == count then Some (field, None)
+  else if length field == count + 1 then Some (take count field, Some (slice_index field count))
+  else None
+
+abbrev pub tail_of : List ℕ → Option (List ℕ × Option ℕ)
+tail_of [] = Some ([], None)
+tail_of (expected ∷ []) = Some ([], Some expected)
+tail_of (count ∷ b ∷ bs) = field_of count (b ∷ bs)
+
+-- the command that these bytes are
+unfoldable pub command_of : List ℕ → Option CommandData
+command_of [] = None
+command_of (a ∷ []) = None
+command_of (a ∷ b ∷ []) = None
+command_of (a ∷ b ∷ c ∷ []) = None
+command_of (class ∷ ins ∷ p1 ∷ p2 ∷ tail) =
+  option_map (λ t. record { class = class; ins = ins; p1 = p1; p2 = p2; body = t.0; expects = t.1 }) (tail_of tail)

@@ -1,6 +1,6 @@
-ghost use Rattle.std.specs.Prelude.{◌≡◌, ℕ, List, ◌∷◌, ◌++◌, ◌+◌, ◌↔◌, ◌<◌, ◌≤◌, length, IfOk, IsErrOf, IsSomeAnd, IfSome, IsOkAnd};
+ghost use Rattle.std.specs.Prelude.{MatchResult, MatchOption, Some, None, ◌≡◌, ℕ, List, ◌∷◌, ◌++◌, ◌+◌, ◌↔◌, ◌<◌, ◌≤◌, length, IfOk, IsErrOf, IsSomeAnd, IfSome, IsOkAnd};
 ghost use Rattle.std.specs.declared.option.Option.{Option};
-ghost use Rattle.apdu_core.specs.Command.{CommandData, command_bytes, tail_bytes};
+ghost use Rattle.apdu_core.specs.Command.{CommandData, command_bytes, command_of, field_of, tail_bytes, tail_of};
 ghost use Rattle.arrayvec.specs.ArrayVec.{array_vec_len};
 ghost use Rattle.apdu_core.specs.Seen.{seen_command};
 
@@ -36,7 +36,9 @@ pub enum ApduFault {
 
 /// Reads a command from all of `bytes`: a header of four bytes, then nothing, an expected length,
 /// or a data field behind its length Lc with or without an expected length.
+#[tactic(auto, unfolding(crate::specs::Command::command_of))]
 pub fn read_command(bytes: &[u8]) -> Result<Command<'_>, ApduFault>
+    ensures exact { MatchResult result (λ command. command_of bytes.now ≡ Some (seen_command command)) (λ _. command_of bytes.now ≡ None) }
     ensures spelled { IfOk result (λ command. command_bytes (seen_command command) ≡ bytes.now) }
     ensures known { (command : CommandData) → command_bytes command ≡ bytes.now → IsOkAnd result (λ found. seen_command found ≡ command) }
     ensures short { IsErrOf result ApduFault.Short ↔ (length bytes.now < 4) }
@@ -60,6 +62,7 @@ pub fn read_command(bytes: &[u8]) -> Result<Command<'_>, ApduFault>
 
 /// What follows a header: the data field and the expected length.
 fn read_tail(tail: &[u8]) -> Option<(&[u8], Option<u8>)>
+    ensures exact { MatchOption result (tail_of tail.now ≡ None) (λ found. tail_of tail.now ≡ Some (found.0.now, found.1)) }
     ensures spelled { IfSome result (λ found. tail_bytes found.0.now found.1 ≡ tail.now) }
     ensures known { (body : List ℕ) (expects : Option ℕ) → tail_bytes body expects ≡ tail.now → IsSomeAnd result (λ found. (found.0.now ≡ body) × (found.1 ≡ expects)) }
 {
@@ -73,6 +76,7 @@ fn read_tail(tail: &[u8]) -> Option<(&[u8], Option<u8>)>
 /// A data field of `count` bytes, and one more byte where there is an expected length.
 fn read_field(count: u8, field: &[u8]) -> Option<(&[u8], Option<u8>)>
     requires { 0 < length field.now }
+    ensures exact { MatchOption result (field_of count field.now ≡ None) (λ found. field_of count field.now ≡ Some (found.0.now, found.1)) }
     ensures spelled { IfSome result (λ found. tail_bytes found.0.now found.1 ≡ count ∷ field.now) }
     ensures known { (body : List ℕ) (expects : Option ℕ) → tail_bytes body expects ≡ count ∷ field.now → IsSomeAnd result (λ found. (found.0.now ≡ body) × (found.1 ≡ expects)) }
 {

@@ -1,5 +1,6 @@
-ghost use Rattle.std.specs.Prelude.{◌≡◌, ◌↔◌, ◌<◌, ◌≤◌, length, IfOk, IsErrOf, IsOk};
-ghost use Rattle.apdu_core.specs.Response.{response_bytes};
+ghost use Rattle.std.specs.Prelude.{MatchResult, Some, None, ◌≡◌, ◌↔◌, ◌<◌, ◌≤◌, length, IfOk, IsErrOf, IsOk};
+ghost use Rattle.apdu_core.specs.Response.{response_bytes, response_of};
+ghost use Rattle.apdu_core.specs.Seen.{seen_response};
 
 use crate::ApduFault;
 use crate::command::append;
@@ -19,7 +20,9 @@ pub struct Response<'a> {
 
 /// Reads a response from all of `bytes`: a body of at most 256 bytes, then the status. Fewer than
 /// two bytes are `Short`, more than 258 `LengthMismatch`.
+#[tactic(auto, unfolding(crate::specs::Response::response_of))]
 pub fn read_response(bytes: &[u8]) -> Result<Response<'_>, ApduFault>
+    ensures exact { MatchResult result (λ response. response_of bytes.now ≡ Some (seen_response response)) (λ _. response_of bytes.now ≡ None) }
     ensures spelled { IfOk result (λ response. response_bytes response.body.now response.status ≡ bytes.now) }
     ensures short { IsErrOf result ApduFault.Short ↔ (length bytes.now < 2) }
     ensures mismatch { IsErrOf result ApduFault.LengthMismatch ↔ (258 < length bytes.now) }
