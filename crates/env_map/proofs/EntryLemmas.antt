@@ -1,5 +1,5 @@
 -- How the entries change as values and places do.
-use Rattle.std.proofs.Common.{◌≡◌, ℕ, zero, suc, Bool, true, false, ◌+◌, ◌-◌, ◌<◌, ◌≤◌, ◌==◌, nat_lt, nat_le, if◌then◌else◌, List, [], ◌∷◌, ◌++◌, length, take, drop, Option, Some, None, is_some, option_map, Result, Ok, Err, refl, arith, sym, ap, ◌∙◌, append_assoc, length-append, length-drop, min, sum_by, ◌⊎◌, inl, inr}
+use Rattle.std.proofs.Common.{◌≡◌, ℕ, zero, suc, Bool, true, false, ◌+◌, ◌-◌, ◌<◌, ◌≤◌, ◌==◌, nat_lt, nat_le, if◌then◌else◌, List, [], ◌∷◌, ◌++◌, length, take, drop, Option, Some, None, is_some, option_map, Result, Ok, Err, refl, arith, sym, ap, ◌∙◌, append_assoc, length-append, length-drop, min, sum_by, ◌⊎◌, inl, inr, subst, MatchOption}
 use Rattle.std.specs.List.{insert, AllByRecursion, filter, find}
 use Rattle.std.specs.Option.{ForSome}
 use Rattle.std.proofs.lemmas.List.{length-take, length-take-le, take_at, drop_at, drop-drop}
@@ -278,3 +278,42 @@ Follows-found given [] rising = refl
 Follows-found given (entry ∷ entries) rising =
   rw (first_after-first (is_above given entry.0) given entry entries refl)
     (Follows-at (is_above given entry.0) given entry entries refl rising (Follows-found given entries rising.1))
+
+-- the same of what a search returned
+pub Follows-returned : {X : Type 0} (shown : X → ℕ × List ℕ) (result : Option X) (given : Option Tag) (entries : Entries) → IsRising entries
+  → option_map shown result ≡ first_after given entries
+  → MatchOption result (entries_after given entries ≡ []) (λ entry. entries_after given entries ≡ shown entry ∷ entries_after (Some (record { 0 = (shown entry).0 })) entries)
+unfolding Follows
+Follows-returned shown None given entries rising found =
+  let P : Option (ℕ × List ℕ) → Type 0 = λ o. Follows given entries o in subst P (sym found) (Follows-found given entries rising)
+Follows-returned shown (Some entry) given entries rising found =
+  let P : Option (ℕ × List ℕ) → Type 0 = λ o. Follows given entries o in subst P (sym found) (Follows-found given entries rising)
+
+-- what `put` and `set` make of an absent tag
+pub absent : {X : Type 0} (shown : X → List ℕ) (result : Option X) (value : Option (List ℕ)) → option_map shown result ≡ value → is_some result ≡ false → value ≡ None
+absent shown None value e none = sym e
+absent shown (Some x) value e none = cc
+
+pub put_of-many : (tag : Tag) (value : List ℕ) (entries : Entries) → value_of tag.0 entries ≡ None → 512 ≤ length entries → put_of tag value entries ≡ Err TooMany
+put_of-many tag value entries none many = rw none (grind arith)
+
+pub put_of-long : (tag : Tag) (value : List ℕ) (entries : Entries) → value_of tag.0 entries ≡ None → length entries < 512 → 16384 < size_of_values entries + length value → put_of tag value entries ≡ Err TooLong
+put_of-long tag value entries none few long = rw none (grind arith)
+
+pub put_of-fits : (tag : Tag) (value : List ℕ) (entries : Entries) → value_of tag.0 entries ≡ None → length entries < 512 → size_of_values entries + length value ≤ 16384
+  → put_of tag value entries ≡ Ok (with_entry tag.0 value entries)
+put_of-fits tag value entries none few short = rw none (grind arith)
+
+-- the entries of the bytes and places as `put` leaves them
+pub entries_of-put : (bytes value new_bytes : List ℕ) (places new_places : List Place) (tag : Tag) (index start : ℕ) → count_of_bytes places ≤ length bytes
+  → index ≡ index_for tag.0 places → start ≡ start_for tag.0 places
+  → new_bytes ≡ take start bytes ++ (value ++ drop start bytes) → new_places ≡ insert places index (record { tag = tag; count = length value })
+  → entries_of new_bytes new_places ≡ with_entry tag.0 value (entries_of bytes places)
+entries_of-put bytes value new_bytes places new_places tag index start within is_index is_start is_bytes is_places =
+  rw (is_bytes, is_places, is_index, is_start) (entries_of-insert bytes value places (record { tag = tag; count = length value }) refl within)
+
+pub filled-put : (bytes value new_bytes : List ℕ) (places new_places : List Place) (tag : Tag) (index start : ℕ) → count_of_bytes places ≡ length bytes
+  → new_bytes ≡ take start bytes ++ (value ++ drop start bytes) → new_places ≡ insert places index (record { tag = tag; count = length value })
+  → count_of_bytes new_places ≡ length new_bytes
+filled-put bytes value new_bytes places new_places tag index start filled is_bytes is_places =
+  rw (is_bytes, is_places, count_of_bytes-insert places index (record { tag = tag; count = length value }), length-bytes_with start bytes value, filled) refl
