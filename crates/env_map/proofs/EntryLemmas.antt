@@ -1,6 +1,6 @@
 -- How the entries change as values and places do.
 use Rattle.std.proofs.Common.{◌≡◌, ℕ, zero, suc, Bool, true, false, ◌+◌, ◌-◌, ◌<◌, ◌≤◌, ◌==◌, nat_lt, nat_le, if◌then◌else◌, List, [], ◌∷◌, ◌++◌, length, take, drop, Option, Some, None, is_some, option_map, Result, Ok, Err, refl, arith, sym, ap, ◌∙◌, append_assoc, length-append, length-drop, min, sum_by, ◌⊎◌, inl, inr, subst, MatchOption}
-use Rattle.std.specs.List.{insert, AllByRecursion, filter, find}
+use Rattle.std.specs.List.{insert, AllByRecursion, filter, find, refill}
 use Rattle.std.specs.Option.{ForSome}
 use Rattle.std.proofs.lemmas.List.{length-take, length-take-le, take_at, drop_at, drop-drop}
 use Rattle.std.proofs.lemmas.List.Sums.{sum_by-cons}
@@ -317,3 +317,39 @@ pub filled-put : (bytes value new_bytes : List ℕ) (places new_places : List Pl
   → count_of_bytes new_places ≡ length new_bytes
 filled-put bytes value new_bytes places new_places tag index start filled is_bytes is_places =
   rw (is_bytes, is_places, count_of_bytes-insert places index (record { tag = tag; count = length value }), length-bytes_with start bytes value, filled) refl
+
+some_value : (value : Option (List ℕ)) → is_some value ≡ true → (old : List ℕ) × (value ≡ Some old)
+some_value None e = cc
+some_value (Some old) e = (old, refl)
+
+-- a tag that has a place has a value
+pub present : (bytes : List ℕ) (places : List Place) (tag start : ℕ) → start_at tag places ≡ Some start → (old : List ℕ) × (value_of tag (entries_of bytes places) ≡ Some old)
+present bytes places tag start is_start =
+  some_value (value_of tag (entries_of bytes places)) (sym (start_at-value_of bytes places tag) ∙ ap is_some is_start)
+
+-- the value of a tag that has a place ends within the bytes
+pub over_within : (bytes value : List ℕ) (places : List Place) (tag start : ℕ) → count_of_bytes places ≡ length bytes → start_at tag places ≡ Some start
+  → ((old : List ℕ) → value_of tag (entries_of bytes places) ≡ Some old → length old ≡ length value) → start + length value ≤ length bytes
+over_within bytes value places tag start filled is_start same_length =
+  let old = present bytes places tag start is_start in
+  let fits = value_within bytes old.0 places tag start (omega arith) is_start old.1 in
+  let same = same_length old.0 old.1 in
+  omega arith
+
+-- the bytes as a write over a part of them leaves them
+pub refilled : (bytes value new_bytes : List ℕ) (start : ℕ) → start + length value ≤ length bytes → new_bytes ≡ bytes_over start value bytes → refill (length bytes) bytes new_bytes ≡ bytes_over start value bytes
+refilled bytes value new_bytes start within is_bytes =
+  take_at new_bytes (drop (length new_bytes) bytes) (length bytes) (ap length is_bytes ∙ length-bytes_over start value bytes within) ∙ is_bytes
+
+pub entries_of-set : (bytes value : List ℕ) (places : List Place) (tag start : ℕ) → count_of_bytes places ≡ length bytes → start_at tag places ≡ Some start
+  → ((old : List ℕ) → value_of tag (entries_of bytes places) ≡ Some old → length old ≡ length value)
+  → entries_of (bytes_over start value bytes) places ≡ with_value tag value (entries_of bytes places)
+entries_of-set bytes value places tag start filled is_start same_length =
+  let old = present bytes places tag start is_start in
+  entries_of-over bytes value old.0 places tag start (omega arith) is_start old.1 (same_length old.0 old.1)
+
+pub set_of-present : (tag : Tag) (value : List ℕ) (entries : Entries) → is_some (value_of tag.0 entries) ≡ true → set_of tag value entries ≡ Ok (with_value tag.0 value entries)
+set_of-present tag value entries there = rw there refl
+
+pub set_of-absent : (tag : Tag) (value : List ℕ) (entries : Entries) → is_some (value_of tag.0 entries) ≡ false → set_of tag value entries ≡ put_of tag value entries
+set_of-absent tag value entries missing = rw missing refl

@@ -18,5 +18,5 @@ pub returns-clause-short : goal.returns-clause-short
 returns-clause-short c =
   let filled = c.self.invariant.filled in
   let size = size_of_values-entries_of c.self.inside.bytes.items c.self.inside.places.items (omega arith) in
-  let short : length c.self.inside.bytes.items ≤ 16384 = rw c.deref.ensures.0 at c.deref.ensures.1 in
+  let short = c.self.invariant.short in
   rw (← c.self.view_is) (omega arith)

@@ -1,7 +1,7 @@
 use Rattle.std.proofs.Common.{◌≡◌, ◌≤◌, ◌<◌, ◌+◌, ◌∙◌, sym, length, arith, None, Ok, ap}
 use Rattle.env_map.specs.Entries.{value_of, size_of_values, with_entry}
 use Rattle.env_map.specs.Inside.{entries}
-use Rattle.env_map.proofs.EntryLemmas.{length-entries_of, size_of_values-entries_of, absent, put_of-many, put_of-long, put_of-fits, IsRising-with, entries_of-put, filled-put}
+use Rattle.env_map.proofs.EntryLemmas.{length-entries_of, size_of_values-entries_of, absent, put_of-many, put_of-long, put_of-fits, IsRising-with, entries_of-put, filled-put, length-bytes_with}
 use Rattle.env_map.proofs.env.Env.put.Goals as goal
 
 pub returns-then-is_full-clause-exact : goal.returns-then-is_full-clause-exact
@@ -38,6 +38,7 @@ pub invariant_of-self : goal.invariant_of-self
 invariant_of-self c = record {
   filled = filled-put c.self.inside.bytes.items c.args.value.now c.insert_bytes.new.bytes.items c.self.inside.places.items c.insert.new.self.items c.args.tag _ _
     c.self.invariant.filled c.insert_bytes.ensures c.insert.ensures.items;
+  short = rw (c.insert_bytes.ensures, length-bytes_with c.slot_for-slot.result.start c.self.inside.bytes.items c.args.value.now) (omega arith);
   rising = rw (is_with_entry c) (IsRising-with c.args.tag.0 c.args.value.now (entries c.self.inside) (is_absent c) c.self.invariant.rising) }
 
 pub returns-clause-exact : goal.returns-clause-exact
