@@ -3,6 +3,8 @@
 #![tactic(auto)]
 
 pub mod env;
+pub mod gathering;
 mod place;
 
 pub use env::{Env, EnvFault};
+pub use gathering::{GatherFault, gather};
