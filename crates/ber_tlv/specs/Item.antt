@@ -56,9 +56,9 @@ two_byte_length bytes start place = do
 
 unfoldable pub long_length : List ℕ → ℕ → ℕ → ℕ → Result (ℕ × ℕ) TlvFault
 long_length bytes start place first =
-  if first == 129 then one_byte_length bytes start place
-  else if first == 130 then two_byte_length bytes start place
-  else Err (BadLength place)
+    if first == 129 then one_byte_length bytes start place
+    else if first == 130 then two_byte_length bytes start place
+    else Err (BadLength place)
 
 unfoldable pub length_at : List ℕ → ℕ → ℕ → Result (ℕ × ℕ) TlvFault
 length_at bytes start place = do
@@ -69,9 +69,9 @@ length_at bytes start place = do
 -- behind it
 unfoldable pub value_at : List ℕ → ℕ → ℕ → ℕ → ℕ → Result (ItemData × ℕ) TlvFault
 value_at bytes start tag place count =
-  if nat_le (place + count) (length bytes)
-  then Ok (record { tag = tag; value = slice_range bytes place (place + count); start = start }, place + count)
-  else Err (Truncated start)
+    if nat_le (place + count) (length bytes)
+    then Ok (record { tag = tag; value = slice_range bytes place (place + count); start = start }, place + count)
+    else Err (Truncated start)
 
 -- the object that begins at a place, and the place behind it; the faults of its tag come first,
 -- then those of its length, then that of its value

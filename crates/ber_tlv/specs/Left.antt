@@ -17,7 +17,7 @@ by_byte (Some byte) padding object = (if byte == 0 then padding else object)
 unfoldable pub items_from : ℕ → List ℕ → ℕ → Result (List ItemData) TlvFault
 items_from zero bytes place = Ok []
 items_from (suc count) bytes place =
-  by_byte (slice_get bytes place)
+    by_byte (slice_get bytes place)
     (items_from count bytes (place + 1))
     (item_at bytes place >>= (λ found. then_left found.0 (items_from count bytes found.1)))
 

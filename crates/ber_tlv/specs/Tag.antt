@@ -13,6 +13,6 @@ names_template tag = first_byte_of tag / 32 % 2 == 1
 -- bytes follow, and bit 8 of the second is 1 exactly where a third follows; no tag begins with 00
 abbrev pub is_readable : ℕ → Bool
 is_readable tag =
-  if nat_lt tag 256 then nat_lt 0 tag && not (tag % 32 == 31)
-  else if nat_lt tag 65536 then (tag / 256 % 32 == 31) && nat_lt (tag % 256) 128
-  else nat_lt tag 16777216 && (tag / 65536 % 32 == 31) && nat_le 128 (tag / 256 % 256) && nat_lt (tag % 256) 128
+    if nat_lt tag 256 then nat_lt 0 tag && not (tag % 32 == 31)
+    else if nat_lt tag 65536 then (tag / 256 % 32 == 31) && nat_lt (tag % 256) 128
+    else nat_lt tag 16777216 && (tag / 65536 % 32 == 31) && nat_le 128 (tag / 256 % 256) && nat_lt (tag % 256) 128

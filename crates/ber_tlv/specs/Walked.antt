@@ -32,11 +32,11 @@ met_object (Err fault) inside behind = Broken fault
 unfoldable pub walk_from : ℕ → List ℕ → ℕ → Walked
 walk_from zero bytes place = Done
 walk_from (suc count) bytes place =
-  walk_by_byte (slice_get bytes place)
+    walk_by_byte (slice_get bytes place)
     (walk_from count bytes (place + 1))
     (met_object (item_at bytes place)
-      (λ found. walk_from count (take found.1 bytes) (found.1 - length found.0.value))
-      (λ found. walk_from count bytes found.1))
+    (λ found. walk_from count (take found.1 bytes) (found.1 - length found.0.value))
+    (λ found. walk_from count bytes found.1))
 
 -- the walk from a place to the end; places count the bytes from the first of the string, inside
 -- constructed objects too
@@ -67,7 +67,7 @@ pub data Forest : Type 0 where
 abbrev pub Spells : List ℕ → ℕ → Forest → Type 0
 Spells bytes place Bare = Zeros bytes place (length bytes)
 Spells bytes place (Grown item children behind) =
-  (next : ℕ) × NextItem bytes place item next
+    (next : ℕ) × NextItem bytes place item next
     × MatchBool (names_template item.tag) (Spells (take next bytes) (next - length item.value) children) (children ≡ Bare)
     × Spells bytes next behind
 

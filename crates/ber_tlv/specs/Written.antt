@@ -4,16 +4,16 @@ use Rattle.std.specs.Prelude.{ℕ, ◌/◌, ◌%◌, nat_lt, if◌then◌else◌
 -- the tag's bytes, the highest first
 abbrev pub tag_bytes : ℕ → List ℕ
 tag_bytes tag =
-  if nat_lt tag 256 then tag ∷ []
-  else if nat_lt tag 65536 then (tag / 256) ∷ (tag % 256) ∷ []
-  else (tag / 65536) ∷ (tag / 256 % 256) ∷ (tag % 256) ∷ []
+    if nat_lt tag 256 then tag ∷ []
+    else if nat_lt tag 65536 then (tag / 256) ∷ (tag % 256) ∷ []
+    else (tag / 65536) ∷ (tag / 256 % 256) ∷ (tag % 256) ∷ []
 
 -- one byte below 80, else 81 and one byte, else 82 and two bytes
 abbrev pub length_bytes : ℕ → List ℕ
 length_bytes count =
-  if nat_lt count 128 then count ∷ []
-  else if nat_lt count 256 then 129 ∷ count ∷ []
-  else 130 ∷ (count / 256) ∷ (count % 256) ∷ []
+    if nat_lt count 128 then count ∷ []
+    else if nat_lt count 256 then 129 ∷ count ∷ []
+    else 130 ∷ (count / 256) ∷ (count % 256) ∷ []
 
 -- tag, length and value
 unfoldable pub written : ℕ → List ℕ → List ℕ

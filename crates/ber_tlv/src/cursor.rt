@@ -5,9 +5,8 @@ ghost use Rattle.ber_tlv.specs.Walked.{walk_behind};
 ghost use Rattle.ber_tlv.specs.Seen.{CursorData, seen, then_rest, then_walk};
 ghost use Rattle.ber_tlv.specs.Item.{ItemData};
 
-use std::marker::Model;
-
 use crate::item::{Item, TlvFault, item_at};
+use std::marker::Model;
 
 /// Goes through the data objects of a byte string in order (EMV 4.3 Book 3 Annex B).
 #[derive(Drop)]
@@ -37,30 +36,20 @@ impl<'a> Cursor<'a> {
     /// before, between and after objects are passed over. After a fault each further call gives
     /// the same fault.
     pub fn next(&mut self) -> Result<Option<Item<'a>>, TlvFault>
-        ensures item {
-            IfOk result (λ found. IfSome found (λ item.
-              NextItem self.old.bytes self.old.place (seen item) self.new.place))
-        }
-        ensures end {
-            IfOk result (λ found. IfNone found
-              (Zeros self.old.bytes self.old.place (length self.old.bytes)))
-        }
+        ensures item { IfOk result (λ found. IfSome found (λ item.
+            NextItem self.old.bytes self.old.place (seen item) self.new.place)) }
+        ensures end { IfOk result (λ found. IfNone found
+            (Zeros self.old.bytes self.old.place (length self.old.bytes))) }
         ensures fault { IfErr result (NextFault self.old.bytes self.old.place) }
         ensures ends { IfOk result (λ found. IfNone found (self.new.place ≡ length self.new.bytes)) }
         // What the step gave, with what is left behind it, is what was left before.
-        ensures left {
-            then_rest result (items_behind self.new.bytes self.new.place)
-              ≡ items_behind self.old.bytes self.old.place
-        }
+        ensures left { then_rest result (items_behind self.new.bytes self.new.place)
+            ≡ items_behind self.old.bytes self.old.place }
         // The same for the walk over objects at any depth.
-        ensures walk {
-            then_walk result self.new.bytes self.new.place
-              ≡ walk_behind self.old.bytes self.old.place
-        }
-        ensures onward {
-            IfOk result (λ found. IfSome found (λ item.
-              self.old.place + 2 + length item.value.now ≤ self.new.place))
-        }
+        ensures walk { then_walk result self.new.bytes self.new.place
+            ≡ walk_behind self.old.bytes self.old.place }
+        ensures onward { IfOk result (λ found. IfSome found (λ item.
+            self.old.place + 2 + length item.value.now ≤ self.new.place)) }
         ensures within { self.new.place ≤ length self.new.bytes }
         ensures same_bytes { self.new.bytes ≡ self.old.bytes }
         ensures stays { OnErr result (self.new ≡ self.old) }
@@ -83,22 +72,20 @@ impl<'a> Cursor<'a> {
         ensures place { result.place ≡ self.now.place - length item.now.value.now }
     {
         let start = self.place - item.value.len();
-        Cursor { bytes: &self.bytes[..self.place], place: start }
+        Cursor {
+            bytes: &self.bytes[..self.place],
+            place: start,
+        }
     }
 }
 
 /// Each byte string has exactly one list of data objects or exactly one fault: the one that
 /// `items_of` names.
 pub fn one_reading(bytes: &[u8])
-    ensures list {
-        (items : List ItemData) → (items_of bytes.now ≡ Ok items) ↔ Items bytes.now 0 items
-    }
-    ensures fault {
-        (fault : TlvFault) → (items_of bytes.now ≡ Err fault)
-          ↔ ((items : List ItemData) × FaultBehind bytes.now 0 items fault)
-    }
-{
-}
+    ensures list { (items : List ItemData) → (items_of bytes.now ≡ Ok items) ↔ Items bytes.now 0 items }
+    ensures fault { (fault : TlvFault) → (items_of bytes.now ≡ Err fault)
+        ↔ ((items : List ItemData) × FaultBehind bytes.now 0 items fault) }
+{}
 
 /// Why the byte string is no list of data objects, or `None` where it is one: the fault at the first
 /// place that its objects reach and where none stands (EMV 4.3 Book 3 Annex B).

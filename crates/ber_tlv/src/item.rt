@@ -138,34 +138,33 @@ fn value_at<'a>(
     count: usize,
 ) -> Result<(Item<'a>, usize), TlvFault>
     requires { place ≤ length bytes.now }
-    ensures exact {
-        MatchResult result
-          (λ r. spec.value_at bytes.now start tag place count ≡ Ok (seen r.0, r.1))
-          (λ fault. spec.value_at bytes.now start tag place count ≡ Err fault)
-    }
-    ensures within {
-        IfOk result (λ r. (place + length r.0.value.now ≡ r.1) × (r.1 ≤ length bytes.now))
-    }
+    ensures exact { MatchResult result
+        (λ r. spec.value_at bytes.now start tag place count ≡ Ok (seen r.0, r.1))
+        (λ fault. spec.value_at bytes.now start tag place count ≡ Err fault) }
+    ensures within { IfOk result (λ r. (place + length r.0.value.now ≡ r.1) × (r.1 ≤ length bytes.now)) }
 {
     if count > bytes.len() - place {
         return Err(TlvFault::Truncated(start));
     }
     let end = place + count;
     let value = &bytes[place..end];
-    Ok((Item { tag: Tag(tag), value, start }, end))
+    Ok((
+        Item {
+            tag: Tag(tag),
+            value,
+            start,
+        },
+        end,
+    ))
 }
 
 /// The data object that begins at a place of a byte string, and the place behind it.
 #[tactic(auto, unfolding(crate::specs::Item::item_at))]
 pub(crate) fn item_at<'a>(bytes: &'a [u8], start: usize) -> Result<(Item<'a>, usize), TlvFault>
-    ensures exact {
-        MatchResult result
-          (λ r. spec.item_at bytes.now start ≡ Ok (seen r.0, r.1))
-          (λ fault. spec.item_at bytes.now start ≡ Err fault)
-    }
-    ensures within {
-        IfOk result (λ r. (start + 2 + length r.0.value.now ≤ r.1) × (r.1 ≤ length bytes.now))
-    }
+    ensures exact { MatchResult result
+        (λ r. spec.item_at bytes.now start ≡ Ok (seen r.0, r.1))
+        (λ fault. spec.item_at bytes.now start ≡ Err fault) }
+    ensures within { IfOk result (λ r. (start + 2 + length r.0.value.now ≤ r.1) × (r.1 ≤ length bytes.now)) }
 {
     let (tag, length_place) = tag_at(bytes, start)?;
     let (count, value_place) = length_at(bytes, start, length_place)?;

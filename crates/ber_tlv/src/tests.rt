@@ -1,11 +1,10 @@
-use std::array;
-
-use arrayvec::ArrayVec;
-
 use crate::cursor::{Cursor, first_fault};
 use crate::item::{Item, TlvFault};
 use crate::tag::{Tag, is_constructed, is_readable};
+use crate::walk::deep_fault;
 use crate::write::{Full, write_item};
+use arrayvec::ArrayVec;
+use std::array;
 
 fn is_item(found: &Result<Option<Item>, TlvFault>, tag: u32, value: &[u8], start: usize) -> bool {
     match found {
@@ -38,13 +37,29 @@ fn reads_items_and_faults(rt: HostRuntime) {
 }
 
 #[test]
+fn walks_into_constructed_items(rt: HostRuntime) {
+    // A child that ends behind its parent, though bytes follow there.
+    let bytes = [0x70, 0x03, 0x9F, 0x36, 0x02, 0x50, 0x00];
+    assert!(rt; first_fault(&bytes).is_none());
+    assert!(rt; deep_fault(&bytes) == Some(TlvFault::Truncated(2)));
+    assert!(rt; deep_fault(&[0x70, 0x03, 0x9F, 0x36, 0x00, 0x50, 0x00]).is_none());
+    let mut cursor = Cursor::new(&bytes);
+    if let Ok(Some(item)) = cursor.next() {
+        assert!(rt; matches!(cursor.inside(&item).next(), Err(TlvFault::Truncated(2))));
+    }
+}
+
+#[test]
 fn writes_the_shortest_spelling(rt: HostRuntime) {
     let mut out: ArrayVec<u8, 140> = ArrayVec::new();
     assert!(rt; write_item(&mut out, Tag(0x9F36), &[0x00, 0x0A]).is_ok());
     assert!(rt; out.as_slice() == [0x9F, 0x36, 0x02, 0x00, 0x0A].as_slice());
     let value: [u8; 131] = array::repeat(7);
     assert!(rt; write_item(&mut out, Tag(0x50), &value) == Ok(()));
-    assert!(rt; &out[5..8] == [0x50, 0x81, 0x83].as_slice());
+    assert!(rt;
+        out.as_slice()
+            .starts_with(&[0x9F, 0x36, 0x02, 0x00, 0x0A, 0x50, 0x81, 0x83])
+    );
     assert!(rt; write_item(&mut out, Tag(0x84), &[1]) == Err(Full { needed: 3, free: 1 }));
     assert!(rt; out.len() == 139);
     assert!(rt; is_constructed(Tag(0x6F)) && !is_constructed(Tag(0x9F36)));

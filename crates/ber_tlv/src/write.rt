@@ -4,9 +4,8 @@ ghost use Rattle.ber_tlv.specs.Item.{item_at};
 ghost use Rattle.ber_tlv.specs.Tag as tag_spec;
 ghost use Rattle.ber_tlv.specs.Written as spec;
 
-use arrayvec::ArrayVec;
-
 use crate::tag::Tag;
+use arrayvec::ArrayVec;
 
 /// There is no room for a data object: it needs `needed` bytes, and `free` are left.
 #[derive(Clone, Copy, PartialEq, Eq, Debug)]
@@ -32,10 +31,8 @@ pub fn write_item<const N: usize>(
     ensures err { OnErr result (out.new ≡ out.old) }
 
     // What was written is read again, whatever stands behind it.
-    ensures read_again {
-        OnOk result ((rest : List ℕ) → item_at (out.new.items ++ rest) (length out.old.items)
-          ≡ Ok (record { tag = tag.0; value = value.now; start = length out.old.items }, length out.new.items))
-    }
+    ensures read_again { OnOk result ((rest : List ℕ) → item_at (out.new.items ++ rest) (length out.old.items)
+        ≡ Ok (record { tag = tag.0; value = value.now; start = length out.old.items }, length out.new.items)) }
 {
     let tag_bytes = tag_bytes(tag.0);
     let length_bytes = length_bytes(value.len());
@@ -60,7 +57,14 @@ fn tag_bytes(tag: u32) -> ArrayVec<u8, 3>
     } else if tag < 65536 {
         append(&mut bytes, &[(tag / 256) as u8, (tag % 256) as u8]);
     } else {
-        append(&mut bytes, &[(tag / 65536) as u8, (tag / 256 % 256) as u8, (tag % 256) as u8]);
+        append(
+            &mut bytes,
+            &[
+                (tag / 65536) as u8,
+                (tag / 256 % 256) as u8,
+                (tag % 256) as u8,
+            ],
+        );
     }
     bytes
 }
@@ -75,7 +79,10 @@ fn length_bytes(count: usize) -> ArrayVec<u8, 3>
     } else if count < 256 {
         append(&mut bytes, &[0x81, count as u8]);
     } else {
-        append(&mut bytes, &[0x82, (count / 256) as u8, (count % 256) as u8]);
+        append(
+            &mut bytes,
+            &[0x82, (count / 256) as u8, (count % 256) as u8],
+        );
     }
     bytes
 }

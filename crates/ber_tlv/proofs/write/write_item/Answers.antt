@@ -6,7 +6,14 @@ use Rattle.ber_tlv.proofs.write.write_item.Goals as goal
 pub returns-clause-read_again : goal.returns-clause-read_again
 unfolding written
 returns-clause-read_again g c =
-  let appended : c.append-3.new.out.items ≡ c.args.out.now.items ++ written c.args.tag.0 c.args.value.now =
-    rw (c.append-3.ensures, c.append-2.ensures, c.append.ensures, c.deref-2.ensures.0, c.deref.ensures.0,
-      c.length_bytes-length_bytes.ensures, c.tag_bytes-tag_bytes.ensures) (simp append_assoc) in
-  appended_read _ _ c.args.tag.0 c.args.value.now appended c.requires.readable
+    let appended : c.append-3.new.out.items ≡ c.args.out.now.items ++ written c.args.tag.0 c.args.value.now =
+    rw (
+      c.append-3.ensures,
+      c.append-2.ensures,
+      c.append.ensures,
+      c.deref-2.ensures.0,
+      c.deref.ensures.0,
+      c.length_bytes-length_bytes.ensures,
+      c.tag_bytes-tag_bytes.ensures,
+    ) (simp append_assoc) in
+    appended_read _ _ c.args.tag.0 c.args.value.now appended c.requires.readable

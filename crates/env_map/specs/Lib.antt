@@ -1,0 +1,5 @@
+pub mod Entries
+pub mod Gathered
+pub mod Inside
+pub mod Places
+pub mod Put

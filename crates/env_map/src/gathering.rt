@@ -1,0 +1,51 @@
+ghost use Rattle.std.specs.Prelude.{◌≡◌, ◌≤◌, length};
+ghost use Rattle.std.specs.Result.{result_err};
+ghost use Rattle.env_map.specs.Gathered.{gathered};
+ghost use Rattle.ber_tlv.specs.Walked.{walk_behind, walk_of};
+
+use ber_tlv::{Cursor, TlvFault, is_constructed};
+
+use crate::env::{Env, EnvFault};
+
+/// Why the objects of a byte string are not all put.
+#[derive(Clone, Copy, PartialEq, Eq, Debug)]
+pub enum GatherFault {
+    /// No object stands where one should.
+    Coding(TlvFault),
+    /// An object is not put.
+    Put(EnvFault),
+}
+
+/// Puts the primitive data objects of a byte string, at any depth, in the order of their first bytes
+/// (EMV 4.3 Book 3 section 10.2). The first fault ends it, and what stands before it has been put.
+pub fn gather(env: &mut Env, bytes: &[u8]) -> Result<(), GatherFault>
+    ensures entries { env.new ≡ (gathered env.old (walk_of bytes.now)).entries }
+    ensures fault { result_err result ≡ (gathered env.old (walk_of bytes.now)).fault }
+{
+    gather_behind(env, &mut Cursor::new(bytes))
+}
+
+#[tactic(auto, using(crate::proofs::TwoWalks::gathered_on, crate::proofs::TwoWalks::gathered_fault))]
+fn gather_behind(env: &mut Env, cursor: &mut Cursor) -> Result<(), GatherFault>
+    requires { cursor.old.place ≤ length cursor.old.bytes }
+    ensures entries {
+        env.new ≡ (gathered env.old (walk_behind cursor.old.bytes cursor.old.place)).entries
+    }
+    ensures fault {
+        result_err result ≡ (gathered env.old (walk_behind cursor.old.bytes cursor.old.place)).fault
+    }
+{
+    loop {
+        match cursor.next() {
+            Ok(Some(item)) => {
+                if is_constructed(item.tag) {
+                    gather_behind(env, &mut cursor.inside(&item))?;
+                } else if let Err(fault) = env.put(item.tag, item.value) {
+                    return Err(GatherFault::Put(fault));
+                }
+            }
+            Ok(None) => return Ok(()),
+            Err(fault) => return Err(GatherFault::Coding(fault)),
+        }
+    }
+}
