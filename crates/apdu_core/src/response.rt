@@ -24,6 +24,7 @@ pub struct Response<'a> {
 pub fn read_response(bytes: &[u8]) -> Result<Response<'_>, ApduFault>
     ensures exact { MatchResult result (λ response. response_of bytes.now ≡ Some (seen_response response)) (λ _. response_of bytes.now ≡ None) }
     ensures spelled { IfOk result (λ response. response_bytes response.body.now response.status ≡ bytes.now) }
+    ensures fits { IfOk result (λ response. length response.body.now ≤ 256) }
     ensures short { IsErrOf result ApduFault.Short ↔ (length bytes.now < 2) }
     ensures mismatch { IsErrOf result ApduFault.LengthMismatch ↔ (258 < length bytes.now) }
 {

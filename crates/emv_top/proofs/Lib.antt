@@ -1,3 +1,4 @@
 pub mod Hex
 pub mod Keys
 pub mod Twins
+pub mod AflLemmas

@@ -2,3 +2,13 @@ pub mod Values
 pub mod Form
 pub mod Seen
 pub mod SeenForm
+pub mod Told
+pub mod Templates
+pub mod Fci
+pub mod Afl
+pub mod Reading
+pub mod Initiate
+pub mod Select
+pub mod SeenSaid
+pub mod SeenGroups
+pub mod SeenOptions

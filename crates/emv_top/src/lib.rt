@@ -2,4 +2,7 @@
 //! status comes out. The contract of `run` is what the project promises.
 #![tactic(auto)]
 
+pub mod app_select;
+pub mod read_records;
 pub mod short_form;
+pub mod templates;
