@@ -2,3 +2,4 @@ pub mod Hex
 pub mod Keys
 pub mod Twins
 pub mod AflLemmas
+pub mod PlaceLemmas

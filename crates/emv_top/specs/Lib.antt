@@ -12,3 +12,5 @@ pub mod Select
 pub mod SeenSaid
 pub mod SeenGroups
 pub mod SeenOptions
+pub mod SeenReading
+pub mod SeenTerminal

@@ -11,6 +11,7 @@ use apdu_core::read_response;
 use ber_tlv::Tag;
 
 /// What an answer to SELECT says.
+#[derive(Clone, Copy)]
 pub enum Said<'a> {
     /// It is no response.
     Unreadable,

@@ -3,6 +3,8 @@
 #![tactic(auto)]
 
 pub mod app_select;
+pub mod kernel;
 pub mod read_records;
+pub mod reading;
 pub mod short_form;
 pub mod templates;

@@ -163,7 +163,7 @@ pub fn first_objects(options: &Options<'_>) -> Env
 
 /// Takes an answer to READ RECORD into the objects so far.
 #[tactic(auto, unfolding(crate::specs::Reading::record_read))]
-fn read_record(sfi: u8, env: &mut Env, reply: &[u8]) -> Result<(), Cause>
+pub fn read_record(sfi: u8, env: &mut Env, reply: &[u8]) -> Result<(), Cause>
     ensures { MatchResult result
         (λ _. record_read sfi env.old reply.now ≡ Ok env.new)
         (λ cause. record_read sfi env.old reply.now ≡ Err cause) }
@@ -209,7 +209,7 @@ fn cause_of(fault: GatherFault) -> Cause
 
 /// The first of the mandatory objects that is not there (EMV 4.3 Book 3 section 7.2).
 #[tactic(auto, unfolding(crate::specs::Reading::first_missing))]
-fn first_missing(env: &Env) -> Option<Tag>
+pub fn first_missing(env: &Env) -> Option<Tag>
     ensures { option_map (λ tag. tag.0) result ≡ first_missing env.now }
 {
     if env.get(Tag(0x5f24)).is_none() {
