@@ -31,10 +31,10 @@ command_bytes c = c.class ∷ c.ins ∷ c.p1 ∷ c.p2 ∷ tail_bytes c.body c.ex
 -- and one more byte is the expected length
 abbrev pub field_of : ℕ → List ℕ → Option (List ℕ × Option ℕ)
 field_of count field =
-  if count == 0 then None
-  else if length field == count then Some (field, None)
-  else if length field == count + 1 then Some (take count field, Some (slice_index field count))
-  else None
+    if count == 0 then None
+    else if length field == count then Some (field, None)
+    else if length field == count + 1 then Some (take count field, Some (slice_index field count))
+    else None
 
 abbrev pub tail_of : List ℕ → Option (List ℕ × Option ℕ)
 tail_of [] = Some ([], None)
@@ -48,4 +48,4 @@ command_of (a ∷ []) = None
 command_of (a ∷ b ∷ []) = None
 command_of (a ∷ b ∷ c ∷ []) = None
 command_of (class ∷ ins ∷ p1 ∷ p2 ∷ tail) =
-  option_map (λ t. record { class = class; ins = ins; p1 = p1; p2 = p2; body = t.0; expects = t.1 }) (tail_of tail)
+    option_map (λ t. record { class = class; ins = ins; p1 = p1; p2 = p2; body = t.0; expects = t.1 }) (tail_of tail)

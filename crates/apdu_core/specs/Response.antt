@@ -15,5 +15,5 @@ status_of count bytes = slice_index bytes (count - 2) * 256 + slice_index bytes 
 -- the response that these bytes are: 2 to 258 of them
 unfoldable pub response_of : List ℕ → Option ResponseData
 response_of bytes =
-  if nat_le 2 (length bytes) && nat_le (length bytes) 258
-  then Some (record { body = take (length bytes - 2) bytes; status = status_of (length bytes) bytes }) else None
+    if nat_le 2 (length bytes) && nat_le (length bytes) 258
+    then Some (record { body = take (length bytes - 2) bytes; status = status_of (length bytes) bytes }) else None

@@ -43,7 +43,8 @@ pub fn read_response(bytes: &[u8]) -> Result<Response<'_>, ApduFault>
 /// Writes a response's bytes to `out`, in place of what it held.
 pub fn write_response(response: &Response<'_>, out: &mut Answer)
     requires { length response.now.body.now ≤ 256 }
-    ensures { out.new.items ≡ response_bytes response.now.body.now response.now.status }
+    ensures written { out.new.items ≡ response_bytes response.now.body.now response.now.status }
+    ensures read_again { response_of out.new.items ≡ Some (seen_response response.now) }
 {
     out.clear();
     append(out, response.body);

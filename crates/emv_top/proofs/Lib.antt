@@ -3,3 +3,5 @@ pub mod Keys
 pub mod Twins
 pub mod AflLemmas
 pub mod PlaceLemmas
+pub mod FileLemmas
+pub mod SessionLemmas

@@ -14,3 +14,6 @@ pub mod SeenGroups
 pub mod SeenOptions
 pub mod SeenReading
 pub mod SeenTerminal
+pub mod Card
+pub mod SeenCard
+pub mod StageAfter

@@ -3,6 +3,7 @@
 #![tactic(auto)]
 
 pub mod app_select;
+pub mod card;
 pub mod kernel;
 pub mod read_records;
 pub mod reading;
