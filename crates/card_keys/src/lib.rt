@@ -1,13 +1,15 @@
-// A library with one function.
+//! The keys of a card (EMV 4.3 Book 2 Annex A1): its master key from the issuer's, and the session
+//! keys of a transaction. No call takes memory.
 #![tactic(auto)]
 
-ghost use Rattle.std.specs.Prelude.{◌≡◌};
-ghost use Rattle.card_keys.specs.Echo.{echo_of};
+mod joining;
+mod master;
+mod parity;
+mod session;
 
-// The `ensures` clause is the contract: what `echo` returns is `echo_of` of its argument, a definition
-// in `specs/Echo.antt`, which a caller's clause can cite too.
-pub fn echo(x: usize) -> usize
-    ensures { result ≡ echo_of x }
-{
-    x
-}
+pub use emv_dict::{PanFault, pan_digits};
+pub use master::master_key;
+pub use session::{session_ac, session_script};
+
+#[cfg(test)]
+mod tests;
