@@ -1,0 +1,11 @@
+-- Every byte gets odd parity.
+use Rattle.std.proofs.Common.{ℕ, ◌<◌, ◌%◌, ◌==◌, true, refl}
+use Rattle.std.specs.Prelude.{count_ones}
+use lib.Count.{ones}
+use Rattle.std.proofs.lemmas.Bool.{agree_below_at, eqb-true}
+use Rattle.card_keys.specs.Parity.{HasOddParity, odd_parity}
+
+pub odd_parity_is_odd : (byte : ℕ) → byte < 256 → HasOddParity (odd_parity byte)
+unfolding ones
+odd_parity_is_odd byte small =
+    eqb-true (count_ones (odd_parity byte) % 2) 1 (agree_below_at (λ b. count_ones (odd_parity b) % 2 == 1) (λ b. true) 256 byte refl small)

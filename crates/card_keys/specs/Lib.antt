@@ -1,0 +1,3 @@
+pub mod Parity
+pub mod Master
+pub mod Session

@@ -1,0 +1,46 @@
+ghost use Rattle.std.specs.Prelude.{◌≡◌, ◌*◌, IfOk, replicate};
+ghost use Rattle.triple_des.specs.Des.{enciphered};
+ghost use Rattle.triple_des.specs.Mac.{mac};
+ghost use Rattle.des_bench.specs.Work.{repeated};
+
+use std::alloc::{AllocError, Global};
+use triple_des::{Des, Key16, mac};
+
+/// A block of zeros, enciphered so many times over.
+pub fn enciphered_over(des: &Des, count: u32) -> [u8; 8]
+    ensures { result ≡ repeated count (enciphered des.now) (replicate 8 0) }
+{
+    let mut block = [0; 8];
+    for _done in 0..count {
+        let next = des.encipher(block);
+        block = next;
+    }
+    block
+}
+
+/// The message authentication code of so many blocks of zeros.
+pub fn code_of_zeros(alloc: Global, key: &Key16, count: u32) -> Result<[u8; 8], AllocError>
+    ensures { IfOk result (λ code. code ≡ mac key.now (replicate (8 * count) 0)) }
+{
+    let text = vec![in alloc; 0u8; 8 * count as usize]?;
+    Ok(mac(key, text.as_slice()))
+}
+
+#[cfg(test)]
+mod tests {
+    use super::*;
+
+    #[test]
+    fn a_thousand_blocks(rt: HostRuntime) {
+        let des = Des::new(0x1334_5779_9bbc_dff1u64.to_be_bytes());
+        let key = Key16::new(0x1334_5779_9bbc_dff1_1334_5779_9bbc_dff1u128.to_be_bytes());
+        assert_eq!(rt;
+            enciphered_over(&des, 1000),
+            0x288d_0836_c554_bfbau64.to_be_bytes()
+        );
+        assert_eq!(rt;
+            code_of_zeros(rt.alloc(), &key, 1000).ok(),
+            Some(0xcae1_a1ff_502d_c012u64.to_be_bytes())
+        );
+    }
+}
