@@ -41,7 +41,7 @@ second_tag_byte-onward bytes start first r e =
       | inr long ↦ third_tag_byte-onward _ _ _ r long
     ]
 
-tag_at-onward : (bytes : List ℕ) (start : ℕ) (r : ℕ × ℕ) → tag_at bytes start ≡ Ok r → start < r.1
+pub tag_at-onward : (bytes : List ℕ) (start : ℕ) (r : ℕ × ℕ) → tag_at bytes start ≡ Ok r → start < r.1
 unfolding tag_at
 tag_at-onward bytes start r e =
     let step = step-ok (byte_at bytes start start) _ r e in
