@@ -1,6 +1,6 @@
 -- A data object list: entries of a tag and a length of one byte, one behind another, with nothing
 -- between them (EMV 4.3 Book 3 section 5.4).
-use Rattle.std.specs.Prelude.{◌≡◌, ℕ, zero, suc, ◌+◌, ◌==◌, ◌&&◌, if◌then◌else◌, List, [], ◌∷◌, length, Option, Some, None, option_map, Result, Ok, Err, slice_get}
+use Rattle.std.specs.Prelude.{ℕ, zero, suc, ◌+◌, ◌==◌, ◌&&◌, if◌then◌else◌, List, [], ◌∷◌, length, Option, Some, None, option_map, Result, Ok, Err, slice_get}
 use Rattle.ber_tlv.specs.Item.{tag_at}
 use Rattle.ber_tlv.specs.declared.item.TlvFault.{TlvFault}
 use Rattle.ber_tlv.specs.declared.item.TlvFault.TheVariants as tlv
@@ -45,7 +45,7 @@ then_behind (Err fault) behind = Err fault
 unfoldable pub entries_from : ℕ → List ℕ → ℕ → Result (List DolEntry) DolFault
 entries_from zero bytes place = Ok []
 entries_from (suc count) bytes place =
-  if place == length bytes then Ok [] else then_behind (entry_at bytes place) (entries_from count bytes)
+    if place == length bytes then Ok [] else then_behind (entry_at bytes place) (entries_from count bytes)
 
 -- the entries from a place to the end, or the first fault
 unfoldable pub entries_behind : List ℕ → ℕ → Result (List DolEntry) DolFault
@@ -64,4 +64,4 @@ total_of (entry ∷ entries) = entry.count + total_of entries
 abbrev pub place_of : ℕ → ℕ → List DolEntry → Option ℕ
 place_of tag count [] = None
 place_of tag count (entry ∷ entries) =
-  if (entry.tag == tag) && (entry.count == count) then Some 0 else option_map (λ place. entry.count + place) (place_of tag count entries)
+    if (entry.tag == tag) && (entry.count == count) then Some 0 else option_map (λ place. entry.count + place) (place_of tag count entries)

@@ -1,12 +1,11 @@
 -- The data that an object list is filled with (EMV 4.3 Book 3 section 5.4).
-use Rattle.std.specs.Prelude.{ℕ, Bool, true, false, ◌-◌, nat_lt, if◌then◌else◌, List, [], ◌∷◌, ◌++◌, length, take, drop, replicate, Option, Some, None, option_map, option_and_then}
+use Rattle.std.specs.Prelude.{ℕ, ◌-◌, nat_lt, if◌then◌else◌, List, [], ◌∷◌, ◌++◌, length, take, drop, replicate, Option, Some, None, option_map, option_and_then}
 use Rattle.ber_tlv.specs.Tag.{names_template}
 use Rattle.emv_dict.specs.Dictionary.{row_in, dictionary}
 use Rattle.emv_dict.specs.declared.dictionary.Format.{Format}
 use Rattle.emv_dict.specs.declared.dictionary.Format.TheVariants.{Numeric, Compressed, Text, Binary}
 use Rattle.emv_dict.specs.declared.dictionary.Origin.{Origin}
 use Rattle.emv_dict.specs.declared.dictionary.Origin.TheVariants.{Card, Terminal, Issuer}
-use Rattle.emv_dict.specs.declared.dictionary.Row.{Row}
 use Rattle.env_map.specs.Entries.{Entries, value_of}
 use Rattle.object_lists.specs.DolEntries.{DolEntry}
 
@@ -38,8 +37,8 @@ fitted format count value = if nat_lt count (length value) then cut format count
 -- has a value
 unfoldable pub known : Entries → Entries → ℕ → Option (Format × List ℕ)
 known card terminal tag =
-  if names_template tag then None
-  else option_and_then (λ row. option_map (λ value. (row.format, value)) (value_of tag (source row.origin card terminal))) (row_in dictionary tag)
+    if names_template tag then None
+    else option_and_then (λ row. option_map (λ value. (row.format, value)) (value_of tag (source row.origin card terminal))) (row_in dictionary tag)
 
 -- the data of one entry: its value, cut or filled to the entry's length, or zeros
 abbrev pub data_of : ℕ → Option (Format × List ℕ) → List ℕ

@@ -3,10 +3,9 @@ ghost use Rattle.object_lists.specs.DolEntries.{DolEntry, dol_of, total_of, plac
 ghost use Rattle.object_lists.specs.DolEntries as spec;
 ghost use Rattle.object_lists.specs.DolSeen.{seen, all_seen};
 
-use std::marker::Model;
-
 use arrayvec::ArrayVec;
 use ber_tlv::{Tag, TlvFault, read_tag};
+use std::marker::Model;
 
 /// Why bytes are no data object list. Places count from the first byte, from 0.
 #[derive(Clone, Copy, PartialEq, Eq, Debug)]
@@ -55,11 +54,9 @@ impl Dol {
 /// 00 is a tag of one byte. The answer at a fault is the first one.
 pub fn read_dol(bytes: &[u8]) -> Result<Dol, DolFault>
     requires { length bytes.now ≤ 255 }
-    ensures {
-        MatchResult result
-          (λ dol. dol_of bytes.now ≡ Ok dol)
-          (λ fault. dol_of bytes.now ≡ Err fault)
-    }
+    ensures { MatchResult result
+        (λ dol. dol_of bytes.now ≡ Ok dol)
+        (λ fault. dol_of bytes.now ≡ Err fault) }
 {
     let mut entries = ArrayVec::new();
     let mut place = 0;
@@ -78,11 +75,9 @@ pub fn read_dol(bytes: &[u8]) -> Result<Dol, DolFault>
 /// The entry that begins at a place, and the place behind it.
 #[tactic(auto, unfolding(crate::specs::DolEntries::entry_at))]
 fn entry_at(bytes: &[u8], start: usize) -> Result<(Entry, usize), DolFault>
-    ensures exact {
-        MatchResult result
-          (λ found. spec.entry_at bytes.now start ≡ Ok (seen found.0, found.1))
-          (λ fault. spec.entry_at bytes.now start ≡ Err fault)
-    }
+    ensures exact { MatchResult result
+        (λ found. spec.entry_at bytes.now start ≡ Ok (seen found.0, found.1))
+        (λ fault. spec.entry_at bytes.now start ≡ Err fault) }
     ensures onward { IfOk result (λ found. (start + 2 ≤ found.1) × (found.1 ≤ length bytes.now)) }
 {
     match read_tag(bytes, start) {

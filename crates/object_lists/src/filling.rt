@@ -5,12 +5,11 @@ ghost use Rattle.object_lists.specs.DolSeen.{seen, all_seen};
 ghost use Rattle.object_lists.specs.Filled.{dol_data, entry_data, fitted, known};
 ghost use Rattle.object_lists.specs.Filled as spec;
 
+use crate::dol::{Dol, Entry, total};
 use arrayvec::ArrayVec;
 use ber_tlv::{Full, Tag, is_constructed};
 use emv_dict::{Digits, Format, Origin, tag_row};
 use env_map::Env;
-
-use crate::dol::{Dol, Entry, total};
 
 /// What a terminal has of a card: its data objects, the application interchange profile and the
 /// digits of the primary account number.
@@ -28,12 +27,7 @@ const MOST: usize = 252;
 /// filled to the entry's length, from `card` if the card gives the object, else from `terminal`; or
 /// zeros. The data replace what `out` held. `Full` comes exactly where they have more than 252 bytes,
 /// and `out` is empty then.
-pub fn fill(
-    dol: &Dol,
-    card: &Env,
-    terminal: &Env,
-    out: &mut ArrayVec<u8, 252>,
-) -> Result<(), Full>
+pub fn fill(dol: &Dol, card: &Env, terminal: &Env, out: &mut ArrayVec<u8, 252>) -> Result<(), Full>
     ensures ok { OnOk result (out.new.items ≡ dol_data dol.now card.now terminal.now) }
     ensures full { IsErr result ↔ (252 < total_of dol.now) }
     ensures needed { IfErr result (λ full. full.needed ≡ total_of dol.now) }
@@ -51,9 +45,7 @@ pub fn fill(
 
 fn append_all(out: &mut ArrayVec<u8, 252>, entries: &[Entry], card: &Env, terminal: &Env)
     requires { length out.old.items + total_of (all_seen entries.now) ≤ 252 }
-    ensures {
-        out.new.items ≡ out.old.items ++ dol_data (all_seen entries.now) card.now terminal.now
-    }
+    ensures { out.new.items ≡ out.old.items ++ dol_data (all_seen entries.now) card.now terminal.now }
 {
     for entry in entries {
         append_entry(out, entry, card, terminal);

@@ -6,3 +6,6 @@ pub mod filling;
 
 pub use dol::{Dol, DolFault, place, read_dol, total};
 pub use filling::{CardData, fill};
+
+#[cfg(test)]
+mod tests;

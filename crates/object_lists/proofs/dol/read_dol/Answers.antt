@@ -6,15 +6,16 @@ use Rattle.object_lists.proofs.dol.read_dol.Goals as goal
 
 pub loop-place-preserved : goal.loop-place-preserved
 loop-place-preserved c =
-  let more = c.push.ensures.len in
-  let onward = c.in-Ok.ensures.onward in
-  let few = c.loop-place.invariant.few in
-  let exact = c.in-Ok.ensures.exact in
-  record {
-    few = omega arith;
-    within = onward.1;
-    same = rw (c.push.ensures.items, map-append seen c.loop-place.entries.items (c.in-Ok.entry ∷ []))
-      (one_more c.args.bytes.now (all_seen c.loop-place.entries.items) c.loop-place.place (seen c.in-Ok.entry) c.in-Ok.next c.loop-place-test.true exact c.loop-place.invariant.same) }
+    let more = c.push.ensures.len in
+    let onward = c.in-Ok.ensures.onward in
+    let few = c.loop-place.invariant.few in
+    let exact = c.in-Ok.ensures.exact in
+    record {
+      few = omega arith;
+      within = onward.1;
+      same = rw (c.push.ensures.items, map-append seen c.loop-place.entries.items (c.in-Ok.entry ∷ []))
+          (one_more c.args.bytes.now (all_seen c.loop-place.entries.items) c.loop-place.place (seen c.in-Ok.entry) c.in-Ok.next c.loop-place-test.true exact c.loop-place.invariant.same);
+    }
 
 pub returns-in-Err : goal.returns-in-Err
 returns-in-Err c = at_fault c.args.bytes.now (all_seen c.loop-place.entries.items) c.loop-place.place c.in-Err.fault c.loop-place-test.true c.in-Err.ensures.exact c.loop-place.invariant.same

@@ -7,4 +7,5 @@ use Rattle.object_lists.proofs.filling.append_all.Given as goal
 abbrev pub invariant-loop-entry : goal.invariant-loop-entry
 invariant-loop-entry l = record {
   room : length l.out.items + total_of (all_seen (drop l.entry-index l.entries)) ≤ 252;
-  same : l.out.items ++ dol_data (all_seen (drop l.entry-index l.entries)) l.card l.terminal ≡ l.fn.out.items ++ dol_data (all_seen l.entries) l.card l.terminal }
+  same : l.out.items ++ dol_data (all_seen (drop l.entry-index l.entries)) l.card l.terminal ≡ l.fn.out.items ++ dol_data (all_seen l.entries) l.card l.terminal;
+}
