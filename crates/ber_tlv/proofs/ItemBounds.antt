@@ -1,10 +1,9 @@
 -- Where an object ends: behind its first byte, and within the string.
-use Rattle.std.proofs.Common.{◌≡◌, ℕ, Bool, true, false, ◌+◌, ◌-◌, ◌*◌, ◌<◌, ◌≤◌, ◌%◌, ◌==◌, nat_lt, nat_le, if◌then◌else◌, List, length, Option, Some, None, Result, Ok, Err, IfOk, slice_get, refl, arith, sym, ap, ◌∙◌, min, length-drop, ◌⊎◌, inl, inr}
+use Rattle.std.proofs.Common.{◌≡◌, ℕ, Bool, true, false, ◌+◌, ◌-◌, ◌<◌, ◌≤◌, ◌%◌, ◌==◌, nat_lt, nat_le, if◌then◌else◌, List, length, Result, Ok, Err, refl, arith, sym, ap, ◌∙◌, min, length-drop, ◌⊎◌, inl, inr}
 use Rattle.std.specs.List.{slice_range}
 use Rattle.std.proofs.lemmas.List.{length-take}
-use Rattle.ber_tlv.specs.Item.{ItemData, ◌>>=◌, or_cut, byte_at, tag_at, second_tag_byte, third_tag_byte, length_at, long_length, one_byte_length, two_byte_length, value_at, item_at}
+use Rattle.ber_tlv.specs.Item.{ItemData, ◌>>=◌, byte_at, tag_at, second_tag_byte, third_tag_byte, length_at, long_length, one_byte_length, two_byte_length, value_at, item_at}
 use Rattle.ber_tlv.specs.declared.item.TlvFault.{TlvFault}
-use Rattle.ber_tlv.specs.declared.item.TlvFault.TheVariants.{Truncated, BadLength, LongTag}
 
 -- a reading in two steps that gives a value: what its first step gave
 step-ok : {A B : Type 0} (r : Result A TlvFault) (f : A → Result B TlvFault) (b : B) → (r >>= f) ≡ Ok b → (a : A) × (r ≡ Ok a) × (f a ≡ Ok b)
@@ -41,7 +40,7 @@ second_tag_byte-onward bytes start first r e =
       | inr long ↦ third_tag_byte-onward _ _ _ r long
     ]
 
-tag_at-onward : (bytes : List ℕ) (start : ℕ) (r : ℕ × ℕ) → tag_at bytes start ≡ Ok r → start < r.1
+pub tag_at-onward : (bytes : List ℕ) (start : ℕ) (r : ℕ × ℕ) → tag_at bytes start ≡ Ok r → start < r.1
 unfolding tag_at
 tag_at-onward bytes start r e =
     let step = step-ok (byte_at bytes start start) _ r e in

@@ -1,6 +1,6 @@
 -- Each byte string is either a list of objects or has a fault: what `items_behind` gives at each
 -- kind of place, and that it agrees with `Items` and `FaultBehind`.
-use Rattle.std.proofs.Common.{◌≡◌, ℕ, zero, suc, ◌+◌, ◌-◌, ◌<◌, ◌≤◌, ◌==◌, if◌then◌else◌, true, false, List, [], ◌∷◌, length, Option, Some, None, Result, Ok, Err, slice_get, refl, arith, sym, ap, ◌∙◌, ◌⊎◌, inl, inr, subst, ◌↔◌}
+use Rattle.std.proofs.Common.{◌≡◌, ℕ, zero, suc, ◌+◌, ◌-◌, ◌<◌, ◌≤◌, List, [], ◌∷◌, length, Option, Some, None, Result, Ok, Err, slice_get, refl, arith, sym, ap, ◌∙◌, inl, inr, subst, ◌↔◌}
 use Rattle.std.proofs.Math.Nat.{eq-or-lt_of_le}
 use Rattle.std.proofs.lemmas.Option.{slice_get_past, slice_get_within, slice_get_cases}
 use Rattle.ber_tlv.specs.Item.{ItemData, ◌>>=◌, item_at}

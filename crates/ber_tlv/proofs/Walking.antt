@@ -1,5 +1,5 @@
 -- What `walk_behind` gives at each kind of place, and that it agrees with `Spells`.
-use Rattle.std.proofs.Common.{◌≡◌, ℕ, zero, suc, ◌+◌, ◌-◌, ◌<◌, ◌≤◌, ◌==◌, Bool, true, false, if◌then◌else◌, List, [], ◌∷◌, length, take, Option, Some, None, Result, Ok, Err, slice_get, refl, arith, sym, ap, subst, ◌∙◌, MatchBool, IsNone, ◌↔◌}
+use Rattle.std.proofs.Common.{◌≡◌, ℕ, zero, suc, ◌+◌, ◌-◌, ◌<◌, ◌≤◌, Bool, true, false, if◌then◌else◌, List, length, take, Option, Some, None, Result, Ok, Err, slice_get, refl, arith, sym, ap, subst, ◌∙◌, MatchBool, IsNone, ◌↔◌}
 use Rattle.std.proofs.lemmas.List.{length-take-le}
 use Rattle.std.proofs.lemmas.Option.{slice_get_past, slice_get_within}
 use Rattle.ber_tlv.specs.Item.{ItemData, item_at}

@@ -1,8 +1,7 @@
 -- The data objects of a whole byte string, or its fault (EMV 4.3 Book 3 Annex B; ISO/IEC 7816-4,
 -- 5.2.2: bytes 00 before, between and after data objects have no meaning).
-use Rattle.std.specs.Prelude.{◌≡◌, ℕ, ◌+◌, ◌<◌, ◌≤◌, List, [], ◌∷◌, length, Some, Ok, Err, slice_get, take, ◌-◌, IsTrue, if◌then◌else◌}
+use Rattle.std.specs.Prelude.{◌≡◌, ℕ, ◌<◌, ◌≤◌, List, [], ◌∷◌, length, Some, Ok, Err, slice_get}
 use Rattle.ber_tlv.specs.Item.{ItemData, item_at}
-use Rattle.ber_tlv.specs.Tag.{names_template}
 use Rattle.ber_tlv.specs.declared.item.TlvFault.{TlvFault}
 
 -- only bytes 00 stand from one place to another

@@ -1,5 +1,5 @@
 -- The objects of a byte string as one value, which `Items` and `FaultBehind` determine.
-use Rattle.std.specs.Prelude.{◌≡◌, ℕ, zero, suc, ◌+◌, ◌==◌, if◌then◌else◌, List, [], ◌∷◌, length, Option, Some, None, Result, Ok, Err, slice_get}
+use Rattle.std.specs.Prelude.{ℕ, zero, suc, ◌+◌, ◌==◌, if◌then◌else◌, List, [], ◌∷◌, length, Option, Some, None, Result, Ok, Err, slice_get}
 use Rattle.ber_tlv.specs.Item.{ItemData, item_at, ◌>>=◌}
 use Rattle.ber_tlv.specs.declared.item.TlvFault.{TlvFault}
 

@@ -1,6 +1,6 @@
 -- The data objects of a byte string at any depth: each object in the order of its first byte, a
 -- constructed one before the objects that its value is made of (EMV 4.3 Book 3 Annex B).
-use Rattle.std.specs.Prelude.{◌≡◌, ℕ, zero, suc, ◌+◌, ◌-◌, ◌==◌, Bool, if◌then◌else◌, List, [], ◌∷◌, length, take, Option, Some, None, Result, Ok, Err, slice_get, MatchBool}
+use Rattle.std.specs.Prelude.{◌≡◌, ℕ, zero, suc, ◌+◌, ◌-◌, ◌==◌, if◌then◌else◌, List, length, take, Option, Some, None, Result, Ok, Err, slice_get, MatchBool}
 use Rattle.ber_tlv.specs.Item.{ItemData, item_at}
 use Rattle.ber_tlv.specs.Items.{Zeros, NextItem}
 use Rattle.ber_tlv.specs.Tag.{names_template}

@@ -75,6 +75,18 @@ fn tag_at(bytes: &[u8], start: usize) -> Result<(u32, usize), TlvFault>
     }
 }
 
+/// The tag that begins at a place of a byte string, and the place behind it
+/// (EMV 4.3 Book 3 Annex B1). The fault is `Truncated` or `LongTag`, at that place.
+pub fn read_tag(bytes: &[u8], start: usize) -> Result<(Tag, usize), TlvFault>
+    ensures exact { MatchResult result
+        (λ r. spec.tag_at bytes.now start ≡ Ok (r.0.0, r.1))
+        (λ fault. spec.tag_at bytes.now start ≡ Err fault) }
+    ensures within { IfOk result (λ r. (start < r.1) × (r.1 ≤ length bytes.now)) }
+{
+    let (number, next) = tag_at(bytes, start)?;
+    Ok((Tag(number), next))
+}
+
 #[tactic(auto, unfolding(crate::specs::Item::one_byte_length))]
 fn one_byte_length(bytes: &[u8], start: usize, place: usize) -> Result<(usize, usize), TlvFault>
     requires { place < length bytes.now }

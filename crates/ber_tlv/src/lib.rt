@@ -9,7 +9,7 @@ pub mod walk;
 pub mod write;
 
 pub use cursor::Cursor;
-pub use item::{Item, TlvFault};
+pub use item::{Item, TlvFault, read_tag};
 pub use tag::{Tag, is_constructed, is_readable};
 pub use walk::deep_fault;
 pub use write::{Full, write_item};

@@ -1,5 +1,5 @@
 use crate::cursor::{Cursor, first_fault};
-use crate::item::{Item, TlvFault};
+use crate::item::{Item, TlvFault, read_tag};
 use crate::tag::{Tag, is_constructed, is_readable};
 use crate::walk::deep_fault;
 use crate::write::{Full, write_item};
@@ -62,6 +62,7 @@ fn writes_the_shortest_spelling(rt: HostRuntime) {
     );
     assert!(rt; write_item(&mut out, Tag(0x84), &[1]) == Err(Full { needed: 3, free: 1 }));
     assert!(rt; out.len() == 139);
+    assert!(rt; read_tag(&[0x00, 0x9F, 0x36], 1) == Ok((Tag(0x9F36), 3)));
     assert!(rt; is_constructed(Tag(0x6F)) && !is_constructed(Tag(0x9F36)));
     assert!(rt; is_readable(Tag(0x9F36)) && !is_readable(Tag(0x9F)) && !is_readable(Tag(0x9F81)));
 }

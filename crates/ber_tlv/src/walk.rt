@@ -1,5 +1,5 @@
 ghost use Rattle.std.specs.Prelude.{◌≡◌, ◌≤◌, ◌↔◌, IsNone, length};
-ghost use Rattle.ber_tlv.specs.Walked.{Forest, Spells, walk_behind, walk_fault, walk_of};
+ghost use Rattle.ber_tlv.specs.Walked.{Forest, Spells, walk_behind, walk_fault, walk_of, walk_of_forest};
 
 use crate::cursor::Cursor;
 use crate::item::TlvFault;
@@ -11,6 +11,8 @@ use crate::tag::is_constructed;
 pub fn deep_fault(bytes: &[u8]) -> Option<TlvFault>
     ensures exact { result ≡ walk_fault (walk_of bytes.now) }
     ensures spelled { IsNone result ↔ ((forest : Forest) × Spells bytes.now 0 forest) }
+    // The walk of bytes that a forest spells is the walk of the forest.
+    ensures walk { (forest : Forest) → Spells bytes.now 0 forest → walk_of bytes.now ≡ walk_of_forest forest }
 {
     fault_behind(&mut Cursor::new(bytes))
 }

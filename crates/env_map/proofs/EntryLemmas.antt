@@ -1,7 +1,6 @@
 -- How the entries change as values and places do.
-use Rattle.std.proofs.Common.{◌≡◌, ℕ, zero, suc, Bool, true, false, ◌+◌, ◌-◌, ◌<◌, ◌≤◌, ◌==◌, nat_lt, nat_le, if◌then◌else◌, List, [], ◌∷◌, ◌++◌, length, take, drop, Option, Some, None, is_some, option_map, Result, Ok, Err, refl, arith, sym, ap, ◌∙◌, append_assoc, length-append, length-drop, min, sum_by, ◌⊎◌, inl, inr, subst, MatchOption}
-use Rattle.std.specs.List.{insert, AllByRecursion, filter, find, refill}
-use Rattle.std.specs.Option.{ForSome}
+use Rattle.std.proofs.Common.{◌≡◌, ℕ, zero, suc, Bool, true, false, ◌+◌, ◌<◌, ◌≤◌, ◌==◌, nat_lt, if◌then◌else◌, List, [], ◌∷◌, ◌++◌, length, take, drop, Option, Some, None, is_some, option_map, Ok, Err, refl, arith, sym, ap, ◌∙◌, append_assoc, length-append, length-drop, ◌⊎◌, inl, inr, subst, MatchOption}
+use Rattle.std.specs.List.{insert, AllByRecursion, find, refill}
 use Rattle.std.proofs.lemmas.List.{length-take, length-take-le, take_at, drop_at, drop-drop}
 use Rattle.std.proofs.lemmas.List.Sums.{sum_by-cons}
 use Rattle.std.proofs.Math.Seq.{take-add}
@@ -10,8 +9,7 @@ use Rattle.env_map.specs.Entries.{Entries, IsRising, value_of, with_entry, with_
 use Rattle.env_map.specs.Places.{entries_of, count_of_bytes, index_for, start_for, start_at}
 use Rattle.env_map.specs.Put.{put_of, set_of}
 use Rattle.env_map.specs.declared.place.Place.{Place}
-use Rattle.env_map.specs.declared.env.EnvFault.{EnvFault}
-use Rattle.env_map.specs.declared.env.EnvFault.TheVariants.{Repeated, TooMany, TooLong}
+use Rattle.env_map.specs.declared.env.EnvFault.TheVariants.{TooMany, TooLong}
 
 pub length-entries_of : (bytes : List ℕ) (places : List Place) → length (entries_of bytes places) ≡ length places
 length-entries_of bytes [] = refl
@@ -20,12 +18,12 @@ length-entries_of bytes (place ∷ places) = ap suc (length-entries_of (drop pla
 pub size_of_values-entries_of : (bytes : List ℕ) (places : List Place) → count_of_bytes places ≤ length bytes → size_of_values (entries_of bytes places) ≡ count_of_bytes places
 size_of_values-entries_of bytes [] within = refl
 size_of_values-entries_of bytes (place ∷ places) within =
-  let here : length (take place.count bytes) ≡ place.count = length-take-le place.count bytes (omega arith) in
-  let rest : size_of_values (entries_of (drop place.count bytes) places) ≡ count_of_bytes places =
+    let here : length (take place.count bytes) ≡ place.count = length-take-le place.count bytes (omega arith) in
+    let rest : size_of_values (entries_of (drop place.count bytes) places) ≡ count_of_bytes places =
     size_of_values-entries_of (drop place.count bytes) places (omega (arith, length-drop place.count bytes)) in
-  let step : size_of_values (entries_of bytes (place ∷ places)) ≡ length (take place.count bytes) + size_of_values (entries_of (drop place.count bytes) places) =
+    let step : size_of_values (entries_of bytes (place ∷ places)) ≡ length (take place.count bytes) + size_of_values (entries_of (drop place.count bytes) places) =
     sum_by-cons {X = ℕ × List ℕ} (λ entry. length entry.1) (place.tag.0, take place.count bytes) (entries_of (drop place.count bytes) places) in
-  step ∙ rw (here, rest) refl
+    step ∙ rw (here, rest) refl
 
 -- the first value, and the others behind it
 entries_of-first : (front rest : List ℕ) (place : Place) (places : List Place) → length front ≡ place.count → entries_of (front ++ rest) (place ∷ places) ≡ (place.tag.0, front) ∷ entries_of rest places
@@ -33,7 +31,7 @@ entries_of-first front rest place places e = rw (take_at front rest place.count 
 
 -- the bytes with a value between, split behind the first of them
 value_between : (count start : ℕ) (bytes value : List ℕ) → take (count + start) bytes ++ (value ++ drop (count + start) bytes)
-  ≡ take count bytes ++ (take start (drop count bytes) ++ (value ++ drop start (drop count bytes)))
+    ≡ take count bytes ++ (take start (drop count bytes) ++ (value ++ drop start (drop count bytes)))
 value_between count start bytes value = rw (take-add count start bytes, ← drop-drop start count bytes) (append_assoc (take count bytes) (take start (drop count bytes)) _)
 
 -- the bytes with a value where an object of this tag goes
@@ -41,23 +39,23 @@ abbrev pub bytes_with : ℕ → List ℕ → List ℕ → List Place → List �
 bytes_with tag value bytes places = take (start_for tag places) bytes ++ (value ++ drop (start_for tag places) bytes)
 
 entries_of-insert_at : (test : Bool) (bytes value : List ℕ) (first : Place) (places : List Place) (place : Place) → nat_lt place.tag.0 first.tag.0 ≡ test
-  → place.count ≡ length value → first.count ≤ length bytes
-  → entries_of (bytes_with place.tag.0 value (drop first.count bytes) places) (insert places (index_for place.tag.0 places) place) ≡ with_entry place.tag.0 value (entries_of (drop first.count bytes) places)
-  → entries_of (bytes_with place.tag.0 value bytes (first ∷ places)) (insert (first ∷ places) (index_for place.tag.0 (first ∷ places)) place) ≡ with_entry place.tag.0 value (entries_of bytes (first ∷ places))
+    → place.count ≡ length value → first.count ≤ length bytes
+    → entries_of (bytes_with place.tag.0 value (drop first.count bytes) places) (insert places (index_for place.tag.0 places) place) ≡ with_entry place.tag.0 value (entries_of (drop first.count bytes) places)
+    → entries_of (bytes_with place.tag.0 value bytes (first ∷ places)) (insert (first ∷ places) (index_for place.tag.0 (first ∷ places)) place) ≡ with_entry place.tag.0 value (entries_of bytes (first ∷ places))
 entries_of-insert_at true bytes value first places place test e within later =
-  rw test (entries_of-first value bytes place (first ∷ places) (sym e))
+    rw test (entries_of-first value bytes place (first ∷ places) (sym e))
 entries_of-insert_at false bytes value first places place test e within later =
-  let between = value_between first.count (start_for place.tag.0 places) bytes value in
-  let kept = entries_of-first (take first.count bytes) (bytes_with place.tag.0 value (drop first.count bytes) places) first
+    let between = value_between first.count (start_for place.tag.0 places) bytes value in
+    let kept = entries_of-first (take first.count bytes) (bytes_with place.tag.0 value (drop first.count bytes) places) first
     (insert places (index_for place.tag.0 places) place) (length-take-le first.count bytes within) in
-  rw (test, between) (kept ∙ ap (λ entries. (first.tag.0, take first.count bytes) ∷ entries) later)
+    rw (test, between) (kept ∙ ap (λ entries. (first.tag.0, take first.count bytes) ∷ entries) later)
 
 -- an entry more, before the first greater tag
 pub entries_of-insert : (bytes value : List ℕ) (places : List Place) (place : Place) → place.count ≡ length value → count_of_bytes places ≤ length bytes
-  → entries_of (bytes_with place.tag.0 value bytes places) (insert places (index_for place.tag.0 places) place) ≡ with_entry place.tag.0 value (entries_of bytes places)
+    → entries_of (bytes_with place.tag.0 value bytes places) (insert places (index_for place.tag.0 places) place) ≡ with_entry place.tag.0 value (entries_of bytes places)
 entries_of-insert bytes value [] place e within = entries_of-first value bytes place [] (sym e)
 entries_of-insert bytes value (first ∷ places) place e within =
-  entries_of-insert_at (nat_lt place.tag.0 first.tag.0) bytes value first places place refl e (omega arith)
+    entries_of-insert_at (nat_lt place.tag.0 first.tag.0) bytes value first places place refl e (omega arith)
     (entries_of-insert (drop first.count bytes) value places place e (omega (arith, length-drop first.count bytes)))
 
 -- these tags are above this one
@@ -69,45 +67,45 @@ AllAbove-lower low high [] below all = tt
 AllAbove-lower low high (entry ∷ entries) below (first, all) = (omega arith, AllAbove-lower low high entries below all)
 
 AllAbove-with_at : (test : Bool) (least tag : ℕ) (value : List ℕ) (entry : ℕ × List ℕ) (entries : Entries) → nat_lt tag entry.0 ≡ test → least < tag → AllAbove least (entry ∷ entries)
-  → AllAbove least (with_entry tag value entries) → AllAbove least (with_entry tag value (entry ∷ entries))
+    → AllAbove least (with_entry tag value entries) → AllAbove least (with_entry tag value (entry ∷ entries))
 AllAbove-with_at true least tag value entry entries test below all later = rw test (below, all)
 AllAbove-with_at false least tag value entry entries test below all later = rw test (all.0, later)
 
 AllAbove-with : (least tag : ℕ) (value : List ℕ) (entries : Entries) → least < tag → AllAbove least entries → AllAbove least (with_entry tag value entries)
 AllAbove-with least tag value [] below all = (below, tt)
 AllAbove-with least tag value (entry ∷ entries) below all =
-  AllAbove-with_at (nat_lt tag entry.0) least tag value entry entries refl below all (AllAbove-with least tag value entries below all.1)
+    AllAbove-with_at (nat_lt tag entry.0) least tag value entry entries refl below all (AllAbove-with least tag value entries below all.1)
 
 absent_later : (tag : ℕ) (entry : ℕ × List ℕ) (entries : Entries) → value_of tag (entry ∷ entries) ≡ None → (value_of tag entries ≡ None) × (entry.0 ≡ tag → ⊥)
 absent_later tag entry entries absent = (grind arith, λ e. grind arith)
 
 IsRising-with_at : (test : Bool) (tag : ℕ) (value : List ℕ) (entry : ℕ × List ℕ) (entries : Entries) → nat_lt tag entry.0 ≡ test → (entry.0 ≡ tag → ⊥) → IsRising (entry ∷ entries)
-  → IsRising (with_entry tag value entries) → IsRising (with_entry tag value (entry ∷ entries))
+    → IsRising (with_entry tag value entries) → IsRising (with_entry tag value (entry ∷ entries))
 IsRising-with_at true tag value entry entries test other rising later =
-  let below : tag < entry.0 = grind arith in
-  rw test ((below, AllAbove-lower tag entry.0 entries (omega arith) rising.0), rising)
+    let below : tag < entry.0 = grind arith in
+    rw test ((below, AllAbove-lower tag entry.0 entries (omega arith) rising.0), rising)
 IsRising-with_at false tag value entry entries test other rising later =
-  let above : entry.0 < tag = grind arith in
-  rw test (AllAbove-with entry.0 tag value entries above rising.0, later)
+    let above : entry.0 < tag = grind arith in
+    rw test (AllAbove-with entry.0 tag value entries above rising.0, later)
 
 -- one entry more, of a tag that is absent, keeps the order
 pub IsRising-with : (tag : ℕ) (value : List ℕ) (entries : Entries) → value_of tag entries ≡ None → IsRising entries → IsRising (with_entry tag value entries)
 IsRising-with tag value [] absent rising = (tt, tt)
 IsRising-with tag value (entry ∷ entries) absent rising =
-  let later = absent_later tag entry entries absent in
-  IsRising-with_at (nat_lt tag entry.0) tag value entry entries refl later.1 rising (IsRising-with tag value entries later.0 rising.1)
+    let later = absent_later tag entry entries absent in
+    IsRising-with_at (nat_lt tag entry.0) tag value entry entries refl later.1 rising (IsRising-with tag value entries later.0 rising.1)
 
 pub count_of_bytes-insert : (places : List Place) (index : ℕ) (place : Place) → count_of_bytes (insert places index place) ≡ place.count + count_of_bytes places
 count_of_bytes-insert places zero place = refl
 count_of_bytes-insert [] (suc index) place = refl
 count_of_bytes-insert (first ∷ places) (suc index) place =
-  let later = count_of_bytes-insert places index place in omega arith
+    let later = count_of_bytes-insert places index place in omega arith
 
 pub length-bytes_with : (start : ℕ) (bytes value : List ℕ) → length (take start bytes ++ (value ++ drop start bytes)) ≡ length value + length bytes
 length-bytes_with start bytes value = simp (length-append, length-take, length-drop) (omega arith)
 
 start_at-value_of_first : (test : Bool) (count : ℕ) (start : Option ℕ) (found : List ℕ) (value : Option (List ℕ)) → is_some start ≡ is_some value
-  → is_some (if test then Some 0 else option_map (λ behind. count + behind) start) ≡ is_some (if test then Some found else value)
+    → is_some (if test then Some 0 else option_map (λ behind. count + behind) start) ≡ is_some (if test then Some found else value)
 start_at-value_of_first true count start found value later = refl
 start_at-value_of_first false count None found value later = later
 start_at-value_of_first false count (Some start) found value later = later
@@ -116,7 +114,7 @@ start_at-value_of_first false count (Some start) found value later = later
 pub start_at-value_of : (bytes : List ℕ) (places : List Place) (tag : ℕ) → is_some (start_at tag places) ≡ is_some (value_of tag (entries_of bytes places))
 start_at-value_of bytes [] tag = refl
 start_at-value_of bytes (place ∷ places) tag =
-  start_at-value_of_first (place.tag.0 == tag) place.count (start_at tag places) (take place.count bytes) _ (start_at-value_of (drop place.count bytes) places tag)
+    start_at-value_of_first (place.tag.0 == tag) place.count (start_at tag places) (take place.count bytes) _ (start_at-value_of (drop place.count bytes) places tag)
 
 -- the bytes with a value over others of the same length
 abbrev pub bytes_over : ℕ → List ℕ → List ℕ → List ℕ
@@ -124,12 +122,12 @@ bytes_over start value bytes = take start bytes ++ (value ++ drop (start + lengt
 
 value_over : (count start : ℕ) (bytes value : List ℕ) → bytes_over (count + start) value bytes ≡ take count bytes ++ bytes_over start value (drop count bytes)
 value_over count start bytes value =
-  let far : count + start + length value ≡ count + (start + length value) = omega arith in
-  rw (take-add count start bytes, far, ← drop-drop (start + length value) count bytes) (append_assoc (take count bytes) (take start (drop count bytes)) _)
+    let far : count + start + length value ≡ count + (start + length value) = omega arith in
+    rw (take-add count start bytes, far, ← drop-drop (start + length value) count bytes) (append_assoc (take count bytes) (take start (drop count bytes)) _)
 
 -- what a search for a tag's place and value found, at the first object or behind it
 first_or_later : (test : Bool) (count start : ℕ) (later : Option ℕ) → (if test then Some 0 else option_map (λ behind. count + behind) later) ≡ Some start
-  → ((test ≡ true) × (start ≡ 0)) ⊎ ((test ≡ false) × ((behind : ℕ) × (later ≡ Some behind) × (start ≡ count + behind)))
+    → ((test ≡ true) × (start ≡ 0)) ⊎ ((test ≡ false) × ((behind : ℕ) × (later ≡ Some behind) × (start ≡ count + behind)))
 first_or_later true count start later e = inl (refl, cc)
 first_or_later false count start None e = cc
 first_or_later false count start (Some behind) e = inr (refl, (behind, refl, cc))
@@ -142,62 +140,64 @@ value_later test value found later is e = grind arith
 
 -- the bytes of a value, and where they end
 pub value_within : (bytes old : List ℕ) (places : List Place) (tag start : ℕ) → count_of_bytes places ≤ length bytes → start_at tag places ≡ Some start → value_of tag (entries_of bytes places) ≡ Some old
-  → start + length old ≤ count_of_bytes places
+    → start + length old ≤ count_of_bytes places
 value_within bytes old [] tag start within is_start is_old = cc
 value_within bytes old (place ∷ places) tag start within is_start is_old =
-  elim (first_or_later (place.tag.0 == tag) place.count start (start_at tag places) is_start) [
-    inl (here, at_front) ↦
-      let same = value_here (place.tag.0 == tag) old (take place.count bytes) _ here is_old in
-      let count : length old ≡ place.count = ap length (sym same) ∙ length-take-le place.count bytes (omega arith) in
-      omega arith
-  | inr (other, (behind, is_behind, is_far)) ↦
-      let later = value_later (place.tag.0 == tag) old (take place.count bytes) _ other is_old in
-      let fits = value_within (drop place.count bytes) old places tag behind (omega (arith, length-drop place.count bytes)) is_behind later in
-      omega arith ]
+    elim (first_or_later (place.tag.0 == tag) place.count start (start_at tag places) is_start) [
+      | inl (here, at_front) ↦
+          let same = value_here (place.tag.0 == tag) old (take place.count bytes) _ here is_old in
+          let count : length old ≡ place.count = ap length (sym same) ∙ length-take-le place.count bytes (omega arith) in
+          omega arith
+      | inr (other, (behind, is_behind, is_far)) ↦
+          let later = value_later (place.tag.0 == tag) old (take place.count bytes) _ other is_old in
+          let fits = value_within (drop place.count bytes) old places tag behind (omega (arith, length-drop place.count bytes)) is_behind later in
+          omega arith
+    ]
 
 -- another value of the same length, written over
 pub entries_of-over : (bytes value old : List ℕ) (places : List Place) (tag start : ℕ) → count_of_bytes places ≤ length bytes → start_at tag places ≡ Some start → value_of tag (entries_of bytes places) ≡ Some old
-  → length old ≡ length value → entries_of (bytes_over start value bytes) places ≡ with_value tag value (entries_of bytes places)
+    → length old ≡ length value → entries_of (bytes_over start value bytes) places ≡ with_value tag value (entries_of bytes places)
 entries_of-over bytes value old [] tag start within is_start is_old same_length = cc
 entries_of-over bytes value old (place ∷ places) tag start within is_start is_old same_length =
-  elim (first_or_later (place.tag.0 == tag) place.count start (start_at tag places) is_start) [
-    inl (here, at_front) ↦
-      let same = value_here (place.tag.0 == tag) old (take place.count bytes) _ here is_old in
-      let count : length value ≡ place.count = sym same_length ∙ ap length (sym same) ∙ length-take-le place.count bytes (omega arith) in
-      let number : 0 + length value ≡ place.count = omega arith in
-      let is_tag : place.tag.0 ≡ tag = grind arith in
-      rw (at_front, here, number) (entries_of-first value (drop place.count bytes) place places count
-        ∙ ap (λ first. (first, value) ∷ entries_of (drop place.count bytes) places) is_tag)
-  | inr (other, (behind, is_behind, is_far)) ↦
-      let later = value_later (place.tag.0 == tag) old (take place.count bytes) _ other is_old in
-      let rest = entries_of-over (drop place.count bytes) value old places tag behind (omega (arith, length-drop place.count bytes)) is_behind later same_length in
-      let kept = entries_of-first (take place.count bytes) (bytes_over behind value (drop place.count bytes)) place places (length-take-le place.count bytes (omega arith)) in
-      rw (is_far, value_over place.count behind bytes value, other) (kept ∙ ap (λ entries. (place.tag.0, take place.count bytes) ∷ entries) rest) ]
+    elim (first_or_later (place.tag.0 == tag) place.count start (start_at tag places) is_start) [
+      | inl (here, at_front) ↦
+          let same = value_here (place.tag.0 == tag) old (take place.count bytes) _ here is_old in
+          let count : length value ≡ place.count = sym same_length ∙ ap length (sym same) ∙ length-take-le place.count bytes (omega arith) in
+          let number : 0 + length value ≡ place.count = omega arith in
+          let is_tag : place.tag.0 ≡ tag = grind arith in
+          rw (at_front, here, number) (entries_of-first value (drop place.count bytes) place places count
+          ∙ ap (λ first. (first, value) ∷ entries_of (drop place.count bytes) places) is_tag)
+      | inr (other, (behind, is_behind, is_far)) ↦
+          let later = value_later (place.tag.0 == tag) old (take place.count bytes) _ other is_old in
+          let rest = entries_of-over (drop place.count bytes) value old places tag behind (omega (arith, length-drop place.count bytes)) is_behind later same_length in
+          let kept = entries_of-first (take place.count bytes) (bytes_over behind value (drop place.count bytes)) place places (length-take-le place.count bytes (omega arith)) in
+          rw (is_far, value_over place.count behind bytes value, other) (kept ∙ ap (λ entries. (place.tag.0, take place.count bytes) ∷ entries) rest)
+    ]
 
 AllAbove-value_at : (test : Bool) (least tag : ℕ) (value : List ℕ) (entry : ℕ × List ℕ) (entries : Entries) → (entry.0 == tag) ≡ test → AllAbove least (entry ∷ entries)
-  → AllAbove least (with_value tag value entries) → AllAbove least (with_value tag value (entry ∷ entries))
+    → AllAbove least (with_value tag value entries) → AllAbove least (with_value tag value (entry ∷ entries))
 AllAbove-value_at true least tag value entry entries test all later =
-  let is_tag : entry.0 ≡ tag = grind arith in
-  rw test (omega (arith, all.0), all.1)
+    let is_tag : entry.0 ≡ tag = grind arith in
+    rw test (omega (arith, all.0), all.1)
 AllAbove-value_at false least tag value entry entries test all later = rw test (all.0, later)
 
 AllAbove-value : (least tag : ℕ) (value : List ℕ) (entries : Entries) → AllAbove least entries → AllAbove least (with_value tag value entries)
 AllAbove-value least tag value [] all = tt
 AllAbove-value least tag value (entry ∷ entries) all =
-  AllAbove-value_at (entry.0 == tag) least tag value entry entries refl all (AllAbove-value least tag value entries all.1)
+    AllAbove-value_at (entry.0 == tag) least tag value entry entries refl all (AllAbove-value least tag value entries all.1)
 
 IsRising-value_at : (test : Bool) (tag : ℕ) (value : List ℕ) (entry : ℕ × List ℕ) (entries : Entries) → (entry.0 == tag) ≡ test → IsRising (entry ∷ entries)
-  → IsRising (with_value tag value entries) → IsRising (with_value tag value (entry ∷ entries))
+    → IsRising (with_value tag value entries) → IsRising (with_value tag value (entry ∷ entries))
 IsRising-value_at true tag value entry entries test rising later =
-  let is_tag : entry.0 ≡ tag = grind arith in
-  rw test (AllAbove-lower tag entry.0 entries (omega arith) rising.0, rising.1)
+    let is_tag : entry.0 ≡ tag = grind arith in
+    rw test (AllAbove-lower tag entry.0 entries (omega arith) rising.0, rising.1)
 IsRising-value_at false tag value entry entries test rising later = rw test (AllAbove-value entry.0 tag value entries rising.0, later)
 
 -- another value keeps the order
 pub IsRising-value : (tag : ℕ) (value : List ℕ) (entries : Entries) → IsRising entries → IsRising (with_value tag value entries)
 IsRising-value tag value [] rising = tt
 IsRising-value tag value (entry ∷ entries) rising =
-  IsRising-value_at (entry.0 == tag) tag value entry entries refl rising (IsRising-value tag value entries rising.1)
+    IsRising-value_at (entry.0 == tag) tag value entry entries refl rising (IsRising-value tag value entries rising.1)
 
 pub length-bytes_over : (start : ℕ) (value bytes : List ℕ) → start + length value ≤ length bytes → length (bytes_over start value bytes) ≡ length bytes
 length-bytes_over start value bytes within = simp (length-append, length-take, length-drop) (omega arith)
@@ -212,28 +212,28 @@ is_above-higher None low high below e = refl
 is_above-higher (Some tag) low high below e = grind arith
 
 entries_after-first : (test : Bool) (given : Option Tag) (entry : ℕ × List ℕ) (entries : Entries) → is_above given entry.0 ≡ test
-  → entries_after given (entry ∷ entries) ≡ (if test then entry ∷ entries_after given entries else entries_after given entries)
+    → entries_after given (entry ∷ entries) ≡ (if test then entry ∷ entries_after given entries else entries_after given entries)
 entries_after-first true given entry entries test = rw test refl
 entries_after-first false given entry entries test = rw test refl
 
 entries_after-all : (given : Option Tag) (tag : ℕ) (entries : Entries) → is_above given tag ≡ true → AllAbove tag entries → entries_after given entries ≡ entries
 entries_after-all given tag [] above all = refl
 entries_after-all given tag (entry ∷ entries) above all =
-  entries_after-first true given entry entries (is_above-higher given tag entry.0 all.0 above)
-  ∙ ap (λ rest. entry ∷ rest) (entries_after-all given tag entries above all.1)
+    entries_after-first true given entry entries (is_above-higher given tag entry.0 all.0 above)
+    ∙ ap (λ rest. entry ∷ rest) (entries_after-all given tag entries above all.1)
 
 entries_after_own : (tag : ℕ) (entries : Entries) → AllAbove tag entries → entries_after (Some (record { 0 = tag })) entries ≡ entries
 entries_after_own tag [] all = refl
 entries_after_own tag (entry ∷ entries) all =
-  let above : is_above (Some (record { 0 = tag })) entry.0 ≡ true = grind arith in
-  entries_after-first true (Some (record { 0 = tag })) entry entries above ∙ ap (λ rest. entry ∷ rest) (entries_after_own tag entries all.1)
+    let above : is_above (Some (record { 0 = tag })) entry.0 ≡ true = grind arith in
+    entries_after-first true (Some (record { 0 = tag })) entry entries above ∙ ap (λ rest. entry ∷ rest) (entries_after_own tag entries all.1)
 
 -- the first entry above a tag
 abbrev pub first_after : Option Tag → Entries → Option (ℕ × List ℕ)
 first_after given entries = find (λ entry. is_above given entry.0) entries
 
 first_after-first : (test : Bool) (given : Option Tag) (entry : ℕ × List ℕ) (entries : Entries) → is_above given entry.0 ≡ test
-  → first_after given (entry ∷ entries) ≡ (if test then Some entry else first_after given entries)
+    → first_after given (entry ∷ entries) ≡ (if test then Some entry else first_after given entries)
 first_after-first true given entry entries test = rw test refl
 first_after-first false given entry entries test = rw test refl
 
@@ -249,45 +249,45 @@ FoundAbove-first false tag entry later here found = found
 FoundAbove-found : (given : Option Tag) (tag : ℕ) (entries : Entries) → AllAbove tag entries → FoundAbove tag (first_after given entries)
 FoundAbove-found given tag [] all = tt
 FoundAbove-found given tag (entry ∷ entries) all =
-  FoundAbove-first (is_above given entry.0) tag entry (first_after given entries) all.0 (FoundAbove-found given tag entries all.1)
+    FoundAbove-first (is_above given entry.0) tag entry (first_after given entries) all.0 (FoundAbove-found given tag entries all.1)
 
 Follows-later : (given : Option Tag) (entry : ℕ × List ℕ) (entries : Entries) (found : Option (ℕ × List ℕ)) → is_above given entry.0 ≡ false → FoundAbove entry.0 found
-  → Follows given entries found → Follows given (entry ∷ entries) found
+    → Follows given entries found → Follows given (entry ∷ entries) found
 unfolding Follows
 Follows-later given entry entries None skipped above follows = entries_after-first false given entry entries skipped ∙ follows
 Follows-later given entry entries (Some found) skipped above follows =
-  let passed : is_above (Some (record { 0 = found.0 })) entry.0 ≡ false = grind arith in
-  entries_after-first false given entry entries skipped ∙ follows
-  ∙ ap (λ rest. found ∷ rest) (sym (entries_after-first false (Some (record { 0 = found.0 })) entry entries passed))
+    let passed : is_above (Some (record { 0 = found.0 })) entry.0 ≡ false = grind arith in
+    entries_after-first false given entry entries skipped ∙ follows
+    ∙ ap (λ rest. found ∷ rest) (sym (entries_after-first false (Some (record { 0 = found.0 })) entry entries passed))
 
 Follows-at : (test : Bool) (given : Option Tag) (entry : ℕ × List ℕ) (entries : Entries) → is_above given entry.0 ≡ test → IsRising (entry ∷ entries)
-  → Follows given entries (first_after given entries) → Follows given (entry ∷ entries) (if test then Some entry else first_after given entries)
+    → Follows given entries (first_after given entries) → Follows given (entry ∷ entries) (if test then Some entry else first_after given entries)
 unfolding Follows
 Follows-at true given entry entries test rising follows =
-  let here : is_above (Some (record { 0 = entry.0 })) entry.0 ≡ false = grind arith in
-  let all = entries_after-all given entry.0 entries test rising.0 in
-  let behind : entries_after (Some (record { 0 = entry.0 })) entries ≡ entries = entries_after_own entry.0 entries rising.0 in
-  entries_after-first true given entry entries test
-  ∙ ap (λ rest. entry ∷ rest) (all ∙ sym behind ∙ sym (entries_after-first false (Some (record { 0 = entry.0 })) entry entries here))
+    let here : is_above (Some (record { 0 = entry.0 })) entry.0 ≡ false = grind arith in
+    let all = entries_after-all given entry.0 entries test rising.0 in
+    let behind : entries_after (Some (record { 0 = entry.0 })) entries ≡ entries = entries_after_own entry.0 entries rising.0 in
+    entries_after-first true given entry entries test
+    ∙ ap (λ rest. entry ∷ rest) (all ∙ sym behind ∙ sym (entries_after-first false (Some (record { 0 = entry.0 })) entry entries here))
 Follows-at false given entry entries test rising follows =
-  Follows-later given entry entries (first_after given entries) test (FoundAbove-found given entry.0 entries rising.0) follows
+    Follows-later given entry entries (first_after given entries) test (FoundAbove-found given entry.0 entries rising.0) follows
 
 pub Follows-found : (given : Option Tag) (entries : Entries) → IsRising entries → Follows given entries (first_after given entries)
 unfolding Follows
 Follows-found given [] rising = refl
 Follows-found given (entry ∷ entries) rising =
-  rw (first_after-first (is_above given entry.0) given entry entries refl)
+    rw (first_after-first (is_above given entry.0) given entry entries refl)
     (Follows-at (is_above given entry.0) given entry entries refl rising (Follows-found given entries rising.1))
 
 -- the same of what a search returned
 pub Follows-returned : {X : Type 0} (shown : X → ℕ × List ℕ) (result : Option X) (given : Option Tag) (entries : Entries) → IsRising entries
-  → option_map shown result ≡ first_after given entries
-  → MatchOption result (entries_after given entries ≡ []) (λ entry. entries_after given entries ≡ shown entry ∷ entries_after (Some (record { 0 = (shown entry).0 })) entries)
+    → option_map shown result ≡ first_after given entries
+    → MatchOption result (entries_after given entries ≡ []) (λ entry. entries_after given entries ≡ shown entry ∷ entries_after (Some (record { 0 = (shown entry).0 })) entries)
 unfolding Follows
 Follows-returned shown None given entries rising found =
-  let P : Option (ℕ × List ℕ) → Type 0 = λ o. Follows given entries o in subst P (sym found) (Follows-found given entries rising)
+    let P : Option (ℕ × List ℕ) → Type 0 = λ o. Follows given entries o in subst P (sym found) (Follows-found given entries rising)
 Follows-returned shown (Some entry) given entries rising found =
-  let P : Option (ℕ × List ℕ) → Type 0 = λ o. Follows given entries o in subst P (sym found) (Follows-found given entries rising)
+    let P : Option (ℕ × List ℕ) → Type 0 = λ o. Follows given entries o in subst P (sym found) (Follows-found given entries rising)
 
 -- what `put` and `set` make of an absent tag
 pub absent : {X : Type 0} (shown : X → List ℕ) (result : Option X) (value : Option (List ℕ)) → option_map shown result ≡ value → is_some result ≡ false → value ≡ None
@@ -301,22 +301,22 @@ pub put_of-long : (tag : Tag) (value : List ℕ) (entries : Entries) → value_o
 put_of-long tag value entries none few long = rw none (grind arith)
 
 pub put_of-fits : (tag : Tag) (value : List ℕ) (entries : Entries) → value_of tag.0 entries ≡ None → length entries < 512 → size_of_values entries + length value ≤ 16384
-  → put_of tag value entries ≡ Ok (with_entry tag.0 value entries)
+    → put_of tag value entries ≡ Ok (with_entry tag.0 value entries)
 put_of-fits tag value entries none few short = rw none (grind arith)
 
 -- the entries of the bytes and places as `put` leaves them
 pub entries_of-put : (bytes value new_bytes : List ℕ) (places new_places : List Place) (tag : Tag) (index start : ℕ) → count_of_bytes places ≤ length bytes
-  → index ≡ index_for tag.0 places → start ≡ start_for tag.0 places
-  → new_bytes ≡ take start bytes ++ (value ++ drop start bytes) → new_places ≡ insert places index (record { tag = tag; count = length value })
-  → entries_of new_bytes new_places ≡ with_entry tag.0 value (entries_of bytes places)
+    → index ≡ index_for tag.0 places → start ≡ start_for tag.0 places
+    → new_bytes ≡ take start bytes ++ (value ++ drop start bytes) → new_places ≡ insert places index (record { tag = tag; count = length value })
+    → entries_of new_bytes new_places ≡ with_entry tag.0 value (entries_of bytes places)
 entries_of-put bytes value new_bytes places new_places tag index start within is_index is_start is_bytes is_places =
-  rw (is_bytes, is_places, is_index, is_start) (entries_of-insert bytes value places (record { tag = tag; count = length value }) refl within)
+    rw (is_bytes, is_places, is_index, is_start) (entries_of-insert bytes value places (record { tag = tag; count = length value }) refl within)
 
 pub filled-put : (bytes value new_bytes : List ℕ) (places new_places : List Place) (tag : Tag) (index start : ℕ) → count_of_bytes places ≡ length bytes
-  → new_bytes ≡ take start bytes ++ (value ++ drop start bytes) → new_places ≡ insert places index (record { tag = tag; count = length value })
-  → count_of_bytes new_places ≡ length new_bytes
+    → new_bytes ≡ take start bytes ++ (value ++ drop start bytes) → new_places ≡ insert places index (record { tag = tag; count = length value })
+    → count_of_bytes new_places ≡ length new_bytes
 filled-put bytes value new_bytes places new_places tag index start filled is_bytes is_places =
-  rw (is_bytes, is_places, count_of_bytes-insert places index (record { tag = tag; count = length value }), length-bytes_with start bytes value, filled) refl
+    rw (is_bytes, is_places, count_of_bytes-insert places index (record { tag = tag; count = length value }), length-bytes_with start bytes value, filled) refl
 
 some_value : (value : Option (List ℕ)) → is_some value ≡ true → (old : List ℕ) × (value ≡ Some old)
 some_value None e = cc
@@ -325,28 +325,28 @@ some_value (Some old) e = (old, refl)
 -- a tag that has a place has a value
 pub present : (bytes : List ℕ) (places : List Place) (tag start : ℕ) → start_at tag places ≡ Some start → (old : List ℕ) × (value_of tag (entries_of bytes places) ≡ Some old)
 present bytes places tag start is_start =
-  some_value (value_of tag (entries_of bytes places)) (sym (start_at-value_of bytes places tag) ∙ ap is_some is_start)
+    some_value (value_of tag (entries_of bytes places)) (sym (start_at-value_of bytes places tag) ∙ ap is_some is_start)
 
 -- the value of a tag that has a place ends within the bytes
 pub over_within : (bytes value : List ℕ) (places : List Place) (tag start : ℕ) → count_of_bytes places ≡ length bytes → start_at tag places ≡ Some start
-  → ((old : List ℕ) → value_of tag (entries_of bytes places) ≡ Some old → length old ≡ length value) → start + length value ≤ length bytes
+    → ((old : List ℕ) → value_of tag (entries_of bytes places) ≡ Some old → length old ≡ length value) → start + length value ≤ length bytes
 over_within bytes value places tag start filled is_start same_length =
-  let old = present bytes places tag start is_start in
-  let fits = value_within bytes old.0 places tag start (omega arith) is_start old.1 in
-  let same = same_length old.0 old.1 in
-  omega arith
+    let old = present bytes places tag start is_start in
+    let fits = value_within bytes old.0 places tag start (omega arith) is_start old.1 in
+    let same = same_length old.0 old.1 in
+    omega arith
 
 -- the bytes as a write over a part of them leaves them
 pub refilled : (bytes value new_bytes : List ℕ) (start : ℕ) → start + length value ≤ length bytes → new_bytes ≡ bytes_over start value bytes → refill (length bytes) bytes new_bytes ≡ bytes_over start value bytes
 refilled bytes value new_bytes start within is_bytes =
-  take_at new_bytes (drop (length new_bytes) bytes) (length bytes) (ap length is_bytes ∙ length-bytes_over start value bytes within) ∙ is_bytes
+    take_at new_bytes (drop (length new_bytes) bytes) (length bytes) (ap length is_bytes ∙ length-bytes_over start value bytes within) ∙ is_bytes
 
 pub entries_of-set : (bytes value : List ℕ) (places : List Place) (tag start : ℕ) → count_of_bytes places ≡ length bytes → start_at tag places ≡ Some start
-  → ((old : List ℕ) → value_of tag (entries_of bytes places) ≡ Some old → length old ≡ length value)
-  → entries_of (bytes_over start value bytes) places ≡ with_value tag value (entries_of bytes places)
+    → ((old : List ℕ) → value_of tag (entries_of bytes places) ≡ Some old → length old ≡ length value)
+    → entries_of (bytes_over start value bytes) places ≡ with_value tag value (entries_of bytes places)
 entries_of-set bytes value places tag start filled is_start same_length =
-  let old = present bytes places tag start is_start in
-  entries_of-over bytes value old.0 places tag start (omega arith) is_start old.1 (same_length old.0 old.1)
+    let old = present bytes places tag start is_start in
+    entries_of-over bytes value old.0 places tag start (omega arith) is_start old.1 (same_length old.0 old.1)
 
 pub set_of-present : (tag : Tag) (value : List ℕ) (entries : Entries) → is_some (value_of tag.0 entries) ≡ true → set_of tag value entries ≡ Ok (with_value tag.0 value entries)
 set_of-present tag value entries there = rw there refl

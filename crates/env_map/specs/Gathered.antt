@@ -1,6 +1,6 @@
 -- The primitive objects of a byte string put into a map, in the order of their first bytes, at any
 -- depth (EMV 4.3 Book 3 section 10.2).
-use Rattle.std.specs.Prelude.{ℕ, if◌then◌else◌, Option, Some, None, Result, Ok, Err}
+use Rattle.std.specs.Prelude.{if◌then◌else◌, Option, Some, None, Result, Ok, Err}
 use Rattle.ber_tlv.specs.Tag.{names_template}
 use Rattle.ber_tlv.specs.Walked.{Walked, Done, Broken, Met}
 use Rattle.env_map.specs.Entries.{Entries}
@@ -24,5 +24,5 @@ abbrev pub gathered : Entries → Walked → Gathered
 gathered entries Done = record { entries = entries; fault = None }
 gathered entries (Broken fault) = record { entries = entries; fault = Some (Coding fault) }
 gathered entries (Met item rest) =
-  if names_template item.tag then gathered entries rest
-  else after_put entries (put_of (record { 0 = item.tag }) item.value entries) (λ more. gathered more rest)
+    if names_template item.tag then gathered entries rest
+    else after_put entries (put_of (record { 0 = item.tag }) item.value entries) (λ more. gathered more rest)

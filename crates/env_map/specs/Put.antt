@@ -8,12 +8,12 @@ use Rattle.env_map.specs.declared.env.EnvFault.TheVariants.{Repeated, TooMany, T
 -- the map with one more entry, or the first of the three faults
 abbrev pub put_of : Tag → List ℕ → Entries → Result Entries EnvFault
 put_of tag value entries =
-  if is_some (value_of tag.0 entries) then Err (Repeated tag)
-  else if nat_le 512 (length entries) then Err TooMany
-  else if nat_lt 16384 (size_of_values entries + length value) then Err TooLong
-  else Ok (with_entry tag.0 value entries)
+    if is_some (value_of tag.0 entries) then Err (Repeated tag)
+    else if nat_le 512 (length entries) then Err TooMany
+    else if nat_lt 16384 (size_of_values entries + length value) then Err TooLong
+    else Ok (with_entry tag.0 value entries)
 
 -- the map with this value in place of the tag's, or with one more entry where the tag is absent
 abbrev pub set_of : Tag → List ℕ → Entries → Result Entries EnvFault
 set_of tag value entries =
-  if is_some (value_of tag.0 entries) then Ok (with_value tag.0 value entries) else put_of tag value entries
+    if is_some (value_of tag.0 entries) then Ok (with_value tag.0 value entries) else put_of tag value entries

@@ -2,12 +2,10 @@ ghost use Rattle.std.specs.Prelude.{◌≡◌, ◌+◌, ◌<◌, ◌≤◌, [], 
 ghost use Rattle.std.specs.Option.{ForSome};
 ghost use Rattle.env_map.specs.Entries.{Entries, IsRising, value_of, entries_after, size_of_values};
 
-use std::marker::Model;
-
+use crate::place::{Place, first_above, found, insert_bytes, overwrite, slot_for, start_of};
 use arrayvec::ArrayVec;
 use ber_tlv::Tag;
-
-use crate::place::{Place, first_above, found, insert_bytes, overwrite, slot_for, start_of};
+use std::marker::Model;
 
 /// Why an object is not put.
 #[derive(Clone, Copy, PartialEq, Eq, Debug)]
@@ -63,12 +61,10 @@ impl Env {
     /// The entry with the least tag above the given one, or the entry with the least tag where none
     /// is given.
     pub fn after(&self, tag: Option<Tag>) -> Option<(Tag, &[u8])>
-        ensures next {
-            MatchOption result
-              (entries_after tag self.now ≡ [])
-              (λ entry. entries_after tag self.now
-                ≡ (entry.0.0, entry.1.now) ∷ entries_after (Some entry.0) self.now)
-        }
+        ensures next { MatchOption result
+            (entries_after tag self.now ≡ [])
+            (λ entry. entries_after tag self.now
+            ≡ (entry.0.0, entry.1.now) ∷ entries_after (Some entry.0) self.now) }
         ensures rising { IsRising self.now }
         ensures few { length self.now ≤ 512 }
         ensures short { size_of_values self.now ≤ 16384 }
@@ -79,11 +75,9 @@ impl Env {
     /// Adds an object. The faults are tried in the order `Repeated`, `TooMany`, `TooLong`, and leave
     /// the map as it was.
     pub fn put(&mut self, tag: Tag, value: &[u8]) -> Result<(), EnvFault>
-        ensures exact {
-            MatchResult result
-              (λ _. put_of tag value.now self.old ≡ Ok self.new)
-              (λ fault. put_of tag value.now self.old ≡ Err fault)
-        }
+        ensures exact { MatchResult result
+            (λ _. put_of tag value.now self.old ≡ Ok self.new)
+            (λ fault. put_of tag value.now self.old ≡ Err fault) }
         ensures err { OnErr result (self.new ≡ self.old) }
     {
         if found(&self.bytes, &self.places, tag).is_some() {
@@ -106,11 +100,9 @@ impl Env {
     /// a tag that is not, as `put` does.
     pub fn set(&mut self, tag: Tag, value: &[u8]) -> Result<(), EnvFault>
         requires { ForSome (value_of tag.0 self.old) (λ old. length old ≡ length value.now) }
-        ensures exact {
-            MatchResult result
-              (λ _. set_of tag value.now self.old ≡ Ok self.new)
-              (λ fault. set_of tag value.now self.old ≡ Err fault)
-        }
+        ensures exact { MatchResult result
+            (λ _. set_of tag value.now self.old ≡ Ok self.new)
+            (λ fault. set_of tag value.now self.old ≡ Err fault) }
         ensures err { OnErr result (self.new ≡ self.old) }
     {
         match start_of(&self.places, tag) {

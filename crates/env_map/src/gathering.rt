@@ -3,9 +3,8 @@ ghost use Rattle.std.specs.Result.{result_err};
 ghost use Rattle.env_map.specs.Gathered.{gathered};
 ghost use Rattle.ber_tlv.specs.Walked.{walk_behind, walk_of};
 
-use ber_tlv::{Cursor, TlvFault, is_constructed};
-
 use crate::env::{Env, EnvFault};
+use ber_tlv::{Cursor, TlvFault, is_constructed};
 
 /// Why the objects of a byte string are not all put.
 #[derive(Clone, Copy, PartialEq, Eq, Debug)]
@@ -28,12 +27,8 @@ pub fn gather(env: &mut Env, bytes: &[u8]) -> Result<(), GatherFault>
 #[tactic(auto, using(crate::proofs::TwoWalks::gathered_on, crate::proofs::TwoWalks::gathered_fault))]
 fn gather_behind(env: &mut Env, cursor: &mut Cursor) -> Result<(), GatherFault>
     requires { cursor.old.place ≤ length cursor.old.bytes }
-    ensures entries {
-        env.new ≡ (gathered env.old (walk_behind cursor.old.bytes cursor.old.place)).entries
-    }
-    ensures fault {
-        result_err result ≡ (gathered env.old (walk_behind cursor.old.bytes cursor.old.place)).fault
-    }
+    ensures entries { env.new ≡ (gathered env.old (walk_behind cursor.old.bytes cursor.old.place)).entries }
+    ensures fault { result_err result ≡ (gathered env.old (walk_behind cursor.old.bytes cursor.old.place)).fault }
 {
     loop {
         match cursor.next() {

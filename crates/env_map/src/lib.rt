@@ -8,3 +8,6 @@ mod place;
 
 pub use env::{Env, EnvFault};
 pub use gathering::{GatherFault, gather};
+
+#[cfg(test)]
+mod tests;

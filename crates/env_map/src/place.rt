@@ -43,10 +43,8 @@ pub(crate) fn first_above<'a>(
     given: Option<Tag>,
 ) -> Option<(Tag, &'a [u8])>
     requires { count_of_bytes places.now ≤ length bytes.now }
-    ensures {
-        option_map (λ entry. (entry.0.0, entry.1.now)) result
-          ≡ find (λ entry. is_above given entry.0) (entries_of bytes.now places.now)
-    }
+    ensures { option_map (λ entry. (entry.0.0, entry.1.now)) result
+        ≡ find (λ entry. is_above given entry.0) (entries_of bytes.now places.now) }
 {
     let mut rest = bytes;
     for place in places {
@@ -105,11 +103,7 @@ pub(crate) fn start_of(places: &[Place], tag: Tag) -> Option<usize>
 }
 
 /// Puts bytes between others.
-pub(crate) fn insert_bytes<const N: usize>(
-    bytes: &mut ArrayVec<u8, N>,
-    start: usize,
-    value: &[u8],
-)
+pub(crate) fn insert_bytes<const N: usize>(bytes: &mut ArrayVec<u8, N>, start: usize, value: &[u8])
     requires within { start ≤ length bytes.old.items }
     requires room { length bytes.old.items + length value.now ≤ N }
     ensures { bytes.new.items ≡ take start bytes.old.items ++ (value.now ++ drop start bytes.old.items) }
@@ -123,10 +117,8 @@ pub(crate) fn insert_bytes<const N: usize>(
 /// Moves the last bytes, as many as `count`, to `start`.
 fn rotate_behind(bytes: &mut [u8], start: usize, count: usize)
     requires { start + count ≤ length bytes.old }
-    ensures {
-        let kept = length bytes.old - count in
-        bytes.new ≡ take start bytes.old ++ (drop kept bytes.old ++ drop start (take kept bytes.old))
-    }
+    ensures { let kept = length bytes.old - count in
+        bytes.new ≡ take start bytes.old ++ (drop kept bytes.old ++ drop start (take kept bytes.old)) }
 {
     bytes[start..].rotate_right(count);
 }
@@ -134,9 +126,7 @@ fn rotate_behind(bytes: &mut [u8], start: usize, count: usize)
 /// Writes bytes over as many others.
 pub(crate) fn overwrite(bytes: &mut [u8], start: usize, value: &[u8])
     requires { start + length value.now ≤ length bytes.old }
-    ensures {
-        bytes.new ≡ take start bytes.old ++ (value.now ++ drop (start + length value.now) bytes.old)
-    }
+    ensures { bytes.new ≡ take start bytes.old ++ (value.now ++ drop (start + length value.now) bytes.old) }
 {
     bytes[start..start + value.len()].copy_from_slice(value);
 }

@@ -11,7 +11,8 @@ invariant-loop-item l = record {
   same_bytes : l.cursor.bytes ≡ l.fn.cursor.bytes;
   onward : l.fn.cursor.place ≤ l.cursor.place;
   within : l.cursor.place ≤ length l.cursor.bytes;
-  same : gathered l.env (walk_behind l.cursor.bytes l.cursor.place) ≡ gathered l.fn.env (walk_behind l.fn.cursor.bytes l.fn.cursor.place) }
+  same : gathered l.env (walk_behind l.cursor.bytes l.cursor.place) ≡ gathered l.fn.env (walk_behind l.fn.cursor.bytes l.fn.cursor.place);
+}
 
 abbrev pub decreases-loop-item : goal.decreases-loop-item
 decreases-loop-item l = length l.cursor.bytes - l.cursor.place

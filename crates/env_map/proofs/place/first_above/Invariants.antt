@@ -7,4 +7,5 @@ abbrev pub invariant-loop-place : goal.invariant-loop-place
 invariant-loop-place l = record {
   within : count_of_bytes (drop l.place-index l.places) ≤ length l.rest;
   same : find (λ entry. is_above l.given entry.0) (entries_of l.rest (drop l.place-index l.places))
-    ≡ find (λ entry. is_above l.given entry.0) (entries_of l.bytes l.places) }
+      ≡ find (λ entry. is_above l.given entry.0) (entries_of l.bytes l.places);
+}

@@ -6,4 +6,5 @@ use Rattle.env_map.proofs.place.found.Given as goal
 abbrev pub invariant-loop-place : goal.invariant-loop-place
 invariant-loop-place l = record {
   within : count_of_bytes (drop l.place-index l.places) ≤ length l.rest;
-  same : value_of l.tag.0 (entries_of l.rest (drop l.place-index l.places)) ≡ value_of l.tag.0 (entries_of l.bytes l.places) }
+  same : value_of l.tag.0 (entries_of l.rest (drop l.place-index l.places)) ≡ value_of l.tag.0 (entries_of l.bytes l.places);
+}

@@ -10,16 +10,16 @@ to_end : (bytes : List ℕ) (start : ℕ) → take (length bytes - start) (drop 
 to_end bytes start = rw (← length-drop start bytes) (take-length (drop start bytes))
 
 rotated : (bytes ys : List ℕ) (start count : ℕ) → start + count ≤ length bytes
-  → ys ≡ drop (length (drop start bytes) - count) (drop start bytes) ++ take (length (drop start bytes) - count) (drop start bytes)
-  → put_mid start (length bytes - start) bytes ys ≡ take start bytes ++ (drop (length bytes - count) bytes ++ drop start (take (length bytes - count) bytes))
+    → ys ≡ drop (length (drop start bytes) - count) (drop start bytes) ++ take (length (drop start bytes) - count) (drop start bytes)
+    → put_mid start (length bytes - start) bytes ys ≡ take start bytes ++ (drop (length bytes - count) bytes ++ drop start (take (length bytes - count) bytes))
 rotated bytes ys start count within is_rotated =
-  let behind = length bytes - start - count in
-  let kept : length bytes - count ≡ start + behind = omega arith in
-  let part : length (drop start bytes) - count ≡ behind = omega (arith, length-drop start bytes) in
-  let past : drop (length bytes - start) (drop start bytes) ≡ [] = drop_of_length-le (drop start bytes) (omega (arith, length-drop start bytes)) in
-  rw (is_rotated, part, kept, drop-drop behind start bytes, drop-take start behind bytes, past, append-nil) refl
+    let behind = length bytes - start - count in
+    let kept : length bytes - count ≡ start + behind = omega arith in
+    let part : length (drop start bytes) - count ≡ behind = omega (arith, length-drop start bytes) in
+    let past : drop (length bytes - start) (drop start bytes) ≡ [] = drop_of_length-le (drop start bytes) (omega (arith, length-drop start bytes)) in
+    rw (is_rotated, part, kept, drop-drop behind start bytes, drop-take start behind bytes, past, append-nil) refl
 
 pub returns : goal.returns
 returns c =
-  rotated c.args.bytes.now c.rotate_right.new.self c.args.start c.args.count c.requires
+    rotated c.args.bytes.now c.rotate_right.new.self c.args.start c.args.count c.requires
     (rw (to_end c.args.bytes.now c.args.start) at c.rotate_right.ensures.after)

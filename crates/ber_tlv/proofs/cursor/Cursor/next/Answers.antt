@@ -1,4 +1,4 @@
-use Rattle.std.proofs.Common.{rules, sym, ◌≡◌}
+use Rattle.std.proofs.Common.{rules, sym}
 use Rattle.std.proofs.lemmas.Result.{err_from_is_err_and}
 use Rattle.ber_tlv.specs.Seen.{seen}
 use Rattle.ber_tlv.proofs.Reading.{left-end, left-item, left-fault}

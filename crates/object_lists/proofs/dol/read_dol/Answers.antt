@@ -1,0 +1,24 @@
+use Rattle.std.proofs.Common.{arith, [], ◌∷◌}
+use Rattle.std.proofs.lemmas.List.{map-append}
+use Rattle.object_lists.specs.DolSeen.{seen, all_seen}
+use Rattle.object_lists.proofs.DolReading.{one_more, at_fault, at_end}
+use Rattle.object_lists.proofs.dol.read_dol.Goals as goal
+
+pub loop-place-preserved : goal.loop-place-preserved
+loop-place-preserved c =
+    let more = c.push.ensures.len in
+    let onward = c.in-Ok.ensures.onward in
+    let few = c.loop-place.invariant.few in
+    let exact = c.in-Ok.ensures.exact in
+    record {
+      few = omega arith;
+      within = onward.1;
+      same = rw (c.push.ensures.items, map-append seen c.loop-place.entries.items (c.in-Ok.entry ∷ []))
+          (one_more c.args.bytes.now (all_seen c.loop-place.entries.items) c.loop-place.place (seen c.in-Ok.entry) c.in-Ok.next c.loop-place-test.true exact c.loop-place.invariant.same);
+    }
+
+pub returns-in-Err : goal.returns-in-Err
+returns-in-Err c = at_fault c.args.bytes.now (all_seen c.loop-place.entries.items) c.loop-place.place c.in-Err.fault c.loop-place-test.true c.in-Err.ensures.exact c.loop-place.invariant.same
+
+pub returns : goal.returns
+returns c = at_end c.args.bytes.now (all_seen c.loop-place.entries.items) c.loop-place.place (omega arith) c.loop-place.invariant.same

@@ -1,0 +1,3 @@
+pub mod DolEntries
+pub mod DolSeen
+pub mod Filled

@@ -1,0 +1,11 @@
+//! Data object lists, and the data that a terminal fills them with (EMV 4.3 Book 3 section 5.4).
+#![tactic(auto)]
+
+pub mod dol;
+pub mod filling;
+
+pub use dol::{Dol, DolFault, place, read_dol, total};
+pub use filling::{CardData, fill};
+
+#[cfg(test)]
+mod tests;
