@@ -1,0 +1,3 @@
+pub mod Change
+pub mod Decisions
+pub mod Totals
