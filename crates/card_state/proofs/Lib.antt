@@ -1,1 +1,4 @@
 mod Applied
+pub mod CardLemmas
+mod Pushes
+pub mod TotalsLemmas

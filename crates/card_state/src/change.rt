@@ -1,6 +1,8 @@
 ghost use Rattle.std.specs.Prelude.{◌≡◌, ◌+◌, ◌<◌, [], ◌∷◌, ◌++◌, List, length, slice_get, slice_set, Some, ◌||◌};
 ghost use Rattle.std.specs.Option.{ForSome};
 ghost use Rattle.card_state.specs.declared.state.AppState.{AppState as App};
+ghost use Rattle.card_state.specs.declared.state.CardState.{CardState as Card};
+ghost use Rattle.card_state.specs.Totals.{totals};
 ghost use Rattle.card_state.specs.declared.decision.Decision.TheVariants.{Script, Second};
 ghost use Rattle.card_state.specs.Change.{changed as changed_state, MayDecide, WithinLimits};
 ghost use Rattle.card_state.specs.Decisions.{Decided, blocks_card};
@@ -9,8 +11,22 @@ use crate::decision::{Decision, How, Scripted};
 use crate::state::{AppState, CardState};
 use emv_dict::Kind;
 
-/// Takes one more decision of an application: the state is then that of the longer list of decisions.
+/// Takes one more decision of an application, which its state has to allow: where the state was the
+/// totals of a list of decisions, it is then the totals of the list with this decision at its end.
 pub fn apply(state: &mut CardState, app: u8, decision: &Decision)
+    requires in_range { app < length state.old.apps.items }
+    requires allowed { ForSome (slice_get state.old.apps.items app) (λ s. MayDecide s decision.now) }
+    ensures totals { (opening : Card) (ds : List Decided) → state.old ≡ totals opening ds
+        → state.new ≡ totals opening (ds ++ record { app = app; decision = decision.now } ∷ []) }
+    ensures card { state.new.blocked ≡ (state.old.blocked || blocks_card decision.now) }
+    ensures app { (s : App) → slice_get state.old.apps.items app ≡ Some s
+        → state.new.apps.items ≡ slice_set state.old.apps.items app (changed_state s decision.now) }
+{
+    change(state, app, decision);
+}
+
+/// Changes the application's state, and the card's where the decision blocks it.
+fn change(state: &mut CardState, app: u8, decision: &Decision)
     requires in_range { app < length state.old.apps.items }
     requires allowed { ForSome (slice_get state.old.apps.items app) (λ s. MayDecide s decision.now) }
     ensures card { state.new.blocked ≡ (state.old.blocked || blocks_card decision.now) }

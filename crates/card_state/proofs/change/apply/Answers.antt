@@ -1,7 +1,7 @@
-use Rattle.card_state.proofs.Applied.{changed_at}
+use Rattle.card_state.proofs.CardLemmas.{totals-longer}
 use Rattle.card_state.proofs.change.apply.Goals as goal
 
-pub returns-clause-app : goal.returns-clause-app
-returns-clause-app c = λ s found.
-    changed_at c.args.state.now.apps.items c.deref.result.now c.deref_mut.result.now c.args.app c.from-index.result c.args.decision.now s
-    c.changed.result _ c.from-index.ensures c.deref.ensures.0 c.deref_mut.ensures.value c.changed.ensures found
+pub returns-clause-totals : goal.returns-clause-totals
+returns-clause-totals c = λ opening ds is.
+    totals-longer opening ds c.args.app c.args.decision.now c.args.state.now c.change.new.state c.requires.in_range c.change.ensures.card
+    c.change.ensures.app is
