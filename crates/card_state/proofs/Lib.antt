@@ -1,4 +1,7 @@
+mod AppLists
 mod Applied
 pub mod CardLemmas
+mod Heads
+pub mod LayoutLemmas
 mod Pushes
 pub mod TotalsLemmas

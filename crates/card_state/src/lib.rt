@@ -4,8 +4,12 @@
 
 pub mod change;
 pub mod decision;
+pub mod decoding;
+pub mod encoding;
 pub mod state;
 
 pub use change::apply;
 pub use decision::{Decision, How, Scripted};
+pub use decoding::decode;
+pub use encoding::encode;
 pub use state::{AppState, CardState};

@@ -1,0 +1,24 @@
+use Rattle.std.proofs.Common.{append_assoc}
+use Rattle.card_state.specs.Encoding.{app_bytes}
+use Rattle.card_state.proofs.encoding.append_app.Goals as goal
+
+pub returns-clause-items : goal.returns-clause-items
+unfolding app_bytes
+returns-clause-items c =
+    rw (
+      c.append-9.ensures.items,
+      c.append-8.ensures.items,
+      c.append-7.ensures.items,
+      c.append-6.ensures.items,
+      c.append-5.ensures.items,
+      c.append-4.ensures.items,
+      c.append-3.ensures.items,
+      c.append-2.ensures.items,
+      c.append.ensures.items,
+      c.to_be_bytes.ensures,
+      c.to_be_bytes-2.ensures,
+      c.to_be_bytes-3.ensures,
+      c.to_be_bytes-4.ensures,
+      c.flags.ensures,
+    )
+    (simp append_assoc)
