@@ -22,7 +22,7 @@ length-apps (s ∷ ss) all =
     let head : length (app_bytes s) ≡ 32 = length-app_bytes s (first s ss all).pin_size in
     let tail : length (flat_map app_bytes ss) ≡ 32 * length ss = length-apps ss (others s ss all) in
     let both : length (app_bytes s ++ flat_map app_bytes ss) ≡ length (app_bytes s) + length (flat_map app_bytes ss) =
-      length-append (app_bytes s) (flat_map app_bytes ss) in
+    length-append (app_bytes s) (flat_map app_bytes ss) in
     omega arith
 
 -- the bytes at the place of an application are its own
@@ -35,7 +35,7 @@ app_at (s ∷ ss) all (suc i) d within =
     let place : 32 * suc i ≡ length (app_bytes s) + 32 * i = omega arith in
     app_at ss (others s ss all) i d (omega arith)
     ∙ sym (ap (λ (n : ℕ). take 32 (drop n (app_bytes s ++ flat_map app_bytes ss))) place
-        ∙ ap (λ (xs : List ℕ). take 32 xs) (drop-append-add (app_bytes s) (flat_map app_bytes ss) (32 * i)))
+    ∙ ap (λ (xs : List ℕ). take 32 xs) (drop-append-add (app_bytes s) (flat_map app_bytes ss) (32 * i)))
 
 -- the part of 32 bytes at a place, as the program cuts it
 pub part : (bs : List ℕ) (n : ℕ) → take (n + 32 - n) (drop n bs) ≡ take 32 (drop n bs)
@@ -52,8 +52,8 @@ bytes_more apps s bs i before this =
     ∙ sym (take-add (32 * i) 32 bs)
     ∙ ap (λ (n : ℕ). take n bs) (places i)
   where
-  places : (i : ℕ) → 32 * i + 32 ≡ 32 * (i + 1)
-  places i = omega arith
+    places : (i : ℕ) → 32 * i + 32 ≡ 32 * (i + 1)
+    places i = omega arith
 
 -- the application that a list with these bytes has at this place
 pub this_app : (apps : List AppState) (bs : List ℕ) (i : ℕ) (d : AppState) → All IsAppState apps → flat_map app_bytes apps ≡ bs → i < length apps
@@ -71,7 +71,17 @@ count_of apps bs n all same size =
 -- any state, for the places behind a list's end
 abbrev pub blank : AppState
 blank = record {
-  counter = 0; last_online = 0; count = 0; sum = 0; count_limit = 0; sum_limit = 0; tries = 0; blocked = false; auth_failed = false; pin = [] }
+  counter = 0;
+  last_online = 0;
+  count = 0;
+  sum = 0;
+  count_limit = 0;
+  sum_limit = 0;
+  tries = 0;
+  blocked = false;
+  auth_failed = false;
+  pin = [];
+}
 
 -- the applications so far, with the one that was read here, are the first of a list with these bytes
 pub apps_more : (read apps : List AppState) (s : AppState) (i : ℕ) → read ≡ take i apps → i < length apps → s ≡ get_or apps i blank

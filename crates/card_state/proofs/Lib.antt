@@ -1,3 +1,4 @@
+pub mod AllowedLemmas
 mod AppLists
 mod Applied
 pub mod CardLemmas

@@ -2,6 +2,7 @@ ghost use Rattle.std.specs.Prelude.{◌≡◌, ◌+◌, ◌<◌, [], ◌∷◌, 
 ghost use Rattle.std.specs.Option.{ForSome};
 ghost use Rattle.card_state.specs.declared.state.AppState.{AppState as App};
 ghost use Rattle.card_state.specs.declared.state.CardState.{CardState as Card};
+ghost use Rattle.card_state.specs.Allowed.{Allowed};
 ghost use Rattle.card_state.specs.Totals.{totals};
 ghost use Rattle.card_state.specs.declared.decision.Decision.TheVariants.{Script, Second};
 ghost use Rattle.card_state.specs.Change.{changed as changed_state, MayDecide, WithinLimits};
@@ -18,6 +19,8 @@ pub fn apply(state: &mut CardState, app: u8, decision: &Decision)
     requires allowed { ForSome (slice_get state.old.apps.items app) (λ s. MayDecide s decision.now) }
     ensures totals { (opening : Card) (ds : List Decided) → state.old ≡ totals opening ds
         → state.new ≡ totals opening (ds ++ record { app = app; decision = decision.now } ∷ []) }
+    ensures allowed { (opening : Card) (ds : List Decided) → state.old ≡ totals opening ds → Allowed opening ds
+        → Allowed opening (ds ++ record { app = app; decision = decision.now } ∷ []) }
     ensures card { state.new.blocked ≡ (state.old.blocked || blocks_card decision.now) }
     ensures app { (s : App) → slice_get state.old.apps.items app ≡ Some s
         → state.new.apps.items ≡ slice_set state.old.apps.items app (changed_state s decision.now) }

@@ -1,6 +1,6 @@
 ghost use Rattle.std.specs.Prelude.{◌≡◌, ◌+◌, ◌*◌, ◌<◌, ◌≤◌, [], ◌∷◌, ◌++◌, length, slice_index, if◌then◌else◌};
 ghost use Rattle.arrayvec.specs.ArrayVec.{array_vec_len};
-ghost use Rattle.card_state.specs.Encoding.{app_bytes, encoding, flags_of};
+ghost use Rattle.card_state.specs.Encoding.{app_bytes, encoding, flags_of, IsAppState, IsCardState};
 
 use crate::state::{AppState, CardState};
 use arrayvec::ArrayVec;
@@ -9,22 +9,24 @@ use arrayvec::ArrayVec;
 /// then 32 bytes an application.
 #[tactic(auto, unfolding(crate::specs::Encoding::encoding))]
 pub fn encode(state: &CardState, out: &mut ArrayVec<u8, 1024>)
-    ensures { out.new.items ≡ encoding state.now }
+    ensures bytes { out.new.items ≡ encoding state.now }
+    ensures ranges { IsCardState state.now }
 {
     out.clear();
     out.push(1);
     out.push(state.apps.len() as u8);
     out.push(u8::from(state.blocked));
     for app in state.apps.as_slice() {
-        append_app(out, app);
+        append_app(out, *app);
     }
 }
 
 /// Appends the 32 bytes of an application.
-fn append_app(out: &mut ArrayVec<u8, 1024>, app: &AppState)
+fn append_app(out: &mut ArrayVec<u8, 1024>, app: AppState)
     requires { array_vec_len out.old + 32 ≤ 1024 }
-    ensures items { out.new.items ≡ out.old.items ++ app_bytes app.now }
+    ensures items { out.new.items ≡ out.old.items ++ app_bytes app }
     ensures len { array_vec_len out.new ≡ array_vec_len out.old + 32 }
+    ensures ranges { IsAppState app }
 {
     append(out, &app.counter.to_be_bytes());
     append(out, &app.last_online.to_be_bytes());
@@ -33,7 +35,7 @@ fn append_app(out: &mut ArrayVec<u8, 1024>, app: &AppState)
     append(out, &[app.count_limit]);
     append(out, &app.sum_limit.to_be_bytes());
     append(out, &[app.tries]);
-    append(out, &[flags(app)]);
+    append(out, &[flags(&app)]);
     append(out, &app.pin);
 }
 

@@ -11,7 +11,7 @@ returns-in-None-clause-reads c = λ apps all same.
     let size : length apps ≡ c.args.count = count_of apps c.args.bytes.now c.args.count all same c.requires.whole in
     let within : c.loop-i.i < length apps = omega arith in
     let read = c.in-None.ensures.reads (get_or apps c.loop-i.i blank) (all c.loop-i.i blank within)
-        (this_app apps c.args.bytes.now c.loop-i.i blank all same within) in
+    (this_app apps c.args.bytes.now c.loop-i.i blank all same within) in
     cc
 
 pub loop-i-preserved : goal.loop-i-preserved
@@ -24,9 +24,10 @@ loop-i-preserved c = record {
       let size : length apps ≡ c.args.count = count_of apps c.args.bytes.now c.args.count all same c.requires.whole in
       let within : c.loop-i.i < length apps = omega arith in
       let read = c.in-Some.ensures.reads (get_or apps c.loop-i.i blank) (all c.loop-i.i blank within)
-          (this_app apps c.args.bytes.now c.loop-i.i blank all same within) in
+      (this_app apps c.args.bytes.now c.loop-i.i blank all same within) in
       let here : c.in-Some.app ≡ get_or apps c.loop-i.i blank = cc in
-      c.push.ensures.items ∙ apps_more c.loop-i.apps.items apps c.in-Some.app c.loop-i.i (c.loop-i.invariant.reads apps all same) within here }
+      c.push.ensures.items ∙ apps_more c.loop-i.apps.items apps c.in-Some.app c.loop-i.i (c.loop-i.invariant.reads apps all same) within here;
+}
 
 pub returns-clause-reads : goal.returns-clause-reads
 returns-clause-reads c = λ apps all same.

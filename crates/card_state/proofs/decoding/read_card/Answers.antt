@@ -20,7 +20,7 @@ pub returns-in-Some-clause-bytes : goal.returns-in-Some-clause-bytes
 returns-in-Some-clause-bytes c =
     let head : IsHead c.args.form c.args.count c.args.card (length c.args.rest.now) = c.if-not-is_head.ensures.0 refl in
     encoding-read c.args.form c.args.count c.args.card c.args.rest.now c.in-Some.apps.items head
-        (c.in-Some.ensures.count ∙ c.from.ensures) c.in-Some.ensures.bytes
+    (c.in-Some.ensures.count ∙ c.from.ensures) c.in-Some.ensures.bytes
 
 pub returns-in-None-clause-reads : goal.returns-in-None-clause-reads
 returns-in-None-clause-reads c = λ state is same.

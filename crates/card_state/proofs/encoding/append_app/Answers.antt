@@ -1,4 +1,5 @@
-use Rattle.std.proofs.Common.{append_assoc}
+use Rattle.std.proofs.Common.{◌≡◌, ℕ, ◌<◌, append_assoc, get_or, arith, rules}
+use Rattle.std.proofs.lemmas.List.{get_or_default}
 use Rattle.card_state.specs.Encoding.{app_bytes}
 use Rattle.card_state.proofs.encoding.append_app.Goals as goal
 
@@ -22,3 +23,20 @@ returns-clause-items c =
       c.flags.ensures,
     )
     (simp append_assoc)
+
+pub returns-clause-ranges : goal.returns-clause-ranges
+returns-clause-ranges c = record {
+  counter = omega arith;
+  last_online = omega arith;
+  count = omega arith;
+  sum = omega arith;
+  count_limit = omega arith;
+  sum_limit = omega arith;
+  tries = omega arith;
+  pin_size = search rules;
+  pin = λ k d within.
+      let small : (i : ℕ) → get_or c.args.app.pin i 0 < 256 = search rules in
+      let here : get_or c.args.app.pin k 0 < 256 = small k in
+      let same : get_or c.args.app.pin k d ≡ get_or c.args.app.pin k 0 = get_or_default c.args.app.pin k d 0 within in
+      omega arith;
+}
