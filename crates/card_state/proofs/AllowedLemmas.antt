@@ -1,5 +1,5 @@
 -- A list of allowed decisions stays one with a decision more that its totals allow.
-use Rattle.std.proofs.Common.{◌≡◌, ℕ, zero, suc, ◌<◌, ◌⊎◌, List, [], ◌∷◌, ◌++◌, length, take, slice_get, Option, Some, None, refl, sym, ◌∙◌, ap, subst, inl, inr}
+use Rattle.std.proofs.Common.{◌≡◌, ℕ, zero, suc, ◌⊎◌, List, [], ◌∷◌, ◌++◌, take, slice_get, Some, refl, sym, ap, subst, inl, inr}
 use Rattle.card_state.specs.declared.state.CardState.{CardState}
 use Rattle.card_state.specs.Allowed.{Finds, Allowed}
 use Rattle.card_state.specs.Decisions.{Decided}

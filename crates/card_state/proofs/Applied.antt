@@ -1,5 +1,5 @@
 -- One application's state put in its place among those of the card.
-use Rattle.std.proofs.Common.{◌≡◌, ℕ, ◌<◌, List, [], ◌∷◌, ◌++◌, length, take, drop, set, get_or, slice_get, Some, refl, sym, ◌∙◌, ap, subst, arith}
+use Rattle.std.proofs.Common.{◌≡◌, ℕ, List, length, drop, set, get_or, slice_get, Some, ◌∙◌, ap}
 use Rattle.std.specs.List.{refill}
 use Rattle.std.proofs.lemmas.List.{take_at, length-set}
 use Rattle.std.proofs.lemmas.Option.{get_or_from_slice_get}

@@ -1,9 +1,9 @@
 -- The three bytes before the applications of a card.
-use Rattle.std.proofs.Common.{◌≡◌, ℕ, zero, suc, ◌+◌, ◌*◌, ◌<◌, ◌≤◌, ◌==◌, Bool, true, false, if◌then◌else◌, List, [], ◌∷◌, length, Some, refl, sym, ◌∙◌, ap, arith}
-use Rattle.std.specs.List.{All, flat_map}
+use Rattle.std.proofs.Common.{◌≡◌, ℕ, zero, suc, ◌*◌, ◌≤◌, ◌==◌, Bool, true, false, if◌then◌else◌, List, ◌∷◌, length, refl, sym, ap, arith}
+use Rattle.std.specs.List.{flat_map}
 use Rattle.card_state.specs.declared.state.AppState.{AppState}
 use Rattle.card_state.specs.declared.state.CardState.{CardState}
-use Rattle.card_state.specs.Encoding.{app_bytes, encoding, IsAppState, IsCardState}
+use Rattle.card_state.specs.Encoding.{app_bytes, encoding, IsCardState}
 use Rattle.card_state.specs.Layout.{IsHead}
 use Rattle.card_state.proofs.AppLists.{length-apps}
 

@@ -1,11 +1,11 @@
 -- An application's 32 bytes and its fields give each other back.
-use Rattle.std.proofs.Common.{◌≡◌, ℕ, ◌+◌, ◌-◌, ◌*◌, ◌/◌, ◌%◌, ◌^◌, ◌<◌, ◌≤◌, ◌==◌, Bool, true, false, cond, if◌then◌else◌, List, [], ◌∷◌, ◌++◌, length, take, drop, get_or, refl, sym, ◌∙◌, ap, subst, arith, length-drop, zero, suc}
+use Rattle.std.proofs.Common.{◌≡◌, ℕ, ◌+◌, ◌/◌, ◌%◌, ◌<◌, ◌≤◌, ◌==◌, Bool, true, false, if◌then◌else◌, List, [], ◌∷◌, ◌++◌, length, take, drop, get_or, refl, sym, ◌∙◌, ap, subst, arith, length-drop, zero, suc}
 use Rattle.std.specs.Int.{from_be_bytes, to_be_bytes, w16, w64}
 use Rattle.std.proofs.lemmas.Nat.{from_be_bytes-to_be_bytes_2, from_be_bytes-to_be_bytes_8, be_bytes_2, be_bytes_8}
 use Rattle.std.proofs.lemmas.List.{take_all, length-take-le}
 use Rattle.std.proofs.Math.Seq.{drop-cons, take-add}
 use Rattle.card_state.specs.declared.state.AppState.{AppState}
-use Rattle.card_state.specs.Encoding.{app_bytes, flags_of, IsAppState}
+use Rattle.card_state.specs.Encoding.{app_bytes, IsAppState}
 use Rattle.card_state.specs.Layout.{fields_of}
 
 blocked_flag : (blocked failed : Bool) → (((if blocked then 1 else 0) + (if failed then 2 else 0)) % 2 == 1) ≡ blocked

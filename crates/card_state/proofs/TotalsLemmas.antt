@@ -1,5 +1,5 @@
 -- One more decision changes the totals as the table of changes says, field by field.
-use Rattle.std.proofs.Common.{◌≡◌, ℕ, ◌+◌, ◌-◌, Bool, true, false, ◌||◌, cond, if◌then◌else◌, List, [], ◌∷◌, ◌++◌, Option, Some, None, is_some, unwrap_or, refl, sym, ◌∙◌, ap, arith}
+use Rattle.std.proofs.Common.{◌≡◌, ℕ, ◌+◌, ◌-◌, Bool, true, false, ◌||◌, cond, if◌then◌else◌, List, [], ◌∷◌, ◌++◌, Option, Some, None, is_some, unwrap_or, refl, ◌∙◌, ap, arith}
 use Rattle.std.specs.List.{list_any, sum_by, count_by}
 use Rattle.card_state.specs.declared.decision.Decision.{Decision}
 use Rattle.card_state.specs.declared.decision.Decision.TheVariants.{Started}

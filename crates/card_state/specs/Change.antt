@@ -1,12 +1,11 @@
 -- What one decision changes, and the state in which it may be taken.
-use Rattle.std.specs.Prelude.{ℕ, ◌≡◌, ◌+◌, ◌-◌, ◌<◌, ◌≤◌, Bool, true, if◌then◌else◌, List, Option, Some, None, unwrap_or, ⊤}
-use Rattle.emv_dict.specs.declared.ending.Kind.{Kind}
+use Rattle.std.specs.Prelude.{ℕ, ◌+◌, ◌-◌, ◌<◌, ◌≤◌, if◌then◌else◌, unwrap_or, ⊤}
 use Rattle.emv_dict.specs.declared.ending.Kind.TheVariants.{Tc}
 use Rattle.card_state.specs.declared.decision.How.TheVariants.{Offline}
 use Rattle.card_state.specs.declared.decision.Decision.{Decision}
 use Rattle.card_state.specs.declared.decision.Decision.TheVariants.{Started, PinTry, First, Second}
 use Rattle.card_state.specs.declared.state.AppState.{AppState}
-use Rattle.card_state.specs.Decisions.{is_start, is_try, is_reset, offline_amount, is_offline_approval, tries_given, blocked_given, pin_given, count_limit_given, sum_limit_given, failure_given}
+use Rattle.card_state.specs.Decisions.{is_start, is_try, is_reset, is_offline_approval, tries_given, blocked_given, pin_given, count_limit_given, sum_limit_given, failure_given}
 use Rattle.card_state.specs.Totals.{approved_amount}
 
 -- an application's state after one more decision

@@ -1,10 +1,7 @@
 -- What each decision of a card counts as, and what it gives.
-use Rattle.std.specs.Prelude.{ℕ, Bool, true, false, not, List, Option, Some, None, is_some, unwrap_or}
-use Rattle.emv_dict.specs.declared.ending.Kind.{Kind}
-use Rattle.emv_dict.specs.declared.ending.Kind.TheVariants.{Aac, Tc, Arqc}
-use Rattle.card_state.specs.declared.decision.How.{How}
-use Rattle.card_state.specs.declared.decision.How.TheVariants.{Authenticated as ByIssuer, Alone, Offline}
-use Rattle.card_state.specs.declared.decision.Scripted.{Scripted}
+use Rattle.std.specs.Prelude.{ℕ, Bool, true, false, not, List, Option, Some, None, is_some}
+use Rattle.emv_dict.specs.declared.ending.Kind.TheVariants.{Tc}
+use Rattle.card_state.specs.declared.decision.How.TheVariants.{Authenticated as ByIssuer, Offline}
 use Rattle.card_state.specs.declared.decision.Scripted.TheVariants.{Block, Unblock, CardBlock, PinUnblock, PinChange, Count, Sum}
 use Rattle.card_state.specs.declared.decision.Decision.{Decision}
 use Rattle.card_state.specs.declared.decision.Decision.TheVariants.{Started, PinTry, PinRight, First, Authenticated, Script, Second}

@@ -1,5 +1,5 @@
 -- The bytes of a card's state, all numbers big-endian.
-use Rattle.std.specs.Prelude.{ℕ, ◌≡◌, ◌+◌, ◌^◌, ◌<◌, ◌≤◌, Bool, if◌then◌else◌, List, [], ◌∷◌, ◌++◌, length, flat_map}
+use Rattle.std.specs.Prelude.{ℕ, ◌≡◌, ◌+◌, ◌^◌, ◌<◌, ◌≤◌, if◌then◌else◌, List, [], ◌∷◌, ◌++◌, length, flat_map}
 use Rattle.std.specs.List.{All}
 use Rattle.std.specs.Int.{to_be_bytes, w16, w64}
 use Rattle.card_state.specs.declared.state.AppState.{AppState}

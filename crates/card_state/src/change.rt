@@ -118,6 +118,17 @@ fn decided(app: &AppState, kind: Kind, how: How, amount: u64) -> AppState
     }
 }
 
+/// The state with a new PIN, whose tries are restored to the limit.
+fn with_pin(app: &AppState, pin: [u8; 8], limit: u8) -> AppState
+    ensures { result ≡ record app.now { tries = limit; pin = pin } }
+{
+    AppState {
+        tries: limit,
+        pin,
+        ..*app
+    }
+}
+
 /// The state after an issuer's script command.
 fn scripted(app: &AppState, command: &Scripted) -> AppState
     ensures { result ≡ changed_state app.now (Script command.now) }
@@ -136,11 +147,7 @@ fn scripted(app: &AppState, command: &Scripted) -> AppState
             tries: *limit,
             ..*app
         },
-        Scripted::PinChange { pin, limit } => AppState {
-            tries: *limit,
-            pin: *pin,
-            ..*app
-        },
+        Scripted::PinChange { pin, limit } => with_pin(app, *pin, *limit),
         Scripted::Count(limit) => AppState {
             count_limit: *limit,
             ..*app

@@ -13,3 +13,6 @@ pub use decision::{Decision, How, Scripted};
 pub use decoding::decode;
 pub use encoding::encode;
 pub use state::{AppState, CardState};
+
+#[cfg(test)]
+mod tests;

@@ -1,4 +1,4 @@
-use Rattle.std.proofs.Common.{◌≡◌, ◌≤◌, List, ℕ, Some, Option, get_or, rules, sym, ap, subst, arith, ◌∙◌}
+use Rattle.std.proofs.Common.{◌≤◌, List, ℕ, Some, get_or, rules, sym, ap, arith, ◌∙◌}
 use Rattle.card_state.specs.declared.state.AppState.{AppState}
 use Rattle.card_state.specs.Encoding.{app_bytes}
 use Rattle.card_state.specs.Layout.{fields_of}

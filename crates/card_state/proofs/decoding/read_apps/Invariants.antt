@@ -1,4 +1,4 @@
-use Rattle.std.proofs.Common.{◌≡◌, ℕ, ◌*◌, List, length, take, flat_map}
+use Rattle.std.proofs.Common.{◌≡◌, ◌*◌, List, length, take, flat_map}
 use Rattle.std.specs.List.{All}
 use Rattle.card_state.specs.declared.state.AppState.{AppState}
 use Rattle.card_state.specs.Encoding.{app_bytes, IsAppState}

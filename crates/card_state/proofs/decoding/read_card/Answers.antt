@@ -1,6 +1,4 @@
-use Rattle.std.proofs.Common.{◌≡◌, ◌==◌, List, length, Option, Some, None, ap, refl, arith, ◌∙◌}
-use Rattle.card_state.specs.declared.state.AppState.{AppState}
-use Rattle.card_state.specs.declared.state.CardState.{CardState}
+use Rattle.std.proofs.Common.{◌≡◌, ◌==◌, length, Some, refl, ◌∙◌}
 use Rattle.card_state.specs.Layout.{IsHead}
 use Rattle.card_state.proofs.Heads.{head_of, apps_of, blocked_of, encoding-read}
 use Rattle.card_state.proofs.decoding.read_card.Goals as goal
