@@ -1,0 +1,10 @@
+pub mod Words
+pub mod Picks
+pub mod Boxes
+pub mod Bytes
+pub mod Halves
+pub mod WordRounds
+pub mod ScheduleSteps
+pub mod ChainSteps
+pub mod ByteLists
+pub mod Undone

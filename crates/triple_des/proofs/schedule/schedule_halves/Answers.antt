@@ -1,0 +1,25 @@
+use Rattle.std.proofs.Common.{sym, ◌∙◌, arith}
+use Rattle.std.proofs.lemmas.List.{length-set}
+use Rattle.triple_des.specs.Tables.{second_choice_table}
+use Rattle.triple_des.proofs.ScheduleSteps.{shift_bounds, schedule_step, schedule_end}
+use Rattle.triple_des.proofs.schedule.schedule_halves.Goals as goal
+
+pub turn-right-requires-clause-some : goal.turn-right-requires-clause-some
+turn-right-requires-clause-some c = (shift_bounds c.loop-index.index c.loop-index-test.true).0
+
+pub turn-right-requires-clause-few : goal.turn-right-requires-clause-few
+turn-right-requires-clause-few c = (shift_bounds c.loop-index.index c.loop-index-test.true).1
+
+pub loop-index-preserved : goal.loop-index-preserved
+unfolding second_choice_table
+loop-index-preserved c = (
+  length-set c.loop-index.keys c.loop-index.index c.permute.result ∙ c.loop-index.invariant.0,
+  c.turn-left.ensures.fits,
+  c.turn-right.ensures.fits,
+  schedule_step c.loop-index.keys c.loop-index.index c.loop-index.left c.loop-index.right c.turn-left.result c.turn-right.result c.permute.result c.loop-index-test.true c.loop-index.invariant.0 c.turn-left.ensures.bits c.turn-right.ensures.bits c.turn-right.ensures.fits c.permute.ensures.bits
+      ∙ c.loop-index.invariant.3,
+)
+
+pub returns : goal.returns
+returns c =
+    sym (schedule_end c.loop-index.keys c.loop-index.index c.loop-index.left c.loop-index.right (omega arith) c.loop-index.invariant.0) ∙ c.loop-index.invariant.3

@@ -1,0 +1,5 @@
+pub mod Bits
+pub mod Tables
+pub mod Des
+pub mod TripleDes
+pub mod Mac
