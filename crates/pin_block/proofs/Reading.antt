@@ -7,7 +7,7 @@ use Rattle.emv_dict.specs.Nibbles.{nibbles}
 use Rattle.emv_dict.proofs.HexDigits.{nibbles-packed}
 use Rattle.pin_block.specs.Block.{IsPin, block_digits, block_of}
 
-block_size : (format : ℕ) (pin : List ℕ) → IsPin pin → length (block_digits format pin) ≡ 16
+pub block_size : (format : ℕ) (pin : List ℕ) → IsPin pin → length (block_digits format pin) ≡ 16
 block_size format pin is =
     let fill : List ℕ = replicate (14 - length pin) 15 in
     let body : length (pin ++ fill) ≡ length pin + length fill = length-append pin fill in
@@ -16,7 +16,7 @@ block_size format pin is =
     let whole : length (pin ++ fill) ≡ 14 = omega arith in
     ap (λ (n : ℕ). suc (suc n)) whole
 
-block_small : (format : ℕ) (pin : List ℕ) → format < 16 → IsPin pin → All (λ d. d < 16) (block_digits format pin)
+pub block_small : (format : ℕ) (pin : List ℕ) → format < 16 → IsPin pin → All (λ d. d < 16) (block_digits format pin)
 block_small format pin small is =
     let Small : ℕ → Type 0 = λ d. d < 16 in
     let most : length pin ≤ 12 = is.most in

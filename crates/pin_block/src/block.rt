@@ -34,7 +34,7 @@ fn digits_of(format: u8, pin: &[u8]) -> [u8; 16]
 }
 
 /// Two hexadecimal digits a byte.
-fn pack(digits: [u8; 16]) -> [u8; 8]
+pub(crate) fn pack(digits: [u8; 16]) -> [u8; 8]
     requires { All (λ d. d < 16) digits }
     ensures { result ≡ packed digits }
 {

@@ -3,6 +3,11 @@
 #![tactic(auto)]
 
 mod block;
+pub mod online;
 pub mod plain;
 
+pub use online::{online_block, read_online};
 pub use plain::{plain_block, read_plain};
+
+#[cfg(test)]
+mod tests;
