@@ -6,3 +6,4 @@ pub mod Listing
 pub mod Name
 pub mod Nibbles
 pub mod Pan
+pub mod Settings

@@ -1,3 +1,6 @@
+ghost use Rattle.std.specs.Prelude.{◌≡◌, false};
+ghost use Rattle.emv_dict.specs.declared.ending.Ending.TheVariants.{Declined};
+
 use ber_tlv::Tag;
 
 /// The kinds of application cryptogram (EMV 4.3 Book 3 section 6.5.5).
@@ -84,6 +87,8 @@ pub enum Ending {
 
 /// A payment that was declined offline, the ending that moves no money.
 impl Default for Ending {
+    ghost is_default = { λ ending. ending ≡ Declined false };
+
     fn default() -> Ending {
         Ending::Declined { online: false }
     }

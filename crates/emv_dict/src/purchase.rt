@@ -29,7 +29,8 @@ pub struct AidRow {
 /// A terminal's settings.
 #[derive(Drop, PartialEq, Eq, Debug)]
 pub struct Settings {
-    /// The terminal type, object 9F35 (EMV 4.3 Book 4 Annex A1).
+    /// The terminal type as a decimal number, 21 to 26; the object 9F35 holds its two digits in one
+    /// byte (EMV 4.3 Book 4 Annex A1).
     pub kind: u8,
     /// The terminal country code, object 9F1A.
     pub country: [u8; 2],

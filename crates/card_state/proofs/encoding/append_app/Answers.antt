@@ -1,0 +1,42 @@
+use Rattle.std.proofs.Common.{◌≡◌, ℕ, ◌<◌, append_assoc, get_or, arith, rules}
+use Rattle.std.proofs.lemmas.List.{get_or_default}
+use Rattle.card_state.specs.Encoding.{app_bytes}
+use Rattle.card_state.proofs.encoding.append_app.Goals as goal
+
+pub returns-clause-items : goal.returns-clause-items
+unfolding app_bytes
+returns-clause-items c =
+    rw (
+      c.append-9.ensures.items,
+      c.append-8.ensures.items,
+      c.append-7.ensures.items,
+      c.append-6.ensures.items,
+      c.append-5.ensures.items,
+      c.append-4.ensures.items,
+      c.append-3.ensures.items,
+      c.append-2.ensures.items,
+      c.append.ensures.items,
+      c.to_be_bytes.ensures,
+      c.to_be_bytes-2.ensures,
+      c.to_be_bytes-3.ensures,
+      c.to_be_bytes-4.ensures,
+      c.flags.ensures,
+    )
+    (simp append_assoc)
+
+pub returns-clause-ranges : goal.returns-clause-ranges
+returns-clause-ranges c = record {
+  counter = omega arith;
+  last_online = omega arith;
+  count = omega arith;
+  sum = omega arith;
+  count_limit = omega arith;
+  sum_limit = omega arith;
+  tries = omega arith;
+  pin_size = search rules;
+  pin = λ k d within.
+      let small : (i : ℕ) → get_or c.args.app.pin i 0 < 256 = search rules in
+      let here : get_or c.args.app.pin k 0 < 256 = small k in
+      let same : get_or c.args.app.pin k d ≡ get_or c.args.app.pin k 0 = get_or_default c.args.app.pin k d 0 within in
+      omega arith;
+}

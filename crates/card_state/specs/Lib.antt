@@ -1,0 +1,6 @@
+pub mod Allowed
+pub mod Change
+pub mod Decisions
+pub mod Encoding
+pub mod Layout
+pub mod Totals

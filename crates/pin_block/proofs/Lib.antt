@@ -1,0 +1,5 @@
+mod Blocks
+mod Ciphered
+mod OnlineLemmas
+mod Packing
+mod Reading
