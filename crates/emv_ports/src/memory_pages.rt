@@ -201,8 +201,7 @@ impl MemoryPages {
         ensures memory { memory_of self.new ≡ gone (memory_of self.old) }
         ensures workings { workings_of self.new ≡ workings_of self.old }
     {
-        self.on = false;
-        self.plan = None;
+        self.power_off();
         self.losses = self.losses.saturating_add(1);
     }
 }
@@ -312,3 +311,6 @@ impl Pages for MemoryPages {
         }
     }
 }
+
+#[cfg(test)]
+mod tests;
