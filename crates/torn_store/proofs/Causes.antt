@@ -40,13 +40,13 @@ one_more_among (Within planned) n is spared = above planned n is (not_within (pl
 one_more_among Release n is spared = refl
 
 more_of_commit : (named : Bool) (place : TearAt) (n : ℕ) → (named && is_among place n) ≡ false
-  → (if named then cut_at place (n + 1) else Spared) ≡ Spared → (named && is_among place (n + 1)) ≡ false
+    → (if named then cut_at place (n + 1) else Spared) ≡ Spared → (named && is_among place (n + 1)) ≡ false
 more_of_commit true place n is spared = one_more_among place n is spared
 more_of_commit false place n is spared = refl
 
 -- the next write is spared too
 pub cuts_more : (plan : Option Tear) (commit n : ℕ) → cuts_among plan commit n ≡ false → write_cut plan commit (n + 1) ≡ Spared
-  → cuts_among plan commit (n + 1) ≡ false
+    → cuts_among plan commit (n + 1) ≡ false
 cuts_more None commit n is spared = refl
 cuts_more (Some tear) commit n is spared = more_of_commit (tear.commit == commit) tear.at n is spared
 
@@ -63,13 +63,13 @@ here_among (Within planned) number writes inside is = at_most planned number wri
 here_among Release number writes inside is = absurd (is refl)
 
 here_of_commit : (named : Bool) (place : TearAt) (number writes : ℕ) → number ≤ writes → (if named then cut_at place number else Spared) ≢ Spared
-  → (named && is_among place writes) ≡ true
+    → (named && is_among place writes) ≡ true
 here_of_commit true place number writes inside is = here_among place number writes inside is
 here_of_commit false place number writes inside is = absurd (is refl)
 
 -- a write that is cut is one of the writes
 pub cuts_here : (plan : Option Tear) (commit number writes : ℕ) → number ≤ writes → write_cut plan commit number ≢ Spared
-  → cuts_among plan commit writes ≡ true
+    → cuts_among plan commit writes ≡ true
 cuts_here None commit number writes inside is = absurd (is refl)
 cuts_here (Some tear) commit number writes inside is = here_of_commit (tear.commit == commit) tear.at number writes inside is
 
@@ -103,13 +103,13 @@ release_cut_named None commit writes is = cc
 release_cut_named (Some tear) commit writes is = release_named (tear.commit == commit) (is_among tear.at writes) is
 
 release_spared : (named among : Bool) → (named && among) ≡ false
-  → (if named then (if among then Spared else CutBefore) else Spared) ≡ Spared → named ≡ false
+    → (if named then (if among then Spared else CutBefore) else Spared) ≡ Spared → named ≡ false
 release_spared true true is spared = is
 release_spared true false is spared = cc
 release_spared false among is spared = refl
 
 -- a plan that names the commit fires in it, at a write or at the release
 pub spared_not_named : (plan : Option Tear) (commit writes : ℕ) → cuts_among plan commit writes ≡ false → release_cut plan commit writes ≡ Spared
-  → is_named plan commit ≡ false
+    → is_named plan commit ≡ false
 spared_not_named None commit writes is spared = refl
 spared_not_named (Some tear) commit writes is spared = release_spared (tear.commit == commit) (is_among tear.at writes) is spared

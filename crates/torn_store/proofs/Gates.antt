@@ -28,7 +28,6 @@ one_of : (bit one other : ℕ) → bit < 2 → one + other ≡ 1 → (bit ≡ on
 one_of bit one other small together = one_of_test bit one other (bit == one) refl small together
 
 module _ {S : Type 0} (recover_at : ℕ → List (List ℕ) → Option S) where
-
   abbrev pub gated : List (List ℕ) → Option S
   gated bytes = recover_at (lowest bytes) (drop 1 bytes)
 
@@ -37,13 +36,13 @@ module _ {S : Type 0} (recover_at : ℕ → List (List ℕ) → Option S) where
 
   -- under one bit, the pages stand for one state at most
   pub same_under_bit : (cells : Cells) (bit : ℕ) (state : S) → StandsFor cells bit state → (one other : List (List ℕ))
-    → Reading cells one → Reading cells other → lowest one ≡ bit → lowest other ≡ bit → gated one ≡ gated other
+      → Reading cells one → Reading cells other → lowest one ≡ bit → lowest other ≡ bit → gated one ≡ gated other
   same_under_bit cells bit state stands one other read_one read_other one_bit other_bit =
       ap (λ (b : ℕ). recover_at b (drop 1 one)) one_bit ∙ stands (drop 1 one) (reading_rest cells one read_one)
-        ∙ sym (ap (λ (b : ℕ). recover_at b (drop 1 other)) other_bit ∙ stands (drop 1 other) (reading_rest cells other read_other))
+      ∙ sym (ap (λ (b : ℕ). recover_at b (drop 1 other)) other_bit ∙ stands (drop 1 other) (reading_rest cells other read_other))
 
   pub found_under_bit : (cells : Cells) (bit : ℕ) (state : S) → StandsFor cells bit state → (bytes : List (List ℕ)) → Reading cells bytes
-    → lowest bytes ≡ bit → gated bytes ≡ Some state
+      → lowest bytes ≡ bit → gated bytes ≡ Some state
   found_under_bit cells bit state stands bytes reading is =
       ap (λ (b : ℕ). recover_at b (drop 1 bytes)) is ∙ stands (drop 1 bytes) (reading_rest cells bytes reading)
 
@@ -62,35 +61,35 @@ module _ {S : Type 0} (recover_at : ℕ → List (List ℕ) → Option S) where
 
   pub stands_holds : (cells : Cells) (bit : ℕ) (state : S) → first_cell cells ≡ Some bit → bit < 2 → StandsFor cells bit state → Holds gated cells state
   stands_holds cells bit state is small stands = record {
-      laid = record {
-        bit = subst IsBit (sym is) small;
-        same = λ one other read_one read_other equal.
-          same_under_bit cells bit state stands one other read_one read_other (sure_bit cells bit is small one read_one) (sure_bit cells bit is small other read_other)
-      };
-      each = λ bytes reading. found_under_bit cells bit state stands bytes reading (sure_bit cells bit is small bytes reading)
-    }
+    laid = record {
+      bit = subst IsBit (sym is) small;
+      same = λ one other read_one read_other equal.
+          same_under_bit cells bit state stands one other read_one read_other (sure_bit cells bit is small one read_one) (sure_bit cells bit is small other read_other);
+    };
+    each = λ bytes reading. found_under_bit cells bit state stands bytes reading (sure_bit cells bit is small bytes reading);
+  }
 
   pub holds_between : (cells : Cells) (before after : S) → Holds gated cells before → Between gated cells before after
   holds_between cells before after holds = record { laid = holds.laid; each = λ bytes reading. inl (holds.each bytes reading) }
 
   -- under each bit the pages stand for a state: between them, whichever bit the first cell gives
   pub both_between : (cells : Cells) (one other : ℕ) (before after : S) → IsBit (first_cell cells) → one + other ≡ 1
-    → StandsFor cells one before → StandsFor cells other after → Between gated cells before after
+      → StandsFor cells one before → StandsFor cells other after → Between gated cells before after
   both_between cells one other before after bit together stands_before stands_after = record {
-      laid = record {
-        bit = bit;
-        same = λ first second read_first read_second equal.
+    laid = record {
+      bit = bit;
+      same = λ first second read_first read_second equal.
           elim (one_of (lowest first) one other (lowest_small first) together) [
-            inl is ↦ same_under_bit cells one before stands_before first second read_first read_second is (sym equal ∙ is)
-          | inr is ↦ same_under_bit cells other after stands_after first second read_first read_second is (sym equal ∙ is)
-          ]
-      };
-      each = λ bytes reading.
+            | inl is ↦ same_under_bit cells one before stands_before first second read_first read_second is (sym equal ∙ is)
+            | inr is ↦ same_under_bit cells other after stands_after first second read_first read_second is (sym equal ∙ is)
+          ];
+    };
+    each = λ bytes reading.
         elim (one_of (lowest bytes) one other (lowest_small bytes) together) [
-          inl is ↦ inl (found_under_bit cells one before stands_before bytes reading is)
-        | inr is ↦ inr (found_under_bit cells other after stands_after bytes reading is)
-        ]
-    }
+          | inl is ↦ inl (found_under_bit cells one before stands_before bytes reading is)
+          | inr is ↦ inr (found_under_bit cells other after stands_after bytes reading is)
+        ];
+  }
 
   -- a write of the first page, whole or torn, changes nothing behind it
   pub rest_of_first : (cells : Cells) (page : List (Option ℕ)) → drop 1 (set cells 0 page) ≡ drop 1 cells
@@ -106,13 +105,13 @@ module _ {S : Type 0} (recover_at : ℕ → List (List ℕ) → Option S) where
 
   -- a page behind the first that isn't read under this bit may be written, whole or torn
   pub stands_elsewhere : (cells : Cells) (bit place : ℕ) (state : S) (page : List (Option ℕ))
-    → ((pages : List (List ℕ)) (bytes : List ℕ) → recover_at bit (set pages place bytes) ≡ recover_at bit pages)
-    → StandsFor cells bit state → StandsFor (set cells (place + 1) page) bit state
+      → ((pages : List (List ℕ)) (bytes : List ℕ) → recover_at bit (set pages place bytes) ≡ recover_at bit pages)
+      → StandsFor cells bit state → StandsFor (set cells (place + 1) page) bit state
   stands_elsewhere cells bit place state page unread stands = λ pages reading.
       let old = some_page (get_or (drop 1 cells) place []) in
       sym (unread pages old.0)
-        ∙ stands (set pages place old.0)
-            (reading_back (drop 1 cells) pages place page old.0 (subst (λ (c : Cells). Reading c pages) (rest_of_other cells place page) reading) old.1)
+      ∙ stands (set pages place old.0)
+      (reading_back (drop 1 cells) pages place page old.0 (subst (λ (c : Cells). Reading c pages) (rest_of_other cells place page) reading) old.1)
 
   -- the page's bytes are in the cells, and the first of them is the bit
   pub first_written : (cells : Cells) (bit : ℕ) (more : List ℕ) → 0 < length cells → first_cell (set cells 0 (map Some (bit ∷ more))) ≡ Some bit
@@ -124,7 +123,7 @@ module _ {S : Type 0} (recover_at : ℕ → List (List ℕ) → Option S) where
   bit_torn false sure small = tt
 
   pub first_torn : (cells : Cells) (bit : ℕ) (more : List ℕ) → IsBit (first_cell cells)
-    → IsBit (first_cell (set cells 0 (torn_page (get_or cells 0 []) (bit ∷ more))))
+      → IsBit (first_cell (set cells 0 (torn_page (get_or cells 0 []) (bit ∷ more))))
   first_torn [] bit more is = is
   first_torn ([] ∷ cells) bit more is = is
   first_torn ((None ∷ page) ∷ cells) bit more is = tt
@@ -143,7 +142,7 @@ module _ {S : Type 0} (recover_at : ℕ → List (List ℕ) → Option S) where
 
   -- The first page is torn while the bit is written that it gives: a first cell that was sure of the bit still is.
   pub torn_like : (cells : Cells) (bit : ℕ) (more : List ℕ) (shown : List (List ℕ)) → Reading cells shown → lowest shown ≡ bit
-    → IsBit (first_cell cells) → (bytes : List (List ℕ)) → Reading (set cells 0 (torn_page (get_or cells 0 []) (bit ∷ more))) bytes → Like cells bytes
+      → IsBit (first_cell cells) → (bytes : List (List ℕ)) → Reading (set cells 0 (torn_page (get_or cells 0 []) (bit ∷ more))) bytes → Like cells bytes
   torn_like [] bit more shown read_shown gives is bytes reading = record { old = bytes; reading = reading; bit = refl; rest = refl }
   torn_like ([] ∷ cells) bit more shown read_shown gives is bytes reading = record { old = bytes; reading = reading; bit = refl; rest = refl }
   torn_like ((c ∷ page) ∷ cells) bit more shown read_shown gives is [] reading = absurd reading
@@ -163,7 +162,7 @@ module _ {S : Type 0} (recover_at : ℕ → List (List ℕ) → Option S) where
         old = (sure ∷ there.0) ∷ bytes;
         reading = ((refl, there.1), reading.1);
         bit = ap (λ (x : ℕ). x % 2) (sym torn);
-        rest = refl
+        rest = refl;
       }
 
   like_gated : (cells : Cells) (bytes : List (List ℕ)) (like : Like cells bytes) → gated like.old ≡ gated bytes
@@ -171,21 +170,21 @@ module _ {S : Type 0} (recover_at : ℕ → List (List ℕ) → Option S) where
       ap (λ (b : ℕ). recover_at b (drop 1 like.old)) like.bit ∙ ap (λ (l : List (List ℕ)). recover_at (lowest bytes) l) like.rest
 
   pub like_between : (cells torn : Cells) (before after : S) → IsBit (first_cell torn) → ((bytes : List (List ℕ)) → Reading torn bytes → Like cells bytes)
-    → Between gated cells before after → Between gated torn before after
+      → Between gated cells before after → Between gated torn before after
   like_between cells torn before after bit alike between = record {
-      laid = record {
-        bit = bit;
-        same = λ one other read_one read_other equal.
+    laid = record {
+      bit = bit;
+      same = λ one other read_one read_other equal.
           let like_one = alike one read_one in
           let like_other = alike other read_other in
           sym (like_gated cells one like_one)
-            ∙ between.laid.same like_one.old like_other.old like_one.reading like_other.reading (like_one.bit ∙ equal ∙ sym like_other.bit)
-            ∙ like_gated cells other like_other
-      };
-      each = λ bytes reading.
+          ∙ between.laid.same like_one.old like_other.old like_one.reading like_other.reading (like_one.bit ∙ equal ∙ sym like_other.bit)
+          ∙ like_gated cells other like_other;
+    };
+    each = λ bytes reading.
         let like = alike bytes reading in
-        subst (λ (o : Option S). (o ≡ Some before) ⊎ (o ≡ Some after)) (like_gated cells bytes like) (between.each like.old like.reading)
-    }
+        subst (λ (o : Option S). (o ≡ Some before) ⊎ (o ≡ Some after)) (like_gated cells bytes like) (between.each like.old like.reading);
+  }
 
   nothing_else : (state : S) → gated [] ≡ Some state → StandsFor [] 0 state
   nothing_else state found [] reading = found
@@ -193,7 +192,7 @@ module _ {S : Type 0} (recover_at : ℕ → List (List ℕ) → Option S) where
 
   -- what is read once is read each time under that bit
   pub read_stands : (cells : Cells) (shown : List (List ℕ)) (state : S) → Laid gated cells → Reading cells shown → gated shown ≡ Some state
-    → StandsFor cells (lowest shown) state
+      → StandsFor cells (lowest shown) state
   read_stands [] [] state laid reading found = nothing_else state found
   read_stands [] (s ∷ shown) state laid reading found = absurd reading
   read_stands (c ∷ cells) [] state laid reading found = absurd reading

@@ -28,7 +28,7 @@ reading_length (c ∷ cells) (b ∷ bytes) reading = let rest = reading_length c
 
 -- the page at a place
 pub reading_at : (cells : List (List (Option ℕ))) (bytes : List (List ℕ)) (page : ℕ) → Reading cells bytes → page < length cells
-  → PageReading (get_or cells page []) (get_or bytes page [])
+    → PageReading (get_or cells page []) (get_or bytes page [])
 reading_at [] bytes page reading inside = absurd (omega arith)
 reading_at (c ∷ cells) [] page reading inside = absurd reading
 reading_at (c ∷ cells) (b ∷ bytes) zero reading inside = reading.0
@@ -43,7 +43,7 @@ reading_rest (c ∷ cells) (b ∷ bytes) reading = reading.1
 
 -- a page of the reading is changed back to one of the cells that stood there
 pub reading_back : (cells : List (List (Option ℕ))) (bytes : List (List ℕ)) (place : ℕ) (page : List (Option ℕ)) (old : List ℕ)
-  → Reading (set cells place page) bytes → PageReading (get_or cells place []) old → Reading cells (set bytes place old)
+    → Reading (set cells place page) bytes → PageReading (get_or cells place []) old → Reading cells (set bytes place old)
 reading_back [] [] place page old reading there = tt
 reading_back [] (b ∷ bytes) place page old reading there = absurd reading
 reading_back (c ∷ cells) [] zero page old reading there = absurd reading

@@ -16,7 +16,6 @@ IsBit (Some byte) = byte < 2
 IsBit None = ⊤
 
 module _ {State : Type 0} (recover : List (List ℕ) → Option State) where
-
   -- only the lowest bit of the first byte chooses between two states
   pub record Laid (cells : List (List (Option ℕ))) : Type 0 where
     pub bit : IsBit (first_cell cells)

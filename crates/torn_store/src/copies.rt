@@ -79,7 +79,7 @@ pub fn write_copy<P: Pages>(pages: &mut P, copy: u8, state: &[u8]) -> Result<(),
         (cuts_among (P.memory pages.old).plan (P.memory pages.old).commit (pages_for state.now) ≡ true) }
     ensures before { OnErr result
         (write_cut (P.memory pages.old).plan (P.memory pages.old).commit 1 ≡ CutBefore
-            → (P.memory pages.new).cells ≡ (P.memory pages.old).cells) }
+        → (P.memory pages.new).cells ≡ (P.memory pages.old).cells) }
     ensures gone { OnErr result (IsGone (P.memory pages.old) (P.memory pages.new)) }
 {
     let bytes = laid_out(state);

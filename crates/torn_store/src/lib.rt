@@ -6,3 +6,6 @@ pub mod copies;
 pub mod store;
 
 pub use store::{Lost, Settled, Store};
+
+#[cfg(test)]
+mod tests;

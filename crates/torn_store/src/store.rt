@@ -133,7 +133,11 @@ impl<P: Pages> Store<P> {
             (cuts_among self.memory.plan (next self.memory.commit) (commit_writes self.state new.now) ≡ true) }
         ensures gone { IfErr result (λ lost. IsGone self.memory (P.memory lost.pages)) }
     {
-        let Store { mut pages, copy, .. } = self;
+        let Store {
+            mut pages,
+            copy,
+            ..
+        } = self;
         let other = 1 - copy;
         pages.mark();
         match write_state(&mut pages, other, new) {
@@ -176,7 +180,11 @@ impl<P: Pages> Settled<P> {
         ensures gone { IfErr result (λ lost. IsGone self.memory (P.memory lost.pages)) }
     {
         let Settled { store } = self;
-        let Store { mut pages, copy, state } = store;
+        let Store {
+            mut pages,
+            copy,
+            state,
+        } = store;
         match pages.release() {
             Ok(()) => Ok(Store { pages, copy, state }),
             Err(Gone) => Err(Lost { pages }),

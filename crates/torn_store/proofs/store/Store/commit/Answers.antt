@@ -9,10 +9,10 @@ returns-in-Ok-clause-holds g c = ready_holds (g.P.Pages.memory c.write_state.new
 pub returns-in-Err-clause-lost : goal.returns-in-Err-clause-lost
 returns-in-Err-clause-lost g c =
     commit_between c.args.self (g.P.Pages.memory c.self.inside.pages) (g.P.Pages.memory c.mark.new.self) c.self.inside.copy (1 - c.self.inside.copy)
-      c.self.inside.state.items c.args.new.now (g.P.Pages.memory c.write_state.new.pages).cells c.self.view_is c.self.invariant c.mark.ensures
-      (omega arith) c.in-Err.ensures.lost
+    c.self.inside.state.items c.args.new.now (g.P.Pages.memory c.write_state.new.pages).cells c.self.view_is c.self.invariant c.mark.ensures
+    (omega arith) c.in-Err.ensures.lost
 
 pub returns-in-Err-clause-before : goal.returns-in-Err-clause-before
 returns-in-Err-clause-before g c =
     commit_before c.args.self (g.P.Pages.memory c.self.inside.pages) (g.P.Pages.memory c.mark.new.self) c.self.inside.copy
-      c.self.inside.state.items (g.P.Pages.memory c.write_state.new.pages).cells c.self.view_is c.self.invariant c.mark.ensures c.in-Err.ensures.before
+    c.self.inside.state.items (g.P.Pages.memory c.write_state.new.pages).cells c.self.view_is c.self.invariant c.mark.ensures c.in-Err.ensures.before
