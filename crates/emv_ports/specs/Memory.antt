@@ -1,7 +1,7 @@
 -- The memory of a card, 64 pages of 64 cells, and what each call of `Pages` makes of it.
 use Rattle.std.specs.Prelude.{◌≡◌, ◌⊎◌, ℕ, ◌+◌, ◌<◌, min, Bool, true, false, List, [], ◌∷◌, map, length, slice_index_or, slice_set, Option, Some, None, IsTrue, ◌==◌, if◌then◌else◌}
 use Rattle.emv_ports.specs.Causes.{one_more}
-use Rattle.emv_ports.specs.Cut.{is_plan}
+use Rattle.emv_ports.specs.Cut.{is_plan, write_cut, release_cut}
 use Rattle.emv_ports.specs.PageReading.{Reading}
 use Rattle.emv_ports.specs.declared.tear.Cut.{Cut}
 use Rattle.emv_ports.specs.declared.tear.Cut.TheVariants.{CutBefore, CutWithin}
@@ -48,7 +48,11 @@ marked m = record m { commit = next m.commit; writes = 0 }
 -- the page's cells are sure of the bytes
 abbrev pub written : Memory → ℕ → List ℕ → Memory
 written m page bytes =
-    record m { cells = slice_set m.cells page (map Some bytes); shown = slice_set m.shown page bytes; writes = next m.writes }
+    record m {
+      cells = slice_set m.cells page (map Some bytes);
+      shown = slice_set m.shown page bytes;
+      writes = next m.writes;
+    }
 
 -- a cell behind a torn write: sure only where it was sure of this byte before
 abbrev pub torn_cell : Option ℕ → ℕ → Option ℕ
@@ -62,13 +66,22 @@ torn_page (cell ∷ cells) (byte ∷ bytes) = torn_cell cell byte ∷ torn_page 
 
 -- each cell of the page that isn't sure of its new byte already is unsure
 abbrev pub torn : Memory → ℕ → List ℕ → Memory
-torn m page bytes = record m { cells = slice_set m.cells page (torn_page (slice_index_or m.cells page []) bytes) }
+torn m page bytes =
+    record m { cells = slice_set m.cells page (torn_page (slice_index_or m.cells page []) bytes) }
 
 -- the power is lost
 abbrev pub gone : Memory → Memory
 gone m = record m { on = false; plan = None; losses = one_more m.losses }
 
+-- what the plan makes of the next write
+abbrev pub next_write_cut : Memory → Cut
+next_write_cut m = write_cut m.plan m.commit (next m.writes)
+
+-- what the plan makes of a release now
+abbrev pub next_release_cut : Memory → Cut
+next_release_cut m = release_cut m.plan m.commit m.writes
+
 -- what a write leaves that is cut
-abbrev pub CutWrite : Cut → Memory → ℕ → List ℕ → Memory → Type 0
-CutWrite cut old page bytes new =
-    ((cut ≡ CutBefore) × (new ≡ gone old)) ⊎ ((cut ≡ CutWithin) × (new ≡ gone (torn old page bytes)))
+abbrev pub CutWrite : Memory → ℕ → List ℕ → Memory → Type 0
+CutWrite old page bytes new =
+    ((next_write_cut old ≡ CutBefore) × (new ≡ gone old)) ⊎ ((next_write_cut old ≡ CutWithin) × (new ≡ gone (torn old page bytes)))

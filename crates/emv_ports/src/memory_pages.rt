@@ -1,9 +1,9 @@
 //! Card pages that live in memory, and tear by plan.
-ghost use Rattle.std.specs.Prelude.{◌≡◌, ◌<◌, ◌≤◌, ◌+◌, ◌%◌, ◌==◌, ℕ, true, false, map, length, slice_index_or, [], IsTrue, OnOk, OnErr};
-ghost use Rattle.emv_ports.specs.Cut.{is_plan, write_cut, release_cut};
-ghost use Rattle.emv_ports.specs.Cell.{sure_of, given_of, torn_over, all_torn_over, settled, settled_from, gives_byte, is_page};
+ghost use Rattle.std.specs.Prelude.{◌≡◌, ◌<◌, map, length, IsTrue};
 ghost use Rattle.std.specs.List.{list_all};
-ghost use Rattle.emv_ports.specs.declared.tear.Cut.TheVariants.{Spared, CutBefore, CutWithin};
+ghost use Rattle.emv_ports.specs.Cut.{is_plan, write_cut, release_cut};
+ghost use Rattle.emv_ports.specs.Cell.{given_of, gives_byte, is_page, settled, settled_from};
+ghost use Rattle.emv_ports.specs.Cell.{torn_over, all_torn_over};
 ghost use Rattle.emv_ports.specs.declared.memory_pages.Cell.TheVariants.{Sure};
 
 use crate::{Cut, Gone, Pages, Tear, TearAt};
@@ -12,7 +12,8 @@ use crate::{Cut, Gone, Pages, Tear, TearAt};
 #[derive(Clone, Copy, Debug, PartialEq, Eq)]
 enum Cell {
     Sure(u8),
-    /// `torn` is the byte of the torn write, and `given` the one that the cell gives until the next power-up.
+    /// `torn` is the byte of the torn write, and `given` the one that the cell gives until the
+    /// next power-up.
     Unsure { torn: u8, given: u8 },
 }
 
@@ -122,7 +123,7 @@ fn write_cut(plan: Option<Tear>, commit: u8, number: u8) -> Cut
     }
 }
 
-/// Whether the plan cuts the release behind these writes of this commit.
+/// What the plan makes of the release behind these writes of this commit.
 fn release_cut(plan: Option<Tear>, commit: u8, writes: u8) -> Cut
     ensures { result ≡ release_cut plan commit writes }
 {
@@ -135,8 +136,9 @@ fn release_cut(plan: Option<Tear>, commit: u8, writes: u8) -> Cut
     }
 }
 
-/// Card pages in memory. At power-up number n, counted from 1 since they were made, the unsure cell i of a page gives
-/// the torn write's byte where i + n is even, else the byte that it gave last.
+/// Card pages in memory. At power-up number n, counted from 1 since they were made, the unsure
+/// cell i of a page gives the torn write's byte where i + n is even, else the byte that it gave
+/// last.
 #[derive(Drop)]
 pub struct MemoryPages {
     cells: [[Cell; 64]; 64],
@@ -154,7 +156,8 @@ pub struct MemoryPages {
 
 impl MemoryPages {
     ghost use Rattle.emv_ports.specs.Memory.{gone, torn};
-    ghost use Rattle.emv_ports.specs.MemoryPages.{memory_of, workings_of, blank_memory, blank_workings, torn_workings};
+    ghost use Rattle.emv_ports.specs.MemoryPages.{memory_of, blank_memory};
+    ghost use Rattle.emv_ports.specs.MemoryPages.{workings_of, blank_workings, torn_workings};
 
     /// Pages that are off, every cell sure of 00, no tear planned and no loss.
     pub fn blank() -> MemoryPages
@@ -207,10 +210,12 @@ impl MemoryPages {
 }
 
 impl Pages for MemoryPages {
-    ghost use Rattle.emv_ports.specs.Memory.{next, planned, PowersUp, powered_off, marked, written, gone, CutWrite};
-    ghost use Rattle.emv_ports.specs.MemoryPages.{memory_of, workings_of, turned_on, marked_once, written_once, called_once, torn_once};
-    ghost use Rattle.std.specs.Prelude.{◌≡◌, ◌<◌, true, false, slice_index_or, [], IsTrue, OnOk, OnErr};
-    ghost use Rattle.emv_ports.specs.Cut.{is_plan, write_cut, release_cut};
+    ghost use Rattle.std.specs.Prelude.{◌≡◌, ◌<◌, IsTrue, OnOk, OnErr};
+    ghost use Rattle.emv_ports.specs.Cut.{is_plan};
+    ghost use Rattle.emv_ports.specs.Memory.{planned, PowersUp, powered_off, marked, gone};
+    ghost use Rattle.emv_ports.specs.Memory.{next_write_cut, next_release_cut, written, CutWrite};
+    ghost use Rattle.emv_ports.specs.MemoryPages.{memory_of, workings_of, turned_on, marked_once};
+    ghost use Rattle.emv_ports.specs.MemoryPages.{written_once, called_once, torn_once};
     ghost use Rattle.emv_ports.specs.declared.tear.Cut.TheVariants.{Spared, CutBefore, CutWithin};
 
     ghost memory = { memory_of };
@@ -257,19 +262,17 @@ impl Pages for MemoryPages {
 
     fn write(&mut self, page: u8, bytes: &[u8; 64]) -> Result<(), Gone>
         requires { page < 64 }
-        ensures spared { OnOk result
-            (write_cut (memory_of self.old).plan (memory_of self.old).commit (next (memory_of self.old).writes) ≡ Spared) }
-        ensures written { OnOk result (memory_of self.new ≡ written (memory_of self.old) page bytes.now) }
-        ensures cut { OnErr result (CutWrite
-            (write_cut (memory_of self.old).plan (memory_of self.old).commit (next (memory_of self.old).writes))
-            (memory_of self.old) page bytes.now (memory_of self.new)) }
+        ensures spared { OnOk result (next_write_cut (memory_of self.old) ≡ Spared) }
+        ensures written { OnOk result
+            (memory_of self.new ≡ written (memory_of self.old) page bytes.now) }
+        ensures cut { OnErr result
+            (CutWrite (memory_of self.old) page bytes.now (memory_of self.new)) }
 
-        ensures workings { OnOk result (workings_of self.new ≡ written_once (workings_of self.old) page bytes.now) }
-        ensures before { OnErr result
-            (write_cut (memory_of self.old).plan (memory_of self.old).commit (next (memory_of self.old).writes) ≡ CutBefore
+        ensures workings { OnOk result
+            (workings_of self.new ≡ written_once (workings_of self.old) page bytes.now) }
+        ensures before { OnErr result (next_write_cut (memory_of self.old) ≡ CutBefore
             → workings_of self.new ≡ called_once (workings_of self.old)) }
-        ensures within { OnErr result
-            (write_cut (memory_of self.old).plan (memory_of self.old).commit (next (memory_of self.old).writes) ≡ CutWithin
+        ensures within { OnErr result (next_write_cut (memory_of self.old) ≡ CutWithin
             → workings_of self.new ≡ torn_once (workings_of self.old) page bytes.now) }
     {
         self.writes = self.writes.saturating_add(1);
@@ -293,11 +296,9 @@ impl Pages for MemoryPages {
     }
 
     fn release(&mut self) -> Result<(), Gone>
-        ensures spared { OnOk result
-            (release_cut (memory_of self.old).plan (memory_of self.old).commit (memory_of self.old).writes ≡ Spared) }
+        ensures spared { OnOk result (next_release_cut (memory_of self.old) ≡ Spared) }
         ensures same { OnOk result (memory_of self.new ≡ memory_of self.old) }
-        ensures cut { OnErr result
-            (release_cut (memory_of self.old).plan (memory_of self.old).commit (memory_of self.old).writes ≡ CutBefore) }
+        ensures cut { OnErr result (next_release_cut (memory_of self.old) ≡ CutBefore) }
         ensures gone { OnErr result (memory_of self.new ≡ gone (memory_of self.old)) }
 
         ensures workings { workings_of self.new ≡ workings_of self.old }

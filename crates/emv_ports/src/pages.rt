@@ -1,7 +1,9 @@
 //! The pages of a card's memory, as whoever writes to them sees them.
-ghost use Rattle.std.specs.Prelude.{◌≡◌, ◌<◌, ℕ, true, false, Option, slice_index_or, [], IsTrue, OnOk, OnErr};
-ghost use Rattle.emv_ports.specs.Cut.{is_plan, write_cut, release_cut};
-ghost use Rattle.emv_ports.specs.Memory.{Memory, next, planned, PowersUp, powered_off, marked, written, gone, CutWrite};
+ghost use Rattle.std.specs.Prelude.{◌≡◌, ◌<◌, true, false, slice_index_or, [], IsTrue};
+ghost use Rattle.std.specs.Prelude.{OnOk, OnErr};
+ghost use Rattle.emv_ports.specs.Cut.{is_plan};
+ghost use Rattle.emv_ports.specs.Memory.{Memory, planned, PowersUp, powered_off, marked, written, gone};
+ghost use Rattle.emv_ports.specs.Memory.{next_write_cut, next_release_cut, CutWrite};
 ghost use Rattle.emv_ports.specs.declared.tear.Cut.TheVariants.{Spared, CutBefore};
 
 use crate::Tear;
@@ -10,7 +12,8 @@ use crate::Tear;
 #[derive(Clone, Copy, Debug, PartialEq, Eq)]
 pub struct Gone;
 
-/// 64 pages of 64 cells. A cell is sure of a byte, or unsure: then each power-up chooses what it gives.
+/// 64 pages of 64 cells. A cell is sure of a byte, or unsure: then each power-up chooses what it
+/// gives.
 ///
 /// The power may be cut at a write or a release, where a plan says so.
 pub trait Pages: Drop {
@@ -32,7 +35,8 @@ pub trait Pages: Drop {
         requires on { (memory self.old).on ≡ true }
         ensures { memory self.new ≡ powered_off (memory self.old) };
 
-    /// The bytes of a page: a sure cell's byte, and for an unsure one a byte that stays until the next power-up.
+    /// The bytes of a page: a sure cell's byte, and for an unsure one a byte that stays until the
+    /// next power-up.
     fn read(&self, page: u8) -> [u8; 64]
         requires on { (memory self.now).on ≡ true }
         requires page { page < 64 }
@@ -47,21 +51,16 @@ pub trait Pages: Drop {
     fn write(&mut self, page: u8, bytes: &[u8; 64]) -> Result<(), Gone>
         requires on { (memory self.old).on ≡ true }
         requires page { page < 64 }
-        ensures spared { OnOk result
-            (write_cut (memory self.old).plan (memory self.old).commit (next (memory self.old).writes) ≡ Spared) }
+        ensures spared { OnOk result (next_write_cut (memory self.old) ≡ Spared) }
         ensures written { OnOk result (memory self.new ≡ written (memory self.old) page bytes.now) }
-        ensures cut { OnErr result (CutWrite
-            (write_cut (memory self.old).plan (memory self.old).commit (next (memory self.old).writes))
-            (memory self.old) page bytes.now (memory self.new)) };
+        ensures cut { OnErr result (CutWrite (memory self.old) page bytes.now (memory self.new)) };
 
-    /// Says that the writes are done. `Gone` comes exactly where the plan cuts the release of this commit, or names a
-    /// write of it that wasn't made.
+    /// Says that the writes are done. `Gone` comes exactly where the plan cuts the release of this
+    /// commit, or names a write of it that wasn't made.
     fn release(&mut self) -> Result<(), Gone>
         requires on { (memory self.old).on ≡ true }
-        ensures spared { OnOk result
-            (release_cut (memory self.old).plan (memory self.old).commit (memory self.old).writes ≡ Spared) }
+        ensures spared { OnOk result (next_release_cut (memory self.old) ≡ Spared) }
         ensures same { OnOk result (memory self.new ≡ memory self.old) }
-        ensures cut { OnErr result
-            (release_cut (memory self.old).plan (memory self.old).commit (memory self.old).writes ≡ CutBefore) }
+        ensures cut { OnErr result (next_release_cut (memory self.old) ≡ CutBefore) }
         ensures gone { OnErr result (memory self.new ≡ gone (memory self.old)) };
 }

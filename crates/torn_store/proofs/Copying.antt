@@ -130,7 +130,7 @@ torn_first start now copy n bytes so_far false is within before =
 
 -- the power is lost at a page of the copy
 pub copying_cut : (start now new : Memory) (copy n number : ℕ) (page bytes : List ℕ) → Copying start now copy n bytes → n < number → number ≤ 17
-    → CutWrite (write_cut now.plan now.commit (next now.writes)) now (1 + 17 * copy + n) page new → CopyCut start new copy number
+    → CutWrite now (1 + 17 * copy + n) page new → CopyCut start new copy number
 copying_cut start now new copy n number page bytes so_far inside few cut =
     let place : ℕ = 1 + 17 * copy + n in
     let count : next now.writes ≡ n + 1 = ap next so_far.wrote.writes ∙ (let w : min (n + 1) 255 ≡ n + 1 = omega arith in w) in

@@ -2,8 +2,8 @@
 use Rattle.std.proofs.Common.{◌%◌, ◌≡◌, ◌≤◌, ◌⊎◌, ℕ, List, [], ◌∷◌, length, get_or, drop, map, refl, ap, sym, ◌∙◌, subst, arith, Option, Some, inl, inr, IsTrue, IsSome}
 use Rattle.std.proofs.Math.ListN.{set}
 use Rattle.std.proofs.lemmas.List.{length-set}
-use Rattle.emv_ports.specs.Cut.{is_plan, write_cut}
-use Rattle.emv_ports.specs.Memory.{Memory, next, written, CutWrite, PowersUp, torn_page}
+use Rattle.emv_ports.specs.Cut.{is_plan}
+use Rattle.emv_ports.specs.Memory.{Memory, written, CutWrite, PowersUp, torn_page}
 use Rattle.emv_ports.specs.PageReading.{Reading}
 use Rattle.torn_store.specs.Layout.{recover_at, recover}
 use Rattle.torn_store.specs.Recovery.{lowest, first_cell, Between, Holds}
@@ -57,7 +57,7 @@ repair_ready old on new copy more state before after up between is found fits wr
 
 -- the power was lost at the selector
 pub repair_cut : (old on new : Memory) (copy : ℕ) (more before after : List ℕ) → PowersUp old on → Between recover old.cells before after
-    → copy ≡ lowest on.shown → CutWrite (write_cut on.plan on.commit (next on.writes)) on 0 (copy ∷ more) new → Between recover new.cells before after
+    → copy ≡ lowest on.shown → CutWrite on 0 (copy ∷ more) new → Between recover new.cells before after
 repair_cut old on new copy more before after up between is cut =
     let before_up : on.cells ≡ old.cells = ap (λ (m : Memory). m.cells) up.turned_on in
     let still = subst (λ (c : Cells). Between recover c before after) (sym before_up) between in

@@ -61,7 +61,7 @@ pub record SelectCut (start now new : Memory) (copy n : ℕ) (state : List ℕ) 
       → Between recover new.cells before state
 
 pub selects_cut : (start now new : Memory) (copy n : ℕ) (more state : List ℕ) → Wrote start now n → n ≤ 17 → Stands now.cells copy state
-    → CutWrite (write_cut now.plan now.commit (next now.writes)) now 0 (copy ∷ more) new → SelectCut start now new copy n state
+    → CutWrite now 0 (copy ∷ more) new → SelectCut start now new copy n state
 selects_cut start now new copy n more state wrote few stands cut =
     let planned = as_planned start now n wrote few in
     let upto : n + 1 ≤ n + 1 = omega arith in

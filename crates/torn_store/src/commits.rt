@@ -1,5 +1,6 @@
 //! The writes of a format, a commit and a repair, in an order that no loss of power spoils.
-ghost use Rattle.std.specs.Prelude.{◌≡◌, ◌<◌, ◌≤◌, ◌+◌, ◌⊎◌, ℕ, length, List, Some, None, true, false, IsTrue, OnOk, OnErr, IfOk, IsOk};
+ghost use Rattle.std.specs.Prelude.{◌≡◌, ◌<◌, ◌≤◌, ◌+◌, ◌⊎◌, ℕ, List, length, Some, None, true, false};
+ghost use Rattle.std.specs.Prelude.{IsTrue, IsOk, IfOk, OnOk, OnErr};
 ghost use Rattle.emv_ports.specs.Cut.{is_plan, is_named, write_cut, cuts_among};
 ghost use Rattle.emv_ports.specs.declared.tear.Cut.TheVariants.{CutBefore};
 ghost use Rattle.torn_store.specs.Layout.{recover, pages_for};
@@ -26,16 +27,20 @@ pub fn write_state<P: Pages>(pages: &mut P, copy: u8, state: &[u8]) -> Result<()
     requires copy { copy < 2 }
     requires fits { length state.now ≤ 1024 }
 
-    ensures wrote { OnOk result (Wrote (P.memory pages.old) (P.memory pages.new) (pages_for state.now + 1)) }
+    ensures wrote { OnOk result
+        (Wrote (P.memory pages.old) (P.memory pages.new) (pages_for state.now + 1)) }
     ensures ready { OnOk result (IsReady (P.memory pages.new) copy state.now) }
     ensures spared { OnOk result
-        (cuts_among (P.memory pages.old).plan (P.memory pages.old).commit (pages_for state.now + 1) ≡ false) }
+        (cuts_among (P.memory pages.old).plan (P.memory pages.old).commit
+        (pages_for state.now + 1) ≡ false) }
 
     ensures lost { OnErr result ((from : ℕ) (before : List ℕ) → from + copy ≡ 1
-        → first_cell (P.memory pages.old).cells ≡ Some from → Stands (P.memory pages.old).cells from before
+        → first_cell (P.memory pages.old).cells ≡ Some from
+        → Stands (P.memory pages.old).cells from before
         → Between recover (P.memory pages.new).cells before state.now) }
     ensures cut { OnErr result
-        (cuts_among (P.memory pages.old).plan (P.memory pages.old).commit (pages_for state.now + 1) ≡ true) }
+        (cuts_among (P.memory pages.old).plan (P.memory pages.old).commit
+        (pages_for state.now + 1) ≡ true) }
     ensures before { OnErr result
         (write_cut (P.memory pages.old).plan (P.memory pages.old).commit 1 ≡ CutBefore
         → (P.memory pages.new).cells ≡ (P.memory pages.old).cells) }
@@ -48,15 +53,18 @@ pub fn write_state<P: Pages>(pages: &mut P, copy: u8, state: &[u8]) -> Result<()
 /// Turns the pages on, finds the state, makes the selector whole, and releases.
 pub fn repair<P: Pages>(pages: &mut P) -> Result<Found, Gone>
     requires off { (P.memory pages.old).on ≡ false }
-    requires between { (before : List ℕ) × (after : List ℕ) × Between recover (P.memory pages.old).cells before after }
+    requires between { (before : List ℕ) × (after : List ℕ)
+        × Between recover (P.memory pages.old).cells before after }
 
-    ensures found { IfOk result (λ found. (before after : List ℕ) → Between recover (P.memory pages.old).cells before after
+    ensures found { IfOk result (λ found. (before after : List ℕ)
+        → Between recover (P.memory pages.old).cells before after
         → (found.state.items ≡ before) ⊎ (found.state.items ≡ after)) }
     ensures ready { IfOk result (λ found. IsReady (P.memory pages.new) found.copy found.state.items) }
-    ensures repaired { OnOk result (TurnedOn (P.memory pages.old) (P.memory pages.new) 1) }
+    ensures turned_on { OnOk result (TurnedOn (P.memory pages.old) (P.memory pages.new) 1) }
     ensures spared { OnOk result (is_named (P.memory pages.old).plan 0 ≡ false) }
 
-    ensures lost { OnErr result ((before after : List ℕ) → Between recover (P.memory pages.old).cells before after
+    ensures lost { OnErr result ((before after : List ℕ)
+        → Between recover (P.memory pages.old).cells before after
         → Between recover (P.memory pages.new).cells before after) }
     ensures cut { OnErr result (is_named (P.memory pages.old).plan 0 ≡ true) }
     ensures gone { OnErr result (IsGone (P.memory pages.old) (P.memory pages.new)) }
@@ -91,7 +99,7 @@ pub fn prepare<P: Pages>(pages: &mut P, first: &[u8])
     requires fits { length first.now ≤ 1024 }
 
     ensures ready { IsReady (P.memory pages.new) 0 first.now }
-    ensures prepared { TurnedOn (P.memory pages.old) (P.memory pages.new) (pages_for first.now + 1) }
+    ensures turned_on { TurnedOn (P.memory pages.old) (P.memory pages.new) (pages_for first.now + 1) }
 {
     pages.power_up();
     match written_and_released(pages, first) {

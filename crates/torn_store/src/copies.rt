@@ -1,10 +1,10 @@
 //! The two copies of the state, page by page.
-ghost use Rattle.std.specs.Prelude.{◌≡◌, ◌<◌, ◌≤◌, ◌+◌, ◌*◌, ℕ, length, take, drop, true, ◌++◌, List, Some, IsSome};
+ghost use Rattle.std.specs.Prelude.{◌≡◌, ◌<◌, ◌≤◌, ◌+◌, ◌*◌, ◌++◌, length, take, drop, true, false};
+ghost use Rattle.std.specs.Prelude.{Some, IsSome, IsTrue, OnOk, OnErr};
 ghost use Rattle.std.specs.Int.{to_be_bytes, w16};
-ghost use Rattle.std.specs.Prelude.{false, IsTrue, OnOk, OnErr, slice_range};
 ghost use Rattle.emv_ports.specs.Cut.{is_plan, write_cut, cuts_among};
 ghost use Rattle.emv_ports.specs.declared.tear.Cut.TheVariants.{CutBefore};
-ghost use Rattle.torn_store.specs.Layout.{state_in, recover_at, joined, pages_for};
+ghost use Rattle.torn_store.specs.Layout.{state_in, recover_at, pages_for};
 ghost use Rattle.torn_store.specs.Store.{Stands, IsGone};
 ghost use Rattle.torn_store.specs.Writing.{Wrote, KeepsOther};
 
@@ -17,7 +17,8 @@ pub type State = ArrayVec<u8, 1024>;
 /// The state behind its length, and zeros.
 fn laid_out(state: &[u8]) -> [u8; 1088]
     requires { length state.now ≤ 1024 }
-    ensures { take (length state.now + 2) result ≡ to_be_bytes w16 (length state.now) ++ state.now }
+    ensures { take (length state.now + 2) result
+        ≡ to_be_bytes w16 (length state.now) ++ state.now }
 {
     let mut bytes = [0; 1088];
     let length = state.len();
@@ -59,7 +60,8 @@ fn state_of(bytes: &[u8; 1088]) -> State
     }
 }
 
-/// Writes the pages of a copy that hold the state. The other copy and the selector stay, wherever the power is lost.
+/// Writes the pages of a copy that hold the state. The other copy and the selector stay, wherever
+/// the power is lost.
 pub fn write_copy<P: Pages>(pages: &mut P, copy: u8, state: &[u8]) -> Result<(), Gone>
     requires on { (P.memory pages.old).on ≡ true }
     requires size { length (P.memory pages.old).cells ≡ 64 }
@@ -68,15 +70,18 @@ pub fn write_copy<P: Pages>(pages: &mut P, copy: u8, state: &[u8]) -> Result<(),
     requires copy { copy < 2 }
     requires fits { length state.now ≤ 1024 }
 
-    ensures wrote { OnOk result (Wrote (P.memory pages.old) (P.memory pages.new) (pages_for state.now)) }
+    ensures wrote { OnOk result
+        (Wrote (P.memory pages.old) (P.memory pages.new) (pages_for state.now)) }
     ensures stands { OnOk result (Stands (P.memory pages.new).cells copy state.now) }
     ensures spared { OnOk result
-        (cuts_among (P.memory pages.old).plan (P.memory pages.old).commit (pages_for state.now) ≡ false) }
+        (cuts_among (P.memory pages.old).plan (P.memory pages.old).commit
+        (pages_for state.now) ≡ false) }
 
     ensures kept { KeepsOther (P.memory pages.old).cells (P.memory pages.new).cells copy }
 
     ensures cut { OnErr result
-        (cuts_among (P.memory pages.old).plan (P.memory pages.old).commit (pages_for state.now) ≡ true) }
+        (cuts_among (P.memory pages.old).plan (P.memory pages.old).commit
+        (pages_for state.now) ≡ true) }
     ensures before { OnErr result
         (write_cut (P.memory pages.old).plan (P.memory pages.old).commit 1 ≡ CutBefore
         → (P.memory pages.new).cells ≡ (P.memory pages.old).cells) }

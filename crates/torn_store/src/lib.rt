@@ -1,9 +1,10 @@
-//! A state on card pages that a loss of power may tear: after any loss the old state is found, or the new one.
+//! A state on card pages that a loss of power may tear: after any loss the old state is found, or
+//! the new one.
 #![tactic(auto)]
 
-pub mod commits;
-pub mod copies;
-pub mod store;
+mod commits;
+mod copies;
+mod store;
 
 pub use store::{Lost, Settled, Store};
 

@@ -1,7 +1,8 @@
 //! The store: a state that is found again, wherever the power is lost.
-ghost use Rattle.std.specs.Prelude.{◌≡◌, ◌<◌, ◌≤◌, ◌+◌, ◌⊎◌, ℕ, length, List, Some, None, true, false, IsTrue, OnOk, OnErr, IfOk, IfErr};
-ghost use Rattle.emv_ports.specs.Cut.{is_named, write_cut, cuts_among, release_cut};
-ghost use Rattle.emv_ports.specs.Memory.{next, powered_off};
+ghost use Rattle.std.specs.Prelude.{◌≡◌, ◌≤◌, ◌⊎◌, ℕ, List, length, None, true, false};
+ghost use Rattle.std.specs.Prelude.{IfOk, IfErr, OnOk, OnErr};
+ghost use Rattle.emv_ports.specs.Cut.{is_named, write_cut, cuts_among};
+ghost use Rattle.emv_ports.specs.Memory.{next, powered_off, next_release_cut};
 ghost use Rattle.emv_ports.specs.declared.tear.Cut.TheVariants.{Spared, CutBefore};
 ghost use Rattle.torn_store.specs.Layout.{recover, commit_writes};
 ghost use Rattle.torn_store.specs.Recovery.{Holds, Between};
@@ -36,7 +37,8 @@ impl<P: Pages> Model for Store<P> {
     ghost invariant = { λ s. IsReady (P.memory s.pages) s.copy s.state.items };
 }
 
-/// A commit that is written and not yet released: it can't be dropped, and only `release` gives the store back.
+/// A commit that is written and not yet released: it can't be dropped, and only `release` gives
+/// the store back.
 pub struct Settled<P: Pages> {
     store: Store<P>,
 }
@@ -71,16 +73,18 @@ impl<P: Pages> Store<P> {
         }
     }
 
-    /// Turns the pages on and finds the state. The pages are as `format`, or any later call, left them: whatever their
-    /// unsure cells give, they stand for one of two states.
+    /// Turns the pages on and finds the state. The pages are as `format`, or any later call, left
+    /// them: whatever their unsure cells give, they stand for one of two states.
     ///
-    /// `Lost` comes exactly where a tear is planned before the first commit: at the writes of the repair, or at its
-    /// release.
+    /// `Lost` comes exactly where a tear is planned before the first commit: at a write of the
+    /// repair, or at its release.
     pub fn open(pages: P) -> Result<Store<P>, Lost<P>>
         requires off { (P.memory pages).on ≡ false }
-        requires between { (before : List ℕ) × (after : List ℕ) × Between recover (P.memory pages).cells before after }
+        requires between { (before : List ℕ) × (after : List ℕ)
+            × Between recover (P.memory pages).cells before after }
 
-        ensures found { IfOk result (λ store. (before after : List ℕ) → Between recover (P.memory pages).cells before after
+        ensures found { IfOk result (λ store. (before after : List ℕ)
+            → Between recover (P.memory pages).cells before after
             → (store.state ≡ before) ⊎ (store.state ≡ after)) }
         ensures holds { IfOk result (λ store. Holds recover store.memory.cells store.state) }
         ensures spared { OnOk result (is_named (P.memory pages).plan 0 ≡ false) }
@@ -89,7 +93,8 @@ impl<P: Pages> Store<P> {
         ensures plan { IfOk result (λ store. store.memory.plan ≡ (P.memory pages).plan) }
         ensures losses { IfOk result (λ store. store.memory.losses ≡ (P.memory pages).losses) }
 
-        ensures lost { IfErr result (λ lost. (before after : List ℕ) → Between recover (P.memory pages).cells before after
+        ensures lost { IfErr result (λ lost. (before after : List ℕ)
+            → Between recover (P.memory pages).cells before after
             → Between recover (P.memory lost.pages).cells before after) }
         ensures cut { OnErr result (is_named (P.memory pages).plan 0 ≡ true) }
         ensures gone { IfErr result (λ lost. IsGone (P.memory pages) (P.memory lost.pages)) }
@@ -112,25 +117,32 @@ impl<P: Pages> Store<P> {
 
     /// Writes a new state, which `release` of the answer settles.
     ///
-    /// `Lost` comes exactly where the plan cuts one of the commit's writes. Then the pages are between the old state and
-    /// the new one, and stand for the old one where the first write was cut before it began.
+    /// `Lost` comes exactly where the plan cuts one of the commit's writes. Then the pages are
+    /// between the old state and the new one, and stand for the old one where the first write was
+    /// cut before it began.
     pub fn commit(self, new: &[u8]) -> Result<Settled<P>, Lost<P>>
         requires { length new.now ≤ 1024 }
 
         ensures state { IfOk result (λ settled. settled.state ≡ new.now) }
         ensures holds { IfOk result (λ settled. Holds recover settled.memory.cells new.now) }
         ensures spared { OnOk result
-            (cuts_among self.memory.plan (next self.memory.commit) (commit_writes self.state new.now) ≡ false) }
-        ensures wrote { IfOk result (λ settled. settled.memory.writes ≡ commit_writes self.state new.now) }
-        ensures commit { IfOk result (λ settled. settled.memory.commit ≡ next self.memory.commit) }
+            (cuts_among self.memory.plan (next self.memory.commit)
+            (commit_writes self.state new.now) ≡ false) }
+        ensures wrote { IfOk result (λ settled.
+            settled.memory.writes ≡ commit_writes self.state new.now) }
+        ensures commit { IfOk result (λ settled.
+            settled.memory.commit ≡ next self.memory.commit) }
         ensures plan { IfOk result (λ settled. settled.memory.plan ≡ self.memory.plan) }
         ensures losses { IfOk result (λ settled. settled.memory.losses ≡ self.memory.losses) }
 
-        ensures lost { IfErr result (λ lost. Between recover (P.memory lost.pages).cells self.state new.now) }
-        ensures before { IfErr result (λ lost. write_cut self.memory.plan (next self.memory.commit) 1 ≡ CutBefore
+        ensures lost { IfErr result (λ lost.
+            Between recover (P.memory lost.pages).cells self.state new.now) }
+        ensures before { IfErr result (λ lost.
+            write_cut self.memory.plan (next self.memory.commit) 1 ≡ CutBefore
             → Holds recover (P.memory lost.pages).cells self.state) }
         ensures cut { OnErr result
-            (cuts_among self.memory.plan (next self.memory.commit) (commit_writes self.state new.now) ≡ true) }
+            (cuts_among self.memory.plan (next self.memory.commit)
+            (commit_writes self.state new.now) ≡ true) }
         ensures gone { IfErr result (λ lost. IsGone self.memory (P.memory lost.pages)) }
     {
         let Store {
@@ -166,17 +178,16 @@ impl<P: Pages> Store<P> {
 impl<P: Pages> Settled<P> {
     /// Releases the commit, and gives the store back.
     ///
-    /// `Lost` comes exactly where the plan cuts the release. The pages stand for the new state then too.
+    /// `Lost` comes exactly where the plan cuts the release. The pages stand for the new state then
+    /// too.
     pub fn release(self) -> Result<Store<P>, Lost<P>>
         ensures state { IfOk result (λ store. store.state ≡ self.state) }
         ensures holds { IfOk result (λ store. Holds recover store.memory.cells self.state) }
-        ensures spared { OnOk result
-            (release_cut self.memory.plan self.memory.commit self.memory.writes ≡ Spared) }
+        ensures spared { OnOk result (next_release_cut self.memory ≡ Spared) }
         ensures memory { IfOk result (λ store. store.memory ≡ self.memory) }
 
         ensures lost { IfErr result (λ lost. Holds recover (P.memory lost.pages).cells self.state) }
-        ensures cut { OnErr result
-            (release_cut self.memory.plan self.memory.commit self.memory.writes ≡ CutBefore) }
+        ensures cut { OnErr result (next_release_cut self.memory ≡ CutBefore) }
         ensures gone { IfErr result (λ lost. IsGone self.memory (P.memory lost.pages)) }
     {
         let Settled { store } = self;

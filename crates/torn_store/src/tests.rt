@@ -1,8 +1,8 @@
-ghost use Rattle.std.specs.Prelude.{◌≡◌, ◌<◌, ◌≤◌, ◌⊎◌, ℕ, length, List, None, true, false, IsTrue, OnOk, OnErr, IfOk, IfErr};
+ghost use Rattle.std.specs.Prelude.{◌≡◌, ◌<◌, ◌≤◌, ◌⊎◌, ℕ, List, length, None, false};
+ghost use Rattle.std.specs.Prelude.{IsTrue, IfOk, IfErr};
 ghost use Rattle.emv_ports.specs.Cut.{is_place, is_plan};
 ghost use Rattle.torn_store.specs.Layout.{recover};
-ghost use Rattle.torn_store.specs.Recovery.{Holds, Between};
-ghost use Rattle.torn_store.specs.Store.{IsGone};
+ghost use Rattle.torn_store.specs.Recovery.{Between};
 
 use super::*;
 use emv_ports::{MemoryPages, Pages, Tear, TearAt};
@@ -33,17 +33,19 @@ fn state_bytes(number: usize) -> &'static [u8]
 fn settled<P: Pages>(store: Store<P>, new: &[u8]) -> Result<Store<P>, Lost<P>>
     requires { length new.now ≤ 1024 }
     ensures state { IfOk result (λ next. next.state ≡ new.now) }
-    ensures lost { IfErr result (λ lost. Between recover (P.memory lost.pages).cells store.state new.now) }
+    ensures lost { IfErr result (λ lost.
+        Between recover (P.memory lost.pages).cells store.state new.now) }
     ensures off { IfErr result (λ lost. (P.memory lost.pages).on ≡ false) }
 {
     store.commit(new)?.release()
 }
 
-/// Opens the pages, once more where a tear cuts the first time off, and gives the state and the pages.
+/// Opens the pages, once more where a tear cuts the first time off.
 fn opened<P: Pages>(pages: P, tear: Option<Tear>) -> Store<P>
     requires off { (P.memory pages).on ≡ false }
     requires tear { IsTrue (is_plan tear) }
-    requires between { (before : List ℕ) × (after : List ℕ) × Between recover (P.memory pages).cells before after }
+    requires between { (before : List ℕ) × (after : List ℕ)
+        × Between recover (P.memory pages).cells before after }
     ensures { (before after : List ℕ) → Between recover (P.memory pages).cells before after
         → (result.state ≡ before) ⊎ (result.state ≡ after) }
 {
@@ -82,20 +84,23 @@ fn formatted<P: Pages>(pages: P, tear: Tear) -> P
     requires plan { (P.memory pages).plan ≡ None }
     requires tear { IsTrue (is_place tear.at) }
     ensures off { (P.memory result).on ≡ false }
-    ensures between { (before : List ℕ) × (after : List ℕ) × Between recover (P.memory result).cells before after }
+    ensures between { (before : List ℕ) × (after : List ℕ)
+        × Between recover (P.memory result).cells before after }
 {
     let mut pages = Store::format(pages, &FIRST).into_pages();
     pages.plan(Some(tear));
     pages
 }
 
-/// Two commits behind a format, with a tear planned: the pages, and in which commit the tear came, or 3.
+/// Two commits behind a format, with a tear planned: the pages, and in which commit the tear came,
+/// or 3.
 fn torn_pages<P: Pages>(pages: P, tear: Tear) -> (P, u8)
     requires off { (P.memory pages).on ≡ false }
     requires plan { (P.memory pages).plan ≡ None }
     requires tear { IsTrue (is_place tear.at) }
     ensures off { (P.memory result.0).on ≡ false }
-    ensures between { (before : List ℕ) × (after : List ℕ) × Between recover (P.memory result.0).cells before after }
+    ensures between { (before : List ℕ) × (after : List ℕ)
+        × Between recover (P.memory result.0).cells before after }
 {
     let pages = formatted(pages, tear);
     let store = match Store::open(pages) {
