@@ -1,1 +1,4 @@
+pub mod Cells
 pub mod Growth
+pub mod PowerUp
+pub mod Settling

@@ -1,4 +1,9 @@
 pub mod Causes
+pub mod Cell
+pub mod Cut
 pub mod Growth
+pub mod Memory
+pub mod MemoryPages
+pub mod PageReading
 pub mod Reading
 pub mod State

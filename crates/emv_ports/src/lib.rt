@@ -5,18 +5,24 @@
 //! answers `Failed` only where that count rose.
 #![tactic(auto)]
 
+pub mod memory_pages;
 pub mod memory_sink;
 pub mod memory_source;
+pub mod pages;
 pub mod sink;
 pub mod source;
 pub mod standard;
+pub mod tear;
 pub mod transfer;
 
+pub use memory_pages::MemoryPages;
 pub use memory_sink::MemorySink;
 pub use memory_source::MemorySource;
+pub use pages::{Gone, Pages};
 pub use sink::Sink;
 pub use source::{Failed, Source};
 pub use standard::{StdinSource, StdoutSink};
+pub use tear::{Cut, Tear, TearAt};
 pub use transfer::{ReadFault, read_up_to, write_all};
 
 #[cfg(test)]

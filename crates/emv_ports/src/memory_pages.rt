@@ -1,0 +1,317 @@
+//! Card pages that live in memory, and tear by plan.
+ghost use Rattle.std.specs.Prelude.{◌≡◌, ◌<◌, map, length, IsTrue};
+ghost use Rattle.std.specs.List.{list_all};
+ghost use Rattle.emv_ports.specs.Cut.{is_plan, write_cut, release_cut};
+ghost use Rattle.emv_ports.specs.Cell.{given_of, gives_byte, is_page, settled, settled_from};
+ghost use Rattle.emv_ports.specs.Cell.{torn_over, all_torn_over};
+ghost use Rattle.emv_ports.specs.declared.memory_pages.Cell.TheVariants.{Sure};
+
+use crate::{Cut, Gone, Pages, Tear, TearAt};
+
+/// A cell: sure of a byte, or torn.
+#[derive(Clone, Copy, Debug, PartialEq, Eq)]
+enum Cell {
+    Sure(u8),
+    /// `torn` is the byte of the torn write, and `given` the one that the cell gives until the
+    /// next power-up.
+    Unsure { torn: u8, given: u8 },
+}
+
+impl Cell {
+    fn given(self) -> u8
+        ensures { result ≡ given_of self }
+    {
+        match self {
+            Cell::Sure(byte) => byte,
+            Cell::Unsure { given, .. } => given,
+        }
+    }
+
+    fn torn_over(self, byte: u8) -> Cell
+        ensures { result ≡ torn_over self byte }
+    {
+        match self {
+            Cell::Sure(sure) => {
+                if sure == byte {
+                    self
+                } else {
+                    Cell::Unsure {
+                        torn: byte,
+                        given: sure,
+                    }
+                }
+            }
+            Cell::Unsure { given, .. } => Cell::Unsure { torn: byte, given },
+        }
+    }
+
+    fn settled(self, in_turn: bool) -> Cell
+        ensures cell { result ≡ settled in_turn self }
+        ensures byte { IsTrue (gives_byte result) }
+    {
+        match self {
+            Cell::Unsure { torn, .. } if in_turn => Cell::Unsure { torn, given: torn },
+            _ => self,
+        }
+    }
+}
+
+fn sure_cells(bytes: &[u8; 64]) -> [Cell; 64]
+    ensures { result ≡ map Sure bytes.now }
+{
+    let mut cells = [Cell::Sure(0); 64];
+    for i in 0..64 {
+        cells[i] = Cell::Sure(bytes[i]);
+    }
+    cells
+}
+
+fn torn_cells(cells: &[Cell; 64], bytes: &[u8; 64]) -> [Cell; 64]
+    ensures { result ≡ all_torn_over cells.now bytes.now }
+{
+    let mut torn = *cells;
+    for i in 0..64 {
+        torn[i] = cells[i].torn_over(bytes[i]);
+    }
+    torn
+}
+
+fn given_bytes(cells: &[Cell; 64]) -> [u8; 64]
+    ensures { result ≡ map given_of cells.now }
+{
+    let mut bytes = [0; 64];
+    for i in 0..64 {
+        bytes[i] = cells[i].given();
+    }
+    bytes
+}
+
+fn settled_cells(cells: &[Cell; 64], power_up: u8) -> [Cell; 64]
+    requires { power_up < 2 }
+    ensures cells { result ≡ settled_from power_up 0 cells.now }
+    ensures page { IsTrue (is_page result) }
+{
+    let mut settled = *cells;
+    for i in 0..64u8 {
+        settled[i as usize] = cells[i as usize].settled((i + power_up) % 2 == 0);
+    }
+    settled
+}
+
+fn settle(pages: &mut [[Cell; 64]; 64], power_up: u8)
+    requires { power_up < 2 }
+    ensures cells { pages.new ≡ map (settled_from power_up 0) pages.old }
+    ensures long { length pages.new ≡ 64 }
+    ensures pages { IsTrue (list_all is_page pages.new) }
+{
+    for page in 0..64 {
+        pages[page] = settled_cells(&pages[page], power_up);
+    }
+}
+
+/// What the plan makes of this write of this commit.
+fn write_cut(plan: Option<Tear>, commit: u8, number: u8) -> Cut
+    ensures { result ≡ write_cut plan commit number }
+{
+    match plan {
+        Some(tear) if tear.commit == commit => match tear.at {
+            TearAt::Before(planned) if planned == number => Cut::CutBefore,
+            TearAt::Within(planned) if planned == number => Cut::CutWithin,
+            _ => Cut::Spared,
+        },
+        _ => Cut::Spared,
+    }
+}
+
+/// What the plan makes of the release behind these writes of this commit.
+fn release_cut(plan: Option<Tear>, commit: u8, writes: u8) -> Cut
+    ensures { result ≡ release_cut plan commit writes }
+{
+    match plan {
+        Some(tear) if tear.commit == commit => match tear.at {
+            TearAt::Before(planned) | TearAt::Within(planned) if planned <= writes => Cut::Spared,
+            _ => Cut::CutBefore,
+        },
+        _ => Cut::Spared,
+    }
+}
+
+/// Card pages in memory. At power-up number n, counted from 1 since they were made, the unsure
+/// cell i of a page gives the torn write's byte where i + n is even, else the byte that it gave
+/// last.
+#[derive(Drop)]
+pub struct MemoryPages {
+    cells: [[Cell; 64]; 64],
+    on: bool,
+    plan: Option<Tear>,
+    commit: u8,
+    writes_of_commit: u8,
+    losses: u64,
+    power_ups: u8,
+    marks: u32,
+    writes: u32,
+    ghost parity: { power_ups < 2 },
+    ghost planned: { IsTrue (is_plan plan) },
+}
+
+impl MemoryPages {
+    ghost use Rattle.emv_ports.specs.Memory.{gone, torn};
+    ghost use Rattle.emv_ports.specs.MemoryPages.{memory_of, blank_memory};
+    ghost use Rattle.emv_ports.specs.MemoryPages.{workings_of, blank_workings, torn_workings};
+
+    /// Pages that are off, every cell sure of 00, no tear planned and no loss.
+    pub fn blank() -> MemoryPages
+        ensures memory { memory_of result ≡ blank_memory }
+        ensures workings { workings_of result ≡ blank_workings }
+    {
+        MemoryPages {
+            cells: [[Cell::Sure(0); 64]; 64],
+            on: false,
+            plan: None,
+            commit: 0,
+            writes_of_commit: 0,
+            losses: 0,
+            power_ups: 0,
+            marks: 0,
+            writes: 0,
+        }
+    }
+
+    /// The number of calls of `mark` since the pages were made, up to the greatest `u32`.
+    pub fn marks(&self) -> u32
+        ensures { result ≡ (workings_of self.now).marks }
+    {
+        self.marks
+    }
+
+    /// The number of calls of `write` since the pages were made, up to the greatest `u32`.
+    pub fn writes(&self) -> u32
+        ensures { result ≡ (workings_of self.now).writes }
+    {
+        self.writes
+    }
+
+    fn tear(&mut self, page: u8, bytes: &[u8; 64])
+        requires { page < 64 }
+        ensures memory { memory_of self.new ≡ torn (memory_of self.old) page bytes.now }
+        ensures workings { workings_of self.new ≡ torn_workings (workings_of self.old) page bytes.now }
+    {
+        let cells = self.cells[page as usize];
+        self.cells[page as usize] = torn_cells(&cells, bytes);
+    }
+
+    fn lose(&mut self)
+        ensures memory { memory_of self.new ≡ gone (memory_of self.old) }
+        ensures workings { workings_of self.new ≡ workings_of self.old }
+    {
+        self.power_off();
+        self.losses = self.losses.saturating_add(1);
+    }
+}
+
+impl Pages for MemoryPages {
+    ghost use Rattle.std.specs.Prelude.{◌≡◌, ◌<◌, IsTrue, OnOk, OnErr};
+    ghost use Rattle.emv_ports.specs.Cut.{is_plan};
+    ghost use Rattle.emv_ports.specs.Memory.{planned, PowersUp, powered_off, marked, gone};
+    ghost use Rattle.emv_ports.specs.Memory.{next_write_cut, next_release_cut, written, CutWrite};
+    ghost use Rattle.emv_ports.specs.MemoryPages.{memory_of, workings_of, turned_on, marked_once};
+    ghost use Rattle.emv_ports.specs.MemoryPages.{written_once, called_once, torn_once};
+    ghost use Rattle.emv_ports.specs.declared.tear.Cut.TheVariants.{Spared, CutBefore, CutWithin};
+
+    ghost memory = { memory_of };
+
+    fn plan(&mut self, tear: Option<Tear>)
+        requires { IsTrue (is_plan tear) }
+        ensures memory { memory_of self.new ≡ planned (memory_of self.old) tear }
+        ensures workings { workings_of self.new ≡ workings_of self.old }
+    {
+        self.plan = tear;
+    }
+
+    fn power_up(&mut self)
+        ensures memory { PowersUp (memory_of self.old) (memory_of self.new) }
+        ensures workings { workings_of self.new ≡ turned_on (workings_of self.old) }
+    {
+        self.power_ups = (self.power_ups + 1) % 2;
+        settle(&mut self.cells, self.power_ups);
+        self.on = true;
+        self.commit = 0;
+        self.writes_of_commit = 0;
+    }
+
+    fn power_off(&mut self)
+        ensures memory { memory_of self.new ≡ powered_off (memory_of self.old) }
+        ensures workings { workings_of self.new ≡ workings_of self.old }
+    {
+        self.on = false;
+        self.plan = None;
+    }
+
+    fn read(&self, page: u8) -> [u8; 64] {
+        given_bytes(&self.cells[page as usize])
+    }
+
+    fn mark(&mut self)
+        ensures memory { memory_of self.new ≡ marked (memory_of self.old) }
+        ensures workings { workings_of self.new ≡ marked_once (workings_of self.old) }
+    {
+        self.marks = self.marks.saturating_add(1);
+        self.commit = self.commit.saturating_add(1);
+        self.writes_of_commit = 0;
+    }
+
+    fn write(&mut self, page: u8, bytes: &[u8; 64]) -> Result<(), Gone>
+        requires { page < 64 }
+        ensures spared { OnOk result (next_write_cut (memory_of self.old) ≡ Spared) }
+        ensures written { OnOk result
+            (memory_of self.new ≡ written (memory_of self.old) page bytes.now) }
+        ensures cut { OnErr result
+            (CutWrite (memory_of self.old) page bytes.now (memory_of self.new)) }
+
+        ensures workings { OnOk result
+            (workings_of self.new ≡ written_once (workings_of self.old) page bytes.now) }
+        ensures before { OnErr result (next_write_cut (memory_of self.old) ≡ CutBefore
+            → workings_of self.new ≡ called_once (workings_of self.old)) }
+        ensures within { OnErr result (next_write_cut (memory_of self.old) ≡ CutWithin
+            → workings_of self.new ≡ torn_once (workings_of self.old) page bytes.now) }
+    {
+        self.writes = self.writes.saturating_add(1);
+        let number = self.writes_of_commit.saturating_add(1);
+        match write_cut(self.plan, self.commit, number) {
+            Cut::Spared => {
+                self.cells[page as usize] = sure_cells(bytes);
+                self.writes_of_commit = number;
+                Ok(())
+            }
+            Cut::CutBefore => {
+                self.lose();
+                Err(Gone)
+            }
+            Cut::CutWithin => {
+                self.tear(page, bytes);
+                self.lose();
+                Err(Gone)
+            }
+        }
+    }
+
+    fn release(&mut self) -> Result<(), Gone>
+        ensures spared { OnOk result (next_release_cut (memory_of self.old) ≡ Spared) }
+        ensures same { OnOk result (memory_of self.new ≡ memory_of self.old) }
+        ensures cut { OnErr result (next_release_cut (memory_of self.old) ≡ CutBefore) }
+        ensures gone { OnErr result (memory_of self.new ≡ gone (memory_of self.old)) }
+
+        ensures workings { workings_of self.new ≡ workings_of self.old }
+    {
+        match release_cut(self.plan, self.commit, self.writes_of_commit) {
+            Cut::Spared => Ok(()),
+            _ => {
+                self.lose();
+                Err(Gone)
+            }
+        }
+    }
+}
+
+#[cfg(test)]
+mod tests;

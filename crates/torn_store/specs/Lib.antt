@@ -1,0 +1,4 @@
+pub mod Layout
+pub mod Recovery
+pub mod Store
+pub mod Writing

@@ -1,0 +1,216 @@
+//! The store: a state that is found again, wherever the power is lost.
+ghost use Rattle.std.specs.Prelude.{◌≡◌, ◌≤◌, ◌⊎◌, ℕ, List, length, None, true, false};
+ghost use Rattle.std.specs.Prelude.{IfOk, IfErr, OnOk, OnErr};
+ghost use Rattle.emv_ports.specs.Cut.{is_named, write_cut, cuts_among};
+ghost use Rattle.emv_ports.specs.Memory.{next, powered_off, next_release_cut};
+ghost use Rattle.emv_ports.specs.declared.tear.Cut.TheVariants.{Spared, CutBefore};
+ghost use Rattle.torn_store.specs.Layout.{recover, commit_writes};
+ghost use Rattle.torn_store.specs.Recovery.{Holds, Between};
+ghost use Rattle.torn_store.specs.Store.{IsGone};
+
+use crate::commits::{Found, prepare, repair, write_state};
+use crate::copies::State;
+use emv_ports::{Gone, Pages};
+use std::marker::Model;
+
+/// The pages, behind a loss of power: they are off, and no tear is planned.
+#[derive(Drop)]
+pub struct Lost<P: Drop> {
+    pub pages: P,
+}
+
+/// Pages that are on, and the state that they stand for.
+#[derive(Drop)]
+pub struct Store<P: Pages> {
+    pages: P,
+    copy: u8,
+    state: State,
+}
+
+impl<P: Pages> Model for Store<P> {
+    ghost use Rattle.torn_store.specs.Store.{Stored, IsReady};
+
+    ghost Value = { Stored };
+
+    ghost view = { λ s. record { memory = P.memory s.pages; state = s.state.items } };
+
+    ghost invariant = { λ s. IsReady (P.memory s.pages) s.copy s.state.items };
+}
+
+/// A commit that is written and not yet released: it can't be dropped, and only `release` gives
+/// the store back.
+pub struct Settled<P: Pages> {
+    store: Store<P>,
+}
+
+impl<P: Pages> Model for Settled<P> {
+    ghost use Rattle.torn_store.specs.Store.{Stored};
+
+    ghost Value = { Stored };
+
+    ghost view = { λ s. s.store };
+}
+
+impl<P: Pages> Store<P> {
+    /// Writes a first state to pages that are off and have no plan.
+    pub fn format(pages: P, first: &[u8]) -> Store<P>
+        requires off { (P.memory pages).on ≡ false }
+        requires plan { (P.memory pages).plan ≡ None }
+        requires fits { length first.now ≤ 1024 }
+
+        ensures state { result.state ≡ first.now }
+        ensures holds { Holds recover result.memory.cells first.now }
+        ensures plan { result.memory.plan ≡ None }
+        ensures losses { result.memory.losses ≡ (P.memory pages).losses }
+        ensures commit { result.memory.commit ≡ 0 }
+    {
+        let mut pages = pages;
+        prepare(&mut pages, first);
+        Store {
+            pages,
+            copy: 0,
+            state: copied(first),
+        }
+    }
+
+    /// Turns the pages on and finds the state. The pages are as `format`, or any later call, left
+    /// them: whatever their unsure cells give, they stand for one of two states.
+    ///
+    /// `Lost` comes exactly where a tear is planned before the first commit: at a write of the
+    /// repair, or at its release.
+    pub fn open(pages: P) -> Result<Store<P>, Lost<P>>
+        requires off { (P.memory pages).on ≡ false }
+        requires between { (before : List ℕ) × (after : List ℕ)
+            × Between recover (P.memory pages).cells before after }
+
+        ensures found { IfOk result (λ store. (before after : List ℕ)
+            → Between recover (P.memory pages).cells before after
+            → (store.state ≡ before) ⊎ (store.state ≡ after)) }
+        ensures holds { IfOk result (λ store. Holds recover store.memory.cells store.state) }
+        ensures spared { OnOk result (is_named (P.memory pages).plan 0 ≡ false) }
+        ensures wrote { IfOk result (λ store. 1 ≤ store.memory.writes) }
+        ensures commit { IfOk result (λ store. store.memory.commit ≡ 0) }
+        ensures plan { IfOk result (λ store. store.memory.plan ≡ (P.memory pages).plan) }
+        ensures losses { IfOk result (λ store. store.memory.losses ≡ (P.memory pages).losses) }
+
+        ensures lost { IfErr result (λ lost. (before after : List ℕ)
+            → Between recover (P.memory pages).cells before after
+            → Between recover (P.memory lost.pages).cells before after) }
+        ensures cut { OnErr result (is_named (P.memory pages).plan 0 ≡ true) }
+        ensures gone { IfErr result (λ lost. IsGone (P.memory pages) (P.memory lost.pages)) }
+    {
+        let mut pages = pages;
+        match repair(&mut pages) {
+            Ok(Found { copy, state }) => Ok(Store { pages, copy, state }),
+            Err(Gone) => Err(Lost { pages }),
+        }
+    }
+
+    /// The state.
+    pub fn state(&self) -> &[u8]
+        ensures value { result.now ≡ self.now.state }
+        ensures holds { Holds recover self.now.memory.cells self.now.state }
+        ensures fits { length result.now ≤ 1024 }
+    {
+        self.state.as_slice()
+    }
+
+    /// Writes a new state, which `release` of the answer settles.
+    ///
+    /// `Lost` comes exactly where the plan cuts one of the commit's writes. Then the pages are
+    /// between the old state and the new one, and stand for the old one where the first write was
+    /// cut before it began.
+    pub fn commit(self, new: &[u8]) -> Result<Settled<P>, Lost<P>>
+        requires { length new.now ≤ 1024 }
+
+        ensures state { IfOk result (λ settled. settled.state ≡ new.now) }
+        ensures holds { IfOk result (λ settled. Holds recover settled.memory.cells new.now) }
+        ensures spared { OnOk result
+            (cuts_among self.memory.plan (next self.memory.commit)
+            (commit_writes self.state new.now) ≡ false) }
+        ensures wrote { IfOk result (λ settled.
+            settled.memory.writes ≡ commit_writes self.state new.now) }
+        ensures commit { IfOk result (λ settled.
+            settled.memory.commit ≡ next self.memory.commit) }
+        ensures plan { IfOk result (λ settled. settled.memory.plan ≡ self.memory.plan) }
+        ensures losses { IfOk result (λ settled. settled.memory.losses ≡ self.memory.losses) }
+
+        ensures lost { IfErr result (λ lost.
+            Between recover (P.memory lost.pages).cells self.state new.now) }
+        ensures before { IfErr result (λ lost.
+            write_cut self.memory.plan (next self.memory.commit) 1 ≡ CutBefore
+            → Holds recover (P.memory lost.pages).cells self.state) }
+        ensures cut { OnErr result
+            (cuts_among self.memory.plan (next self.memory.commit)
+            (commit_writes self.state new.now) ≡ true) }
+        ensures gone { IfErr result (λ lost. IsGone self.memory (P.memory lost.pages)) }
+    {
+        let Store {
+            mut pages,
+            copy,
+            ..
+        } = self;
+        let other = 1 - copy;
+        pages.mark();
+        match write_state(&mut pages, other, new) {
+            Ok(()) => Ok(Settled {
+                store: Store {
+                    pages,
+                    copy: other,
+                    state: copied(new),
+                },
+            }),
+            Err(Gone) => Err(Lost { pages }),
+        }
+    }
+
+    /// Turns the pages off.
+    pub fn into_pages(self) -> P
+        ensures memory { P.memory result ≡ powered_off self.memory }
+        ensures holds { Holds recover (P.memory result).cells self.state }
+    {
+        let Store { mut pages, .. } = self;
+        pages.power_off();
+        pages
+    }
+}
+
+impl<P: Pages> Settled<P> {
+    /// Releases the commit, and gives the store back.
+    ///
+    /// `Lost` comes exactly where the plan cuts the release. The pages stand for the new state then
+    /// too.
+    pub fn release(self) -> Result<Store<P>, Lost<P>>
+        ensures state { IfOk result (λ store. store.state ≡ self.state) }
+        ensures holds { IfOk result (λ store. Holds recover store.memory.cells self.state) }
+        ensures spared { OnOk result (next_release_cut self.memory ≡ Spared) }
+        ensures memory { IfOk result (λ store. store.memory ≡ self.memory) }
+
+        ensures lost { IfErr result (λ lost. Holds recover (P.memory lost.pages).cells self.state) }
+        ensures cut { OnErr result (next_release_cut self.memory ≡ CutBefore) }
+        ensures gone { IfErr result (λ lost. IsGone self.memory (P.memory lost.pages)) }
+    {
+        let Settled { store } = self;
+        let Store {
+            mut pages,
+            copy,
+            state,
+        } = store;
+        match pages.release() {
+            Ok(()) => Ok(Store { pages, copy, state }),
+            Err(Gone) => Err(Lost { pages }),
+        }
+    }
+}
+
+/// The bytes of a state.
+fn copied(bytes: &[u8]) -> State
+    requires { length bytes.now ≤ 1024 }
+    ensures { result.items ≡ bytes.now }
+{
+    let mut state = State::new();
+    match state.try_extend_from_slice(bytes) {
+        Ok(()) => state,
+        Err(_) => unreachable!(),
+    }
+}
