@@ -50,3 +50,18 @@ IsSoFar-take old mid new text done count so_far more =
     ap (λ (t : List ℕ). take count (drop done text) ++ t) (sym (drop-drop count done text)) ∙ take-append-drop count (drop done text) in
     IsSoFar_more old mid new (take count (drop done text)) (drop (done + count) text) text
     (subst (λ (t : List ℕ). IsSoFar old mid t text) (sym parts) so_far) more
+
+-- a front of the first of two pieces, or all of it and a front of the second, is a front of both
+pub AppendsFront-first : (old new : Option (List ℕ)) (first second : List ℕ) → AppendsFront old new first → AppendsFront old new (first ++ second)
+AppendsFront-first old new first second stopped = record {
+  front = stopped.front;
+  more = stopped.more ++ second;
+  splits = sym (append_assoc stopped.front stopped.more second) ∙ ap (λ (t : List ℕ). t ++ second) stopped.splits;
+  written = stopped.written }
+
+pub AppendsFront-second : (old mid new : Option (List ℕ)) (first second : List ℕ) → Appends old mid first → AppendsFront mid new second → AppendsFront old new (first ++ second)
+AppendsFront-second old mid new first second all stopped = record {
+  front = first ++ stopped.front;
+  more = stopped.more;
+  splits = append_assoc first stopped.front stopped.more ∙ ap (λ (t : List ℕ). first ++ t) stopped.splits;
+  written = Appends-more old mid new first stopped.front all stopped.written }

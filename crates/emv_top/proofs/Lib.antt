@@ -5,3 +5,4 @@ pub mod AflLemmas
 pub mod PlaceLemmas
 pub mod FileLemmas
 pub mod SessionLemmas
+pub mod RunLemmas

@@ -17,3 +17,6 @@ pub mod SeenTerminal
 pub mod Card
 pub mod SeenCard
 pub mod StageAfter
+pub mod Run
+pub mod Running
+pub mod Short

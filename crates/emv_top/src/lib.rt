@@ -6,6 +6,7 @@ pub mod app_select;
 pub mod card;
 pub mod kernel;
 pub mod read_records;
+pub mod read_run;
 pub mod reading;
 pub mod short_form;
 pub mod templates;
