@@ -6,3 +6,5 @@ pub mod PlaceLemmas
 pub mod FileLemmas
 pub mod SessionLemmas
 pub mod RunLemmas
+pub mod ObjectLemmas
+pub mod WordLemmas

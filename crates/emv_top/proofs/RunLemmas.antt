@@ -1,12 +1,16 @@
 -- A reading that goes on by one exchange.
-use Rattle.std.proofs.Common.{◌≡◌, ℕ, List, [], ◌∷◌, ◌++◌, refl, ap, sym, ◌∙◌, subst, append_assoc, map}
+use Rattle.std.proofs.Common.{◌≡◌, ℕ, List, [], ◌∷◌, ◌++◌, Bool, true, false, refl, ap, sym, ◌∙◌, subst, append_assoc, map}
 use Rattle.std.proofs.lemmas.List.{append-nil}
 use Rattle.emv_top.specs.Card.{Exchange, card_answer}
 use Rattle.emv_top.specs.Form.{FormData}
-use Rattle.emv_top.specs.Run.{Reached, begun, exchanged, replies, told_after, exchange_text, session_text}
-use Rattle.emv_top.specs.Running.{Stands}
+use Rattle.std.specs.declared.option.Option.{Option}
+use Rattle.std.specs.Io.KnownBytes.{Appends}
+use Rattle.emv_ports.specs.Growth.{AppendsFront}
+use Rattle.emv_ports.proofs.Growth.{Appends-more, AppendsFront-first, AppendsFront-second}
+use Rattle.emv_top.specs.Run.{Reached, begun, exchanged, replies, told_after, exchange_text, session_text, closing_text, IsOver, ReadSoFar, ReadReport}
+use Rattle.emv_top.specs.Running.{Stands, IsRunning, StoppedIn}
 use Rattle.emv_top.specs.SeenCard.{CardStands}
-use Rattle.emv_top.specs.SeenTerminal.{start_of}
+use Rattle.emv_top.specs.SeenTerminal.{start_of, is_asking}
 use Rattle.emv_top.specs.Select.{dialogue}
 use Rattle.emv_top.specs.Told.{Told, Asks}
 use Rattle.arrayvec.specs.ArrayVec.{ArrayVec}
@@ -15,6 +19,7 @@ use Rattle.report_text.specs.declared.line.Line.{Line}
 use Rattle.report_text.specs.declared.line.Line.TheVariants.{ToCard, FromCard}
 use Rattle.emv_top.specs.declared.card.Phase.{Phase}
 use Rattle.emv_top.specs.declared.kernel.Terminal.{Terminal}
+use Rattle.emv_top.specs.declared.kernel.Terminal.TheVariants as at
 
 replies-push : (session : List Exchange) (x : Exchange) → replies (session ++ x ∷ []) ≡ replies session ++ x.answer ∷ []
 replies-push [] x = refl
@@ -55,3 +60,51 @@ pub exchange_lines : (asked answered : Line) (command answer : ArrayVec ℕ) →
 unfolding exchange_text
 exchange_lines asked answered command answer first second =
   ap (λ (l : Line). line_text l ++ line_text answered) first ∙ ap (λ (l : Line). line_text (ToCard 0 command) ++ line_text l) second
+
+over_of : (terminal : Terminal) → is_asking terminal ≡ false → IsOver (start_of terminal [])
+over_of (at.Listing aid turn) ended = absurd (cc)
+over_of (at.Choosing aid) ended = absurd (cc)
+over_of at.Initiating ended = absurd (cc)
+over_of (at.Reading r) ended = absurd (cc)
+over_of (at.Finished env) ended = tt
+over_of (at.Over ending) ended = tt
+
+-- a terminal that has ended: the lines at the end close the report
+pub report_done : (form : FormData) (terminal : Terminal) (phase : Phase) (old mid new : Option (List ℕ)) → IsRunning form terminal phase old mid → is_asking terminal ≡ false →
+  Appends mid new (closing_text (start_of terminal [])) → (text : List ℕ) × ReadReport form text × Appends old new text
+report_done form terminal phase old mid new running ended closed =
+  let now = told_now form terminal phase running.session running.stands in
+  (session_text running.session ++ closing_text (told_after form running.session),
+    record {
+      session = running.session;
+      reached = running.stands.reached;
+      over = subst (λ (t : Told). IsOver t) (sym now) (over_of terminal ended);
+      spelled = refl },
+    Appends-more old mid new (session_text running.session) (closing_text (told_after form running.session)) running.written
+      (subst (λ (t : Told). Appends mid new (closing_text t)) (sym now) closed))
+
+pub report_stopped : (form : FormData) (terminal : Terminal) (phase : Phase) (old mid new : Option (List ℕ)) → IsRunning form terminal phase old mid →
+  AppendsFront mid new (closing_text (start_of terminal [])) → (text : List ℕ) × ReadSoFar form text × AppendsFront old new text
+report_stopped form terminal phase old mid new running closed =
+  let now = told_now form terminal phase running.session running.stands in
+  (session_text running.session ++ closing_text (told_after form running.session),
+    record { session = running.session; reached = running.stands.reached; spelled = refl },
+    AppendsFront-second old mid new (session_text running.session) (closing_text (told_after form running.session)) running.written
+      (subst (λ (t : Told). AppendsFront mid new (closing_text t)) (sym now) closed))
+
+stopped_in : (form : FormData) (session : List Exchange) (old mid new : Option (List ℕ)) → Appends old mid (session_text session) → StoppedIn form session mid new →
+  (text : List ℕ) × ReadSoFar form text × AppendsFront old new text
+stopped_in form session old mid new written stopped =
+  let longer : List Exchange = session ++ stopped.exchange ∷ [] in
+  (session_text longer ++ closing_text (told_after form longer),
+    record { session = longer; reached = stopped.reached; spelled = refl },
+    AppendsFront-first old new (session_text longer) (closing_text (told_after form longer))
+      (subst (λ (t : List ℕ). AppendsFront old new t) (sym (session_text-push session stopped.exchange))
+        (AppendsFront-second old mid new (session_text session) (exchange_text stopped.exchange) written stopped.front)))
+
+pub exchange_stopped : (form other : FormData) → other ≡ form → (terminal : Terminal) (phase : Phase) (old mid new : Option (List ℕ)) → IsRunning form terminal phase old mid →
+  ((session : List Exchange) → Stands other terminal phase session → StoppedIn other session mid new) → (text : List ℕ) × ReadSoFar form text × AppendsFront old new text
+exchange_stopped form other same terminal phase old mid new running stops =
+  stopped_in form running.session old mid new running.written
+    (subst (λ (f : FormData). StoppedIn f running.session mid new) same
+      (stops running.session (subst (λ (f : FormData). Stands f terminal phase running.session) (sym same) running.stands)))

@@ -20,3 +20,7 @@ pub mod StageAfter
 pub mod Run
 pub mod Running
 pub mod Short
+pub mod Words
+pub mod Refusal
+pub mod Input
+pub mod Answers

@@ -1,9 +1,10 @@
 -- The terminal in its course, as a contract sees it: what it does with further answers.
-use Rattle.std.specs.Prelude.{◌≡◌, ℕ, List, Bool, true, false, ◌+◌, ◌-◌}
+use Rattle.std.specs.Prelude.{◌≡◌, ℕ, List, Bool, true, false, ◌+◌, ◌-◌, ⊤}
 use Rattle.emv_top.specs.Initiate.{initiating}
 use Rattle.emv_top.specs.Reading.{reading}
 use Rattle.emv_top.specs.SeenReading.{left_of, steps_of}
 use Rattle.emv_top.specs.Select.{listing, choosing}
+use Rattle.emv_top.specs.Short.{AllShort}
 use Rattle.emv_top.specs.Told.{Told, HasRead, Ended}
 use Rattle.emv_top.specs.declared.kernel.Terminal.{Terminal}
 use Rattle.emv_top.specs.declared.kernel.Terminal.TheVariants as at
@@ -32,3 +33,12 @@ rank at.Initiating = 16129
 rank (at.Reading r) = steps_of r
 rank (at.Finished env) = 0
 rank (at.Over ending) = 0
+
+-- where the objects have been read, each value has at most 256 bytes
+abbrev pub HoldsShort : Terminal → Type 0
+HoldsShort (at.Listing aid turn) = ⊤
+HoldsShort (at.Choosing aid) = ⊤
+HoldsShort at.Initiating = ⊤
+HoldsShort (at.Reading r) = ⊤
+HoldsShort (at.Finished env) = AllShort env
+HoldsShort (at.Over ending) = ⊤

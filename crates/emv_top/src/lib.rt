@@ -4,9 +4,13 @@
 
 pub mod app_select;
 pub mod card;
+pub mod input;
 pub mod kernel;
 pub mod read_records;
 pub mod read_run;
 pub mod reading;
+pub mod refusal;
 pub mod short_form;
 pub mod templates;
+pub mod top;
+pub mod words;

@@ -5,16 +5,17 @@ ghost use Rattle.emv_ports.specs.Causes.{HasCause};
 ghost use Rattle.emv_ports.specs.Growth.{AppendsFront};
 ghost use Rattle.report_text.specs.Text.{line_text};
 ghost use Rattle.emv_top.specs.Card.{Exchange};
-ghost use Rattle.emv_top.specs.Run.{ReadSoFar, ReadReport, closing_text, objects_text, exchange_text};
+ghost use Rattle.emv_top.specs.Run.{ReadSoFar, ReadReport, closing_text, object_text, objects_text, exchange_text};
 ghost use Rattle.emv_top.specs.Running.{Stands, Exchanged, StoppedIn};
 ghost use Rattle.emv_top.specs.SeenForm.{seen_form};
-ghost use Rattle.emv_top.specs.SeenTerminal.{start_of, is_asking, rank};
+ghost use Rattle.emv_top.specs.SeenTerminal.{start_of, is_asking, rank, HoldsShort};
 ghost use Rattle.emv_top.specs.Short.{AllShort};
 
 use crate::card::Card;
 use crate::kernel::Terminal;
 use crate::short_form::ShortForm;
 use apdu_core::{Answer, Out};
+use ber_tlv::Tag;
 use arrayvec::ArrayVec;
 use emv_ports::{Failed, Sink, write_all};
 use env_map::Env;
@@ -94,4 +95,87 @@ fn exchange<'a, K: Sink>(terminal: Terminal<'a>, card: &mut Card<'a>, sink: &mut
         Ok(()) => Ok(terminal.take(answer.as_slice())),
         Err(Failed) => Err(Failed),
     }
+}
+
+/// A line for each data object, by rising tag.
+fn write_objects<K: Sink>(env: &Env, sink: &mut K) -> Result<(), Failed>
+    requires { AllShort env.now }
+    ensures all { OnOk result (Appends (K.held sink.old) (K.held sink.new) (objects_text env.now)) }
+    ensures front { OnErr result (AppendsFront (K.held sink.old) (K.held sink.new) (objects_text env.now)) }
+    ensures cause { HasCause (K.faults sink.old) (K.faults sink.new) result }
+{
+    let mut last = None;
+    while let Some((tag, value)) = env.after(last) {
+        match write_object(tag, value, sink) {
+            Ok(()) => last = Some(tag),
+            Err(Failed) => return Err(Failed),
+        }
+    }
+    Ok(())
+}
+
+/// The line of a data object.
+#[tactic(auto, unfolding(crate::specs::Run::object_text))]
+fn write_object<K: Sink>(tag: Tag, value: &[u8], sink: &mut K) -> Result<(), Failed>
+    requires { length value.now ≤ 256 }
+    ensures all { OnOk result (Appends (K.held sink.old) (K.held sink.new) (object_text (tag.0, value.now))) }
+    ensures front { OnErr result (AppendsFront (K.held sink.old) (K.held sink.new) (object_text (tag.0, value.now))) }
+    ensures cause { HasCause (K.faults sink.old) (K.faults sink.new) result }
+{
+    let line = object_line(tag, value);
+    emit(&line, sink)
+}
+
+fn object_line(tag: Tag, value: &[u8]) -> Line
+    requires { length value.now ≤ 256 }
+    ensures { result ≡ Line.Object tag (record { items = value.now }) }
+{
+    Line::Object {
+        tag,
+        value: copied(value),
+    }
+}
+
+/// The lines at the end of a reading.
+fn finish<K: Sink>(terminal: Terminal<'_>, sink: &mut K) -> Result<(), Failed>
+    requires over { is_asking terminal ≡ false }
+    requires short { HoldsShort terminal }
+    ensures all { OnOk result (Appends (K.held sink.old) (K.held sink.new) (closing_text (start_of terminal.entry []))) }
+    ensures front { OnErr result (AppendsFront (K.held sink.old) (K.held sink.new) (closing_text (start_of terminal.entry []))) }
+    ensures cause { HasCause (K.faults sink.old) (K.faults sink.new) result }
+{
+    match terminal {
+        Terminal::Finished(env) => finish_read(&env, sink),
+        Terminal::Over(ending) => emit(&Line::ReadEnded { ending }, sink),
+        _ => unreachable!(),
+    }
+}
+
+fn finish_read<K: Sink>(env: &Env, sink: &mut K) -> Result<(), Failed>
+    requires { AllShort env.now }
+    ensures all { OnOk result (Appends (K.held sink.old) (K.held sink.new) (objects_text env.now ++ line_text Line.ReadOk)) }
+    ensures front { OnErr result (AppendsFront (K.held sink.old) (K.held sink.new) (objects_text env.now ++ line_text Line.ReadOk)) }
+    ensures cause { HasCause (K.faults sink.old) (K.faults sink.new) result }
+{
+    match write_objects(env, sink) {
+        Ok(()) => emit(&Line::ReadOk, sink),
+        Err(Failed) => Err(Failed),
+    }
+}
+
+/// The report of the reading of a card.
+pub fn read_card<K: Sink>(form: &ShortForm, sink: &mut K) -> Result<(), Failed>
+    ensures all { OnOk result ((text : List ℕ) × ReadReport (seen_form form.now) text × Appends (K.held sink.old) (K.held sink.new) text) }
+    ensures front { OnErr result ((text : List ℕ) × ReadSoFar (seen_form form.now) text × AppendsFront (K.held sink.old) (K.held sink.new) text) }
+    ensures cause { HasCause (K.faults sink.old) (K.faults sink.new) result }
+{
+    let mut card = Card::power_up(form);
+    let mut terminal = Terminal::begin(&form.aid);
+    while terminal.is_asking() {
+        match exchange(terminal, &mut card, sink) {
+            Ok(next) => terminal = next,
+            Err(Failed) => return Err(Failed),
+        }
+    }
+    finish(terminal, sink)
 }
