@@ -6,3 +6,4 @@ pub mod PlaceLemmas
 pub mod FileLemmas
 pub mod SessionLemmas
 pub mod RunLemmas
+pub mod ShortValues
