@@ -1,5 +1,5 @@
 -- What is read from a card has no value longer than one answer.
-use Rattle.std.proofs.Common.{◌≡◌, ℕ, ◌+◌, ◌-◌, ◌≤◌, ◌==◌, ◌&&◌, nat_lt, nat_le, is_some, Bool, true, false, if◌then◌else◌, List, [], ◌∷◌, length, take, drop, Option, Some, None, Result, Ok, Err, refl, ap, subst, min, length-drop, arith}
+use Rattle.std.proofs.Common.{◌≡◌, ℕ, ◌+◌, ◌-◌, ◌≤◌, ◌==◌, ◌&&◌, nat_lt, nat_le, is_some, Bool, true, false, if◌then◌else◌, List, [], ◌∷◌, length, take, drop, Option, Some, None, Result, Ok, Err, refl, subst, length-drop, arith}
 use Rattle.std.specs.Str.{bytes_eq}
 use Rattle.std.proofs.lemmas.List.{length-take}
 use Rattle.std.proofs.lemmas.Grind.{common_steps}
@@ -36,11 +36,11 @@ unfolding response_of
 response_short reply said e = go (nat_le 2 (length reply) && nat_le (length reply) 258) refl e
   where
     go : (fits : Bool) → (nat_le 2 (length reply) && nat_le (length reply) 258) ≡ fits
-      → ◌≡◌ {A = Option ResponseData} (if fits then Some (record { body = take (length reply - 2) reply; status = status_of (length reply) reply }) else None) (Some said)
-      → length said.body ≤ 256
+        → ◌≡◌ {A = Option ResponseData} (if fits then Some (record { body = take (length reply - 2) reply; status = status_of (length reply) reply }) else None) (Some said)
+        → length said.body ≤ 256
     go true is e =
-      let same : ◌≡◌ {A = ResponseData} (record { body = take (length reply - 2) reply; status = status_of (length reply) reply }) said = cc e in
-      subst (λ (r : ResponseData). length r.body ≤ 256) same (taken_short reply (short_test (length reply) is))
+        let same : ◌≡◌ {A = ResponseData} (record { body = take (length reply - 2) reply; status = status_of (length reply) reply }) said = cc e in
+        subst (λ (r : ResponseData). length r.body ≤ 256) same (taken_short reply (short_test (length reply) is))
     go false is e = cc
 
 value_if-short : (most tag : ℕ) (item : ItemData) (value : List ℕ) → length item.value ≤ most → value_if tag item ≡ Some value → length value ≤ most
@@ -61,13 +61,13 @@ parts_short value short = (omega (arith, length-take 2 value), omega (arith, len
 
 with_groups-short : (value : List ℕ) (groups : Result (List GroupData) ℕ) (options : OptionsData) → length value ≤ 256 → with_groups value groups ≡ Ok options → AllShort (first_objects options)
 with_groups-short value (Ok groups) options short e =
-  let same : ◌≡◌ {A = OptionsData} (record { aip = take 2 value; afl = drop 2 value; groups = groups }) options = cc e in
-  let parts = parts_short value short in
-  subst (λ (o : OptionsData). AllShort (first_objects o)) same (parts.0, (parts.1, tt))
+    let same : ◌≡◌ {A = OptionsData} (record { aip = take 2 value; afl = drop 2 value; groups = groups }) options = cc e in
+    let parts = parts_short value short in
+    subst (λ (o : OptionsData). AllShort (first_objects o)) same (parts.0, (parts.1, tt))
 with_groups-short value (Err place) options short e = cc
 
 options_value-short : (value : Option (List ℕ)) (items : Result (List ItemData) TlvFault) (options : OptionsData)
-  → ((v : List ℕ) → value ≡ Some v → length v ≤ 256) → options_value value items ≡ Ok options → AllShort (first_objects options)
+    → ((v : List ℕ) → value ≡ Some v → length v ≤ 256) → options_value value items ≡ Ok options → AllShort (first_objects options)
 options_value-short None items options short e = cc
 options_value-short (Some value) items options short e = go (nat_lt (length value) 2) e
   where
@@ -79,7 +79,7 @@ options_value-short (Some value) items options short e = go (nat_lt (length valu
 options_in-short : (body : List ℕ) (options : OptionsData) → length body ≤ 256 → options_in body ≡ Ok options → AllShort (first_objects options)
 unfolding options_in
 options_in-short body options fits e =
-  options_value-short (sole_value 0x80 (items_of body)) (items_of body) options
+    options_value-short (sole_value 0x80 (items_of body)) (items_of body) options
     (λ value is. sole_value-short 256 0x80 (items_of body) value (item_values_short 256 body fits) is) e
 
 after_gathering-short : (entries more : Entries) (fault : Option GatherFault) → AllShort entries → after_gathering entries fault ≡ Ok more → AllShort more
@@ -88,7 +88,7 @@ after_gathering-short entries more (Some fault) all e = cc
 
 gathered_if-short : (is_template : Bool) (entries : Entries) (body : List ℕ) (more : Entries) → length body ≤ 256 → AllShort entries → gathered_if is_template entries body ≡ Ok more → AllShort more
 gathered_if-short true entries body more fits all e =
-  after_gathering-short (gathered entries (walk_of body)).entries more (gathered entries (walk_of body)).fault
+    after_gathering-short (gathered entries (walk_of body)).entries more (gathered entries (walk_of body)).fault
     (gathered_short 256 entries (walk_of body) (walk_values_short 256 body fits) all) e
 gathered_if-short false entries body more fits all e = cc
 
@@ -100,7 +100,7 @@ gathered_record-short sfi entries body more fits all e = go (nat_le sfi 10) e
     go false e = let same : entries ≡ more = cc e in subst AllShort same all
 
 record_said-short : (sfi : ℕ) (entries : Entries) (said : Option ResponseData) (more : Entries)
-  → ((s : ResponseData) → said ≡ Some s → length s.body ≤ 256) → AllShort entries → record_said sfi entries said ≡ Ok more → AllShort more
+    → ((s : ResponseData) → said ≡ Some s → length s.body ≤ 256) → AllShort entries → record_said sfi entries said ≡ Ok more → AllShort more
 record_said-short sfi entries None more fits all e = cc
 record_said-short sfi entries (Some said) more fits all e = go (said.status == 0x9000) e
   where
@@ -121,7 +121,7 @@ unfolding finished
 finished-short entries read all e = told_of_missing-short entries (first_missing entries) read all e
 
 after_record-short : (taken : Result Entries Cause) (next : Entries → Told) (read : Entries)
-  → ((more : Entries) → taken ≡ Ok more → next more ≡ HasRead read → AllShort read) → after_record taken next ≡ HasRead read → AllShort read
+    → ((more : Entries) → taken ≡ Ok more → next more ≡ HasRead read → AllShort read) → after_record taken next ≡ HasRead read → AllShort read
 after_record-short (Ok more) next read each e = each more refl e
 after_record-short (Err cause) next read each e = cc
 
@@ -131,16 +131,16 @@ unfolding reading
 reading_short entries [] replies read all e = finished-short entries read all e
 reading_short entries (place ∷ places) [] read all e = cc
 reading_short entries (place ∷ places) (reply ∷ replies) read all e =
-  after_record-short (record_read place.sfi entries reply) (λ more. reading more places replies) read
+    after_record-short (record_read place.sfi entries reply) (λ more. reading more places replies) read
     (λ more taken rest. reading_short more places replies read (record_read-short place.sfi entries reply more all taken) rest) e
 
 after_options-short : (options : Result OptionsData Cause) (replies : List (List ℕ)) (read : Entries)
-  → ((o : OptionsData) → options ≡ Ok o → AllShort (first_objects o)) → after_options options replies ≡ HasRead read → AllShort read
+    → ((o : OptionsData) → options ≡ Ok o → AllShort (first_objects o)) → after_options options replies ≡ HasRead read → AllShort read
 after_options-short (Ok options) replies read each e = reading_short (first_objects options) (places_of options.groups) replies read (each options refl) e
 after_options-short (Err cause) replies read each e = cc
 
 options_said-short : (said : Option ResponseData) (replies : List (List ℕ)) (read : Entries)
-  → ((s : ResponseData) → said ≡ Some s → length s.body ≤ 256) → options_said said replies ≡ HasRead read → AllShort read
+    → ((s : ResponseData) → said ≡ Some s → length s.body ≤ 256) → options_said said replies ≡ HasRead read → AllShort read
 options_said-short None replies read fits e = cc
 options_said-short (Some said) replies read fits e = go (said.status == 0x6985) (said.status == 0x9000) e
   where
@@ -167,14 +167,14 @@ choosing_short aid [] read e = cc
 choosing_short aid (reply ∷ replies) read e = after_final-short (select_said reply) replies read e
 
 after_listed-short : (aid : List ℕ) (turn : ℕ) (said : Said) (again final : Told) (read : Entries)
-  → (again ≡ HasRead read → AllShort read) → (final ≡ HasRead read → AllShort read) → after_listed aid turn said again final ≡ HasRead read → AllShort read
+    → (again ≡ HasRead read → AllShort read) → (final ≡ HasRead read → AllShort read) → after_listed aid turn said again final ≡ HasRead read → AllShort read
 after_listed-short aid turn Unreadable again final read more last e = cc
 after_listed-short aid turn IsBlocked again final read more last e = cc
 after_listed-short aid turn Nothing again final read more last e = cc
 after_listed-short aid turn (Named is_valid name) again final read more last e = go (bytes_eq name aid) is_valid (is_longer aid name && nat_lt turn 15) e
   where
     go : (whole valid longer : Bool)
-      → (if whole then (if valid then final else no_candidate) else if longer then again else no_candidate) ≡ HasRead read → AllShort read
+        → (if whole then (if valid then final else no_candidate) else if longer then again else no_candidate) ≡ HasRead read → AllShort read
     go true true longer e = last e
     go true false longer e = cc
     go false valid true e = more e
@@ -184,7 +184,7 @@ listing_short : (aid : List ℕ) (turn : ℕ) (replies : List (List ℕ)) (read 
 unfolding listing
 listing_short aid turn [] read e = cc
 listing_short aid turn (reply ∷ replies) read e =
-  after_listed-short aid turn (select_said reply) (listing aid (turn + 1) replies) (choosing aid replies) read
+    after_listed-short aid turn (select_said reply) (listing aid (turn + 1) replies) (choosing aid replies) read
     (λ again. listing_short aid (turn + 1) replies read again) (λ final. choosing_short aid replies read final) e
 
 pub dialogue_short : (aid : List ℕ) (replies : List (List ℕ)) (entries : Entries) → dialogue aid replies ≡ HasRead entries → AllShort entries
