@@ -2,3 +2,4 @@ pub mod ItemBounds
 pub mod ReadAgain
 pub mod Reading
 pub mod Walking
+pub mod WalkBounds

@@ -1,10 +1,11 @@
+pub mod AflLemmas
+pub mod FileLemmas
 pub mod Hex
 pub mod Keys
-pub mod Twins
-pub mod AflLemmas
-pub mod PlaceLemmas
-pub mod FileLemmas
-pub mod SessionLemmas
-pub mod RunLemmas
 pub mod ObjectLemmas
+pub mod PlaceLemmas
+pub mod RunLemmas
+pub mod SessionLemmas
+pub mod ShortValues
+pub mod Twins
 pub mod WordLemmas

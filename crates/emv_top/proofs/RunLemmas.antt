@@ -10,7 +10,7 @@ use Rattle.emv_ports.proofs.Growth.{Appends-more, AppendsFront-first, AppendsFro
 use Rattle.emv_top.specs.Run.{Reached, begun, exchanged, replies, told_after, exchange_text, session_text, closing_text, IsOver, ReadSoFar, ReadReport}
 use Rattle.emv_top.specs.Running.{Stands, IsRunning, StoppedIn}
 use Rattle.emv_top.specs.SeenCard.{CardStands}
-use Rattle.emv_top.specs.SeenTerminal.{start_of, is_asking}
+use Rattle.emv_top.specs.SeenTerminal.{start_of, is_asking, HoldsShort}
 use Rattle.emv_top.specs.Select.{dialogue}
 use Rattle.emv_top.specs.Told.{Told, Asks}
 use Rattle.arrayvec.specs.ArrayVec.{ArrayVec}
@@ -18,6 +18,7 @@ use Rattle.report_text.specs.Text.{line_text}
 use Rattle.report_text.specs.declared.line.Line.{Line}
 use Rattle.report_text.specs.declared.line.Line.TheVariants.{ToCard, FromCard}
 use Rattle.emv_top.specs.declared.card.Phase.{Phase}
+use Rattle.emv_top.proofs.ShortValues.{dialogue_short}
 use Rattle.emv_top.specs.declared.kernel.Terminal.{Terminal}
 use Rattle.emv_top.specs.declared.kernel.Terminal.TheVariants as at
 
@@ -108,3 +109,12 @@ exchange_stopped form other same terminal phase old mid new running stops =
   stopped_in form running.session old mid new running.written
     (subst (λ (f : FormData). StoppedIn f running.session mid new) same
       (stops running.session (subst (λ (f : FormData). Stands f terminal phase running.session) (sym same) running.stands)))
+
+-- what was read from a card has no value above 256 bytes
+pub holds_short : (form : FormData) (terminal : Terminal) (phase : Phase) (session : List Exchange) → Stands form terminal phase session → HoldsShort terminal
+holds_short form (at.Listing aid turn) phase session stands = tt
+holds_short form (at.Choosing aid) phase session stands = tt
+holds_short form at.Initiating phase session stands = tt
+holds_short form (at.Reading r) phase session stands = tt
+holds_short form (at.Finished env) phase session stands = dialogue_short form.aid (replies session ++ []) env (stands.told [])
+holds_short form (at.Over ending) phase session stands = tt

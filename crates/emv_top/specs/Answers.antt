@@ -1,10 +1,13 @@
 -- Which text and status answer an input.
-use Rattle.std.specs.Prelude.{◌≡◌, ℕ, List, Result, Ok, Err, ◌⊎◌}
+use Rattle.std.specs.Prelude.{◌≡◌, ℕ, List, Option, Some, None, Result, Ok, Err, ◌⊎◌}
 use Rattle.emv_top.specs.Form.{FormData}
 use Rattle.emv_top.specs.Input.{IsInput}
-use Rattle.emv_top.specs.Refusal.{refusal_line}
+use Rattle.emv_ports.specs.Growth.{AppendsFront}
+use Rattle.emv_ports.specs.Reading.{ReadsUpTo}
+use Rattle.emv_top.specs.Refusal.{refusal_line, usage_line}
 use Rattle.emv_top.specs.Run.{ReadReport, ReadSoFar}
 use Rattle.emv_top.specs.declared.refusal.Refusal.{Refusal}
+use Rattle.emv_top.specs.declared.words.Order.{Order}
 
 -- the whole text and the status: a card's report with 0, a refusal's line with 1
 abbrev pub Answers : List ℕ → ℕ → List ℕ → Type 0
@@ -17,3 +20,9 @@ abbrev pub AnswersSoFar : List ℕ → List ℕ → Type 0
 AnswersSoFar bytes text =
   ((form : FormData) × IsInput bytes (Ok form) × ReadSoFar form text)
   ⊎ ((refusal : Refusal) × IsInput bytes (Err refusal) × (text ≡ refusal_line refusal))
+
+-- a front of the usage line for words that give no order, else of an answer to the bytes read
+abbrev pub WritesFront : Option Order → Option (List ℕ) → Option (List ℕ) → Option (List ℕ) → Option (List ℕ) → Type 0
+WritesFront None left_old left_new old new = AppendsFront old new usage_line
+WritesFront (Some order) left_old left_new old new =
+  (bytes : List ℕ) × (text : List ℕ) × ReadsUpTo 4194305 left_old left_new bytes × AnswersSoFar bytes text × AppendsFront old new text

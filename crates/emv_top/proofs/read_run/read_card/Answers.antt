@@ -3,7 +3,7 @@ use Rattle.std.proofs.lemmas.Result.{on_ok_weaker, on_err_weaker}
 use Rattle.emv_ports.proofs.Growth.{Appends-none}
 use Rattle.emv_top.specs.Run.{begun}
 use Rattle.emv_top.specs.SeenForm.{seen_form}
-use Rattle.emv_top.proofs.RunLemmas.{report_done, report_stopped, exchange_stopped}
+use Rattle.emv_top.proofs.RunLemmas.{report_done, report_stopped, exchange_stopped, holds_short}
 use Rattle.emv_top.proofs.read_run.read_card.Goals as goal
 
 pub loop-card-init : goal.loop-card-init
@@ -22,7 +22,7 @@ returns-in-Err-clause-front g c =
     c.loop-card.terminal c.loop-card.card.phase _ _ _ c.loop-card.invariant.running c.in-Err.ensures.stopped
 
 pub finish-requires-clause-short : goal.finish-requires-clause-short
-finish-requires-clause-short g c = ?
+finish-requires-clause-short g c = holds_short (seen_form c.args.form.now) c.loop-card.terminal c.loop-card.card.phase c.loop-card.invariant.running.session c.loop-card.invariant.running.stands
 
 pub returns-clause-all : goal.returns-clause-all
 returns-clause-all g c =
