@@ -2,15 +2,20 @@
 //! status comes out. The contract of `run` is what the project promises.
 #![tactic(auto)]
 
-pub mod app_select;
-pub mod card;
-pub mod input;
-pub mod kernel;
-pub mod read_records;
-pub mod read_run;
-pub mod reading;
-pub mod refusal;
-pub mod short_form;
-pub mod templates;
-pub mod top;
-pub mod words;
+mod app_select;
+mod card;
+mod input;
+mod kernel;
+mod read_records;
+mod read_run;
+mod reading;
+mod refusal;
+mod short_form;
+mod templates;
+mod top;
+mod words;
+
+pub use top::{Finished, run};
+
+#[cfg(test)]
+mod tests;

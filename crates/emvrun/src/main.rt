@@ -1,0 +1,26 @@
+//! `emvrun`: a terminal, a card and an issuer's host from one document, exchange by exchange.
+#![tactic(auto)]
+
+use emv_ports::{StdinSource, StdoutSink};
+use emv_top::run;
+use std::env;
+use std::io;
+use std::process::ExitCode;
+
+/// Answers the words of the command line: standard input is the document, standard output gets each
+/// line, and the exit status is that of the top call. Words that are no text are answered as words
+/// that are not in the grammar.
+fn main(rt: HostRuntime) -> ExitCode {
+    let mut source = StdinSource::new(rt.reader());
+    let mut sink = StdoutSink::new(io::writer(&rt));
+    let mut words = Vec::new(rt.alloc());
+    if let Ok(given) = env::args(&rt) {
+        for word in given.skip(1) {
+            if words.push(word).is_err() {
+                return ExitCode::from(5);
+            }
+        }
+    }
+    let finished = run(rt.alloc(), &words, &mut source, &mut sink);
+    ExitCode::from(finished.status)
+}
