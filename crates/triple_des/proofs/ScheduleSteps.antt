@@ -19,6 +19,13 @@ shift_bounds i below =
     (below_at (λ k. nat_le 1 (get_or SHIFTS k 0) && nat_le (get_or SHIFTS k 0) 2) 16 i one_or_two below) in
     (leb-true 1 (get_or SHIFTS i 0) parts.0, leb-true (get_or SHIFTS i 0) 2 parts.1)
 
+-- the keys so far and those that the halves still give are all the keys
+pub record IsScheduled (keys : List ℕ) (i left right : ℕ) (all : List (List ℕ)) : Type 0 where
+  pub sized : length keys ≡ 16
+  pub left_fits : left < 2 ^ 28
+  pub right_fits : right < 2 ^ 28
+  pub so_far : map (bits 48) (take i keys) ++ schedule (drop i shift_table) (bits 28 left) (bits 28 right) ≡ all
+
 -- one round key more
 pub schedule_step : (keys : List ℕ) (i left right next_left next_right key : ℕ) → i < 16 → length keys ≡ 16 → bits 28 next_left ≡ turned (get_or SHIFTS i 0) (bits 28 left) → bits 28 next_right ≡ turned (get_or SHIFTS i 0) (bits 28 right) → next_right < 2 ^ 28 → bits 48 key ≡ pick second_choice_table (bits 56 (next_left * 2 ^ 28 + next_right)) → map (bits 48) (take (i + 1) (set keys i key)) ++ schedule (drop (i + 1) shift_table) (bits 28 next_left) (bits 28 next_right) ≡ map (bits 48) (take i keys) ++ schedule (drop i shift_table) (bits 28 left) (bits 28 right)
 unfolding schedule shift_table

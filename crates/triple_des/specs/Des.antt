@@ -2,7 +2,8 @@
 use Rattle.std.specs.Prelude.{ℕ, List, [], ◌∷◌, ◌++◌, take, drop, reverse, slice_index, slice_index_or}
 use Rattle.std.specs.List.{fold}
 use Rattle.triple_des.specs.Bits.{bits, number, pick, xor, bits_of, bytes_of}
-use Rattle.triple_des.specs.Tables.{initial_table, final_table, expansion_table, permutation_table, first_choice_table, second_choice_table, shift_table, box_tables}
+use Rattle.triple_des.specs.Tables.{initial_table, final_table, expansion_table, permutation_table}
+use Rattle.triple_des.specs.Tables.{first_choice_table, second_choice_table, shift_table, box_tables}
 
 -- the row of a box is written by bits 1 and 6 of the six, the column by bits 2 to 5
 abbrev pub row_of : List ℕ → ℕ
@@ -22,7 +23,8 @@ substituted (box ∷ boxes) bs = selected box (take 6 bs) ++ substituted boxes (
 
 -- f(R, K): P of the boxes of E(R) xor K
 unfoldable pub cipher_function : List ℕ → List ℕ → List ℕ
-cipher_function right key = pick permutation_table (substituted box_tables (xor (pick expansion_table right) key))
+cipher_function right key =
+    pick permutation_table (substituted box_tables (xor (pick expansion_table right) key))
 
 -- one round: the halves L, R become R, L xor f(R, K)
 unfoldable pub round : List ℕ × List ℕ → List ℕ → List ℕ × List ℕ
@@ -58,11 +60,15 @@ turned places half = drop places half ++ take places half
 -- for each round C and D are turned, and PC-2 takes the key from both
 unfoldable pub schedule : List ℕ → List ℕ → List ℕ → List (List ℕ)
 schedule [] c d = []
-schedule (places ∷ rest) c d = pick second_choice_table (turned places c ++ turned places d) ∷ schedule rest (turned places c) (turned places d)
+schedule (places ∷ rest) c d =
+    pick second_choice_table (turned places c ++ turned places d)
+    ∷ schedule rest (turned places c) (turned places d)
 
 -- the sixteen round keys of a key of eight bytes: PC-1 leaves its parity bits out
 unfoldable pub round_keys : List ℕ → List (List ℕ)
-round_keys key = schedule shift_table (take 28 (pick first_choice_table (bits_of key))) (drop 28 (pick first_choice_table (bits_of key)))
+round_keys key =
+    let chosen = pick first_choice_table (bits_of key) in
+    schedule shift_table (take 28 chosen) (drop 28 chosen)
 
 -- a block enciphered under a key
 abbrev pub des : List ℕ → List ℕ → List ℕ

@@ -28,4 +28,6 @@ chained keys all = chained_from keys (replicate 8 0) all
 
 -- chained with the left key; the last result is deciphered right and enciphered left
 unfoldable pub mac : List ℕ → List ℕ → List ℕ
-mac key text = enciphered (left_keys key) (deciphered (right_keys key) (chained (left_keys key) (blocks (padded text))))
+mac key text =
+    let last = chained (left_keys key) (blocks (padded text)) in
+    enciphered (left_keys key) (deciphered (right_keys key) last)

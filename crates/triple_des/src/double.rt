@@ -19,7 +19,8 @@ impl Model for Key16 {
 
     ghost view = { λ key. key.bytes };
 
-    ghost invariant = { λ key. (key.left ≡ left_keys key.bytes) × (key.right ≡ right_keys key.bytes) };
+    ghost invariant = { λ key. (key.left ≡ left_keys key.bytes)
+        × (key.right ≡ right_keys key.bytes) };
 }
 
 impl Key16 {

@@ -45,7 +45,8 @@ fn mix(right: u64, key: u64) -> u64
 
 /// The halves after a round for each key. Only the lowest 32 bits of a half count.
 fn run_rounds(keys: &[u64], left: u64, right: u64) -> (u64, u64)
-    ensures { (bits 32 result.0, bits 32 result.1) ≡ rounds (map (bits 48) keys.now) (bits 32 left, bits 32 right) }
+    ensures { (bits 32 result.0, bits 32 result.1)
+        ≡ rounds (map (bits 48) keys.now) (bits 32 left, bits 32 right) }
 {
     let mut left = left;
     let mut right = right;

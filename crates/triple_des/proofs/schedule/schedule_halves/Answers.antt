@@ -12,14 +12,20 @@ turn-right-requires-clause-few c = (shift_bounds c.loop-index.index c.loop-index
 
 pub loop-index-preserved : goal.loop-index-preserved
 unfolding second_choice_table
-loop-index-preserved c = (
-  length-set c.loop-index.keys c.loop-index.index c.permute.result ∙ c.loop-index.invariant.0,
-  c.turn-left.ensures.fits,
-  c.turn-right.ensures.fits,
-  schedule_step c.loop-index.keys c.loop-index.index c.loop-index.left c.loop-index.right c.turn-left.result c.turn-right.result c.permute.result c.loop-index-test.true c.loop-index.invariant.0 c.turn-left.ensures.bits c.turn-right.ensures.bits c.turn-right.ensures.fits c.permute.ensures.bits
-      ∙ c.loop-index.invariant.3,
-)
+loop-index-preserved c =
+    let keys = c.loop-index.keys in
+    let i = c.loop-index.index in
+    let before = c.loop-index.invariant in
+    record {
+      sized = length-set keys i c.permute.result ∙ before.sized;
+      left_fits = c.turn-left.ensures.fits;
+      right_fits = c.turn-right.ensures.fits;
+      so_far =
+          schedule_step keys i c.loop-index.left c.loop-index.right c.turn-left.result c.turn-right.result c.permute.result c.loop-index-test.true before.sized c.turn-left.ensures.bits c.turn-right.ensures.bits c.turn-right.ensures.fits c.permute.ensures.bits
+          ∙ before.so_far;
+    }
 
 pub returns : goal.returns
 returns c =
-    sym (schedule_end c.loop-index.keys c.loop-index.index c.loop-index.left c.loop-index.right (omega arith) c.loop-index.invariant.0) ∙ c.loop-index.invariant.3
+    sym (schedule_end c.loop-index.keys c.loop-index.index c.loop-index.left c.loop-index.right (omega arith) c.loop-index.invariant.sized)
+    ∙ c.loop-index.invariant.so_far
