@@ -19,14 +19,14 @@ pub all_short : (entries : Entries) → AllShort entries → AllShort (entries_a
 all_short entries short = subst (λ (es : Entries). AllShort es) (sym (all_entries entries)) short
 
 pub objects_more : (old mid new : Option (List ℕ)) (left rest : Entries) (entry : ℕ × List ℕ) (whole : List ℕ) → left ≡ entry ∷ rest →
-  IsSoFar old mid (objects_text left) whole → Appends mid new (object_text entry) → IsSoFar old new (objects_text rest) whole
+    IsSoFar old mid (objects_text left) whole → Appends mid new (object_text entry) → IsSoFar old new (objects_text rest) whole
 objects_more old mid new left rest entry whole is so_far more =
-  IsSoFar_more old mid new (object_text entry) (objects_text rest) whole (subst (λ (es : Entries). IsSoFar old mid (objects_text es) whole) is so_far) more
+    IsSoFar_more old mid new (object_text entry) (objects_text rest) whole (subst (λ (es : Entries). IsSoFar old mid (objects_text es) whole) is so_far) more
 
 pub objects_front : (old mid new : Option (List ℕ)) (left rest : Entries) (entry : ℕ × List ℕ) (whole : List ℕ) → left ≡ entry ∷ rest →
-  IsSoFar old mid (objects_text left) whole → AppendsFront mid new (object_text entry) → AppendsFront old new whole
+    IsSoFar old mid (objects_text left) whole → AppendsFront mid new (object_text entry) → AppendsFront old new whole
 objects_front old mid new left rest entry whole is so_far stopped =
-  IsSoFar_front old mid new (object_text entry) (objects_text rest) whole (subst (λ (es : Entries). IsSoFar old mid (objects_text es) whole) is so_far) stopped
+    IsSoFar_front old mid new (object_text entry) (objects_text rest) whole (subst (λ (es : Entries). IsSoFar old mid (objects_text es) whole) is so_far) stopped
 
 pub rest_short : (left rest : Entries) (entry : ℕ × List ℕ) → left ≡ entry ∷ rest → AllShort left → AllShort rest
 rest_short left rest entry is short = (subst (λ (es : Entries). AllShort es) is short).1

@@ -35,32 +35,33 @@ pub told_now : (form : FormData) (terminal : Terminal) (phase : Phase) (session 
 told_now form terminal phase session stands = ap (λ (rs : List (List ℕ)). dialogue form.aid rs) (sym (append-nil (replies session))) ∙ stands.told []
 
 pub reaches : (form : FormData) (terminal : Terminal) (phase : Phase) (session : List Exchange) (ask sent answer : List ℕ) →
-  Stands form terminal phase session → start_of terminal [] ≡ Asks ask → sent ≡ ask → answer ≡ card_answer form session sent →
-  Reached form (session ++ record { command = ask; answer = answer } ∷ [])
+    Stands form terminal phase session → start_of terminal [] ≡ Asks ask → sent ≡ ask → answer ≡ card_answer form session sent →
+    Reached form (session ++ record { command = ask; answer = answer } ∷ [])
 reaches form terminal phase session ask sent answer stands asks sends answers =
-  subst (λ (a : List ℕ). Reached form (session ++ record { command = ask; answer = a } ∷ [])) (sym (answers ∙ ap (λ (c : List ℕ). card_answer form session c) sends))
+    subst (λ (a : List ℕ). Reached form (session ++ record { command = ask; answer = a } ∷ [])) (sym (answers ∙ ap (λ (c : List ℕ). card_answer form session c) sends))
     (exchanged stands.reached (told_now form terminal phase session stands ∙ asks))
 
 pub goes_on : (form : FormData) (terminal next : Terminal) (phase next_phase : Phase) (session : List Exchange) (ask sent answer reply : List ℕ) →
-  Stands form terminal phase session → start_of terminal [] ≡ Asks ask → sent ≡ ask → answer ≡ card_answer form session sent → reply ≡ answer →
-  ((later : List (List ℕ)) → start_of next later ≡ start_of terminal (reply ∷ later)) →
-  CardStands next_phase (session ++ record { command = sent; answer = answer } ∷ []) →
-  Stands form next next_phase (session ++ record { command = ask; answer = answer } ∷ [])
+    Stands form terminal phase session → start_of terminal [] ≡ Asks ask → sent ≡ ask → answer ≡ card_answer form session sent → reply ≡ answer →
+    ((later : List (List ℕ)) → start_of next later ≡ start_of terminal (reply ∷ later)) →
+    CardStands next_phase (session ++ record { command = sent; answer = answer } ∷ []) →
+    Stands form next next_phase (session ++ record { command = ask; answer = answer } ∷ [])
 goes_on form terminal next phase next_phase session ask sent answer reply stands asks sends answers same takes phase_is = record {
   reached = reaches form terminal phase session ask sent answer stands asks sends answers;
   told = λ later.
-    ap (λ (rs : List (List ℕ)). dialogue form.aid (rs ++ later)) (replies-push session (record { command = ask; answer = answer }))
+      ap (λ (rs : List (List ℕ)). dialogue form.aid (rs ++ later)) (replies-push session (record { command = ask; answer = answer }))
       ∙ ap (λ (rs : List (List ℕ)). dialogue form.aid rs) (append_assoc (replies session) (answer ∷ []) later)
       ∙ stands.told (answer ∷ later)
       ∙ ap (λ (r : List ℕ). start_of terminal (r ∷ later)) (sym same)
       ∙ sym (takes later);
-  phase_is = subst (λ (c : List ℕ). CardStands next_phase (session ++ record { command = c; answer = answer } ∷ [])) sends phase_is }
+  phase_is = subst (λ (c : List ℕ). CardStands next_phase (session ++ record { command = c; answer = answer } ∷ [])) sends phase_is;
+}
 
 pub exchange_lines : (asked answered : Line) (command answer : ArrayVec ℕ) → asked ≡ ToCard 0 command → answered ≡ FromCard 0 answer →
-  line_text asked ++ line_text answered ≡ exchange_text (record { command = command.items; answer = answer.items })
+    line_text asked ++ line_text answered ≡ exchange_text (record { command = command.items; answer = answer.items })
 unfolding exchange_text
 exchange_lines asked answered command answer first second =
-  ap (λ (l : Line). line_text l ++ line_text answered) first ∙ ap (λ (l : Line). line_text (ToCard 0 command) ++ line_text l) second
+    ap (λ (l : Line). line_text l ++ line_text answered) first ∙ ap (λ (l : Line). line_text (ToCard 0 command) ++ line_text l) second
 
 over_of : (terminal : Terminal) → is_asking terminal ≡ false → IsOver (start_of terminal [])
 over_of (at.Listing aid turn) ended = absurd (cc)
@@ -72,43 +73,47 @@ over_of (at.Over ending) ended = tt
 
 -- a terminal that has ended: the lines at the end close the report
 pub report_done : (form : FormData) (terminal : Terminal) (phase : Phase) (old mid new : Option (List ℕ)) → IsRunning form terminal phase old mid → is_asking terminal ≡ false →
-  Appends mid new (closing_text (start_of terminal [])) → (text : List ℕ) × ReadReport form text × Appends old new text
+    Appends mid new (closing_text (start_of terminal [])) → (text : List ℕ) × ReadReport form text × Appends old new text
 report_done form terminal phase old mid new running ended closed =
-  let now = told_now form terminal phase running.session running.stands in
-  (session_text running.session ++ closing_text (told_after form running.session),
-    record {
-      session = running.session;
-      reached = running.stands.reached;
-      over = subst (λ (t : Told). IsOver t) (sym now) (over_of terminal ended);
-      spelled = refl },
-    Appends-more old mid new (session_text running.session) (closing_text (told_after form running.session)) running.written
-      (subst (λ (t : Told). Appends mid new (closing_text t)) (sym now) closed))
+    let now = told_now form terminal phase running.session running.stands in (
+      session_text running.session ++ closing_text (told_after form running.session),
+      record {
+        session = running.session;
+        reached = running.stands.reached;
+        over = subst (λ (t : Told). IsOver t) (sym now) (over_of terminal ended);
+        spelled = refl;
+      },
+      Appends-more old mid new (session_text running.session) (closing_text (told_after form running.session)) running.written
+          (subst (λ (t : Told). Appends mid new (closing_text t)) (sym now) closed),
+    )
 
 pub report_stopped : (form : FormData) (terminal : Terminal) (phase : Phase) (old mid new : Option (List ℕ)) → IsRunning form terminal phase old mid →
-  AppendsFront mid new (closing_text (start_of terminal [])) → (text : List ℕ) × ReadSoFar form text × AppendsFront old new text
+    AppendsFront mid new (closing_text (start_of terminal [])) → (text : List ℕ) × ReadSoFar form text × AppendsFront old new text
 report_stopped form terminal phase old mid new running closed =
-  let now = told_now form terminal phase running.session running.stands in
-  (session_text running.session ++ closing_text (told_after form running.session),
-    record { session = running.session; reached = running.stands.reached; spelled = refl },
-    AppendsFront-second old mid new (session_text running.session) (closing_text (told_after form running.session)) running.written
-      (subst (λ (t : Told). AppendsFront mid new (closing_text t)) (sym now) closed))
+    let now = told_now form terminal phase running.session running.stands in (
+      session_text running.session ++ closing_text (told_after form running.session),
+      record { session = running.session; reached = running.stands.reached; spelled = refl },
+      AppendsFront-second old mid new (session_text running.session) (closing_text (told_after form running.session)) running.written
+          (subst (λ (t : Told). AppendsFront mid new (closing_text t)) (sym now) closed),
+    )
 
 stopped_in : (form : FormData) (session : List Exchange) (old mid new : Option (List ℕ)) → Appends old mid (session_text session) → StoppedIn form session mid new →
-  (text : List ℕ) × ReadSoFar form text × AppendsFront old new text
+    (text : List ℕ) × ReadSoFar form text × AppendsFront old new text
 stopped_in form session old mid new written stopped =
-  let longer : List Exchange = session ++ stopped.exchange ∷ [] in
-  (session_text longer ++ closing_text (told_after form longer),
-    record { session = longer; reached = stopped.reached; spelled = refl },
-    AppendsFront-first old new (session_text longer) (closing_text (told_after form longer))
-      (subst (λ (t : List ℕ). AppendsFront old new t) (sym (session_text-push session stopped.exchange))
-        (AppendsFront-second old mid new (session_text session) (exchange_text stopped.exchange) written stopped.front)))
+    let longer : List Exchange = session ++ stopped.exchange ∷ [] in (
+      session_text longer ++ closing_text (told_after form longer),
+      record { session = longer; reached = stopped.reached; spelled = refl },
+      AppendsFront-first old new (session_text longer) (closing_text (told_after form longer))
+          (subst (λ (t : List ℕ). AppendsFront old new t) (sym (session_text-push session stopped.exchange))
+          (AppendsFront-second old mid new (session_text session) (exchange_text stopped.exchange) written stopped.front)),
+    )
 
 pub exchange_stopped : (form other : FormData) → other ≡ form → (terminal : Terminal) (phase : Phase) (old mid new : Option (List ℕ)) → IsRunning form terminal phase old mid →
-  ((session : List Exchange) → Stands other terminal phase session → StoppedIn other session mid new) → (text : List ℕ) × ReadSoFar form text × AppendsFront old new text
+    ((session : List Exchange) → Stands other terminal phase session → StoppedIn other session mid new) → (text : List ℕ) × ReadSoFar form text × AppendsFront old new text
 exchange_stopped form other same terminal phase old mid new running stops =
-  stopped_in form running.session old mid new running.written
+    stopped_in form running.session old mid new running.written
     (subst (λ (f : FormData). StoppedIn f running.session mid new) same
-      (stops running.session (subst (λ (f : FormData). Stands f terminal phase running.session) (sym same) running.stands)))
+    (stops running.session (subst (λ (f : FormData). Stands f terminal phase running.session) (sym same) running.stands)))
 
 -- what was read from a card has no value above 256 bytes
 pub holds_short : (form : FormData) (terminal : Terminal) (phase : Phase) (session : List Exchange) → Stands form terminal phase session → HoldsShort terminal

@@ -17,7 +17,7 @@ pushed : Bool → Exchange → Option (List Exchange) → Option (List Exchange)
 pushed here x before = (if here then Some [] else with_last x before)
 
 push_step : (here : Bool) (first : Bool) (x : Exchange) (ys : List Exchange) (before : Option (List Exchange)) →
-  or_here first (ys ++ x ∷ []) (pushed here x before) ≡ pushed here x (or_here first ys before)
+    or_here first (ys ++ x ∷ []) (pushed here x before) ≡ pushed here x (or_here first ys before)
 unfolding pushed with_last
 push_step true true x ys None = refl
 push_step true true x ys (Some zs) = refl
@@ -43,38 +43,38 @@ list_any-push test x xs = grow (test x) refl xs
     grow false is (y ∷ ys) = ap (λ (b : Bool). test y || b) (grow false is ys)
 
 stage_by : (selects starts : Bool) (x : Exchange) (before : Option (List Exchange)) → is_done_with 0xA8 x ≡ starts →
-  stage_behind (pushed selects x before) ≡ stage_after selects starts (stage_behind before)
+    stage_behind (pushed selects x before) ≡ stage_after selects starts (stage_behind before)
 unfolding pushed with_last
 stage_by true starts x None is = refl
 stage_by true starts x (Some xs) is = refl
 stage_by false true x None is = refl
 stage_by false false x None is = refl
 stage_by false true x (Some xs) is =
-  ap (λ (b : Bool). if b then IsStarted else IsSelected) (list_any-push (is_done_with 0xA8) x xs ∙ ap (λ (b : Bool). if b then true else list_any (is_done_with 0xA8) xs) is)
+    ap (λ (b : Bool). if b then IsStarted else IsSelected) (list_any-push (is_done_with 0xA8) x xs ∙ ap (λ (b : Bool). if b then true else list_any (is_done_with 0xA8) xs) is)
     ∙ from_either (list_any (is_done_with 0xA8) xs)
   where
     from_either : (b : Bool) → IsStarted ≡ started_from (if b then IsStarted else IsSelected)
     from_either true = refl
     from_either false = refl
 stage_by false false x (Some xs) is =
-  ap (λ (b : Bool). if b then IsStarted else IsSelected) (list_any-push (is_done_with 0xA8) x xs ∙ ap (λ (b : Bool). if b then true else list_any (is_done_with 0xA8) xs) is)
+    ap (λ (b : Bool). if b then IsStarted else IsSelected) (list_any-push (is_done_with 0xA8) x xs ∙ ap (λ (b : Bool). if b then true else list_any (is_done_with 0xA8) xs) is)
 
 pub stage_of-push : (session : List Exchange) (x : Exchange) → stage_of (session ++ x ∷ []) ≡ stage_after (is_done_with 0xA4 x) (is_done_with 0xA8 x) (stage_of session)
 unfolding stage_of
 stage_of-push session x =
-  ap stage_behind (behind_last-push (is_done_with 0xA4) x session) ∙ stage_by (is_done_with 0xA4 x) (is_done_with 0xA8 x) x (behind_last (is_done_with 0xA4) session) refl
+    ap stage_behind (behind_last-push (is_done_with 0xA4) x session) ∙ stage_by (is_done_with 0xA4 x) (is_done_with 0xA8 x) x (behind_last (is_done_with 0xA4) session) refl
 
 done_is : (ins : ℕ) (command answer : List ℕ) (body : List ℕ) (status : ℕ) → response_of answer ≡ Some (record { body = body; status = status }) →
-  is_done_with ins (record { command = command; answer = answer }) ≡ succeeded ins command status
+    is_done_with ins (record { command = command; answer = answer }) ≡ succeeded ins command status
 unfolding is_done_with
 done_is ins command answer body status is = rw is refl
 
 pub stands_after : (session : List Exchange) (command answer : List ℕ) (body : List ℕ) (status : ℕ) (phase next : Phase) →
-  response_of answer ≡ Some (record { body = body; status = status }) →
-  seen_phase next ≡ stage_after (succeeded 0xA4 command status) (succeeded 0xA8 command status) (seen_phase phase) →
-  CardStands phase session → CardStands next (session ++ record { command = command; answer = answer } ∷ [])
+    response_of answer ≡ Some (record { body = body; status = status }) →
+    seen_phase next ≡ stage_after (succeeded 0xA4 command status) (succeeded 0xA8 command status) (seen_phase phase) →
+    CardStands phase session → CardStands next (session ++ record { command = command; answer = answer } ∷ [])
 stands_after session command answer body status phase next is moves stands =
-  moves
+    moves
     ∙ ap (λ (b : Bool). stage_after b (succeeded 0xA8 command status) (seen_phase phase)) (sym (done_is 0xA4 command answer body status is))
     ∙ ap (λ (b : Bool). stage_after (is_done_with 0xA4 (record { command = command; answer = answer })) b (seen_phase phase)) (sym (done_is 0xA8 command answer body status is))
     ∙ ap (λ (s : Stage). stage_after (is_done_with 0xA4 (record { command = command; answer = answer })) (is_done_with 0xA8 (record { command = command; answer = answer })) s) stands

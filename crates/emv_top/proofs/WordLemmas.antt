@@ -10,6 +10,7 @@ three a b c words = by_first (bytes_eq a (codes "--")) refl
     by_second : (s : Bool) → bytes_eq b (codes "--") ≡ s → order_named (a ∷ without_dashes (b ∷ c ∷ words)) ≡ None
     by_second true second = rw second refl
     by_second false second = rw second refl
+
     by_first : (f : Bool) → bytes_eq a (codes "--") ≡ f → order_named (without_dashes (a ∷ b ∷ c ∷ words)) ≡ None
     by_first true first = rw first refl
     by_first false first = rw first (by_second (bytes_eq b (codes "--")) refl)

@@ -16,7 +16,7 @@ pub record PlaceData : Type 0 where
 -- take part in offline data authentication
 abbrev pub is_bad : ℕ → ℕ → ℕ → ℕ → Bool
 is_bad file first last authenticated =
-  file / 8 == 0 || (file / 8 == 31 || (first == 0 || (nat_lt last first || nat_lt (last - first + 1) authenticated)))
+    file / 8 == 0 || (file / 8 == 31 || (first == 0 || (nat_lt last first || nat_lt (last - first + 1) authenticated)))
 
 abbrev pub then_groups : GroupData → Result (List GroupData) ℕ → Result (List GroupData) ℕ
 then_groups group (Ok groups) = Ok (group ∷ groups)
@@ -29,8 +29,8 @@ groups_from count (a ∷ []) = Err 0
 groups_from count (a ∷ b ∷ []) = Err 0
 groups_from count (a ∷ b ∷ c ∷ []) = Err 0
 groups_from count (file ∷ first ∷ last ∷ authenticated ∷ rest) =
-  if is_bad file first last authenticated then Err count
-  else then_groups (record { sfi = file / 8; first = first; last = last }) (groups_from (count + 1) rest)
+    if is_bad file first last authenticated then Err count
+    else then_groups (record { sfi = file / 8; first = first; last = last }) (groups_from (count + 1) rest)
 
 -- fault 0: the locator is empty, or its last group is not whole
 unfoldable pub groups_of : List ℕ → Result (List GroupData) ℕ

@@ -12,17 +12,17 @@ use Rattle.emv_top.specs.declared.words.Order.{Order}
 -- the whole text and the status: a card's report with 0, a refusal's line with 1
 abbrev pub Answers : List ℕ → ℕ → List ℕ → Type 0
 Answers bytes status text =
-  ((form : FormData) × IsInput bytes (Ok form) × ReadReport form text × (status ≡ 0))
-  ⊎ ((refusal : Refusal) × IsInput bytes (Err refusal) × (text ≡ refusal_line refusal) × (status ≡ 1))
+    ((form : FormData) × IsInput bytes (Ok form) × ReadReport form text × (status ≡ 0))
+    ⊎ ((refusal : Refusal) × IsInput bytes (Err refusal) × (text ≡ refusal_line refusal) × (status ≡ 1))
 
 -- a text that an answer may have come to: a report so far, or a refusal's line
 abbrev pub AnswersSoFar : List ℕ → List ℕ → Type 0
 AnswersSoFar bytes text =
-  ((form : FormData) × IsInput bytes (Ok form) × ReadSoFar form text)
-  ⊎ ((refusal : Refusal) × IsInput bytes (Err refusal) × (text ≡ refusal_line refusal))
+    ((form : FormData) × IsInput bytes (Ok form) × ReadSoFar form text)
+    ⊎ ((refusal : Refusal) × IsInput bytes (Err refusal) × (text ≡ refusal_line refusal))
 
 -- a front of the usage line for words that give no order, else of an answer to the bytes read
 abbrev pub WritesFront : Option Order → Option (List ℕ) → Option (List ℕ) → Option (List ℕ) → Option (List ℕ) → Type 0
 WritesFront None left_old left_new old new = AppendsFront old new usage_line
 WritesFront (Some order) left_old left_new old new =
-  (bytes : List ℕ) × (text : List ℕ) × ReadsUpTo 4194305 left_old left_new bytes × AnswersSoFar bytes text × AppendsFront old new text
+    (bytes : List ℕ) × (text : List ℕ) × ReadsUpTo 4194305 left_old left_new bytes × AnswersSoFar bytes text × AppendsFront old new text

@@ -73,10 +73,10 @@ is_selected IsStarted = false
 -- SELECT finds the application where its name begins with the data; the next one behind it is none
 unfoldable pub select_row : FormData → Stage → CommandData → ResponseData
 select_row form stage c =
-  if not (c.p1 == 4 && (c.p2 == 0 || c.p2 == 2)) then refused 0x6A86
-  else if not (nat_le 1 (length c.body) && nat_le (length c.body) 16) then refused 0x6700
-  else if starts_with nat_eq form.name c.body && (c.p2 == 0 || is_idle stage) then gives (fci_bytes form)
-  else refused 0x6A82
+    if not (c.p1 == 4 && (c.p2 == 0 || c.p2 == 2)) then refused 0x6A86
+    else if not (nat_le 1 (length c.body) && nat_le (length c.body) 16) then refused 0x6700
+    else if starts_with nat_eq form.name c.body && (c.p2 == 0 || is_idle stage) then gives (fci_bytes form)
+    else refused 0x6A82
 
 abbrev pub has_file : ℕ → List RecordData → Bool
 has_file sfi records = list_any (λ r. r.sfi == sfi) records
@@ -91,10 +91,10 @@ record_or is_there None = refused (if is_there then 0x6A83 else 0x6A82)
 
 unfoldable pub record_row : FormData → Stage → CommandData → ResponseData
 record_row form stage c =
-  if c.p1 == 0 || (not (c.p2 % 8 == 4) || (c.p2 / 8 == 0 || nat_lt 30 (c.p2 / 8))) then refused 0x6A86
-  else if is_idle stage then refused 0x6985
-  else if not (length c.body == 0) then refused 0x6700
-  else record_or (has_file (c.p2 / 8) form.records) (record_in (c.p2 / 8) c.p1 form.records)
+    if c.p1 == 0 || (not (c.p2 % 8 == 4) || (c.p2 / 8 == 0 || nat_lt 30 (c.p2 / 8))) then refused 0x6A86
+    else if is_idle stage then refused 0x6985
+    else if not (length c.body == 0) then refused 0x6700
+    else record_or (has_file (c.p2 / 8) form.records) (record_in (c.p2 / 8) c.p1 form.records)
 
 -- the data is one object 83 without bytes, since the card has no object list
 abbrev pub is_empty_value : Option (List ℕ) → Bool
@@ -103,10 +103,10 @@ is_empty_value (Some value) = length value == 0
 
 unfoldable pub options_row : FormData → Stage → CommandData → ResponseData
 options_row form stage c =
-  if not (c.p1 == 0 && c.p2 == 0) then refused 0x6A86
-  else if not (is_selected stage) then refused 0x6985
-  else if not (is_empty_value (sole_value 0x83 (items_of c.body))) then refused 0x6700
-  else gives (written 0x80 (form.aip ++ form.afl))
+    if not (c.p1 == 0 && c.p2 == 0) then refused 0x6A86
+    else if not (is_selected stage) then refused 0x6985
+    else if not (is_empty_value (sole_value 0x83 (items_of c.body))) then refused 0x6700
+    else gives (written 0x80 (form.aip ++ form.afl))
 
 abbrev pub is_class : ℕ → Bool
 is_class class = class == 0x00 || (class == 0x04 || (class == 0x80 || class == 0x84))
@@ -114,11 +114,11 @@ is_class class = class == 0x00 || (class == 0x04 || (class == 0x80 || class == 0
 -- the row of a command: an unknown class, then an unknown instruction is refused
 unfoldable pub row : FormData → Stage → CommandData → ResponseData
 row form stage c =
-  if not (is_class c.class) then refused 0x6E00
-  else if c.class == 0x00 && c.ins == 0xA4 then select_row form stage c
-  else if c.class == 0x00 && c.ins == 0xB2 then record_row form stage c
-  else if c.class == 0x80 && c.ins == 0xA8 then options_row form stage c
-  else refused 0x6D00
+    if not (is_class c.class) then refused 0x6E00
+    else if c.class == 0x00 && c.ins == 0xA4 then select_row form stage c
+    else if c.class == 0x00 && c.ins == 0xB2 then record_row form stage c
+    else if c.class == 0x80 && c.ins == 0xA8 then options_row form stage c
+    else refused 0x6D00
 
 abbrev pub row_or_refusal : FormData → Stage → Option CommandData → ResponseData
 row_or_refusal form stage None = refused 0x6700
@@ -130,4 +130,4 @@ answered form stage command = row_or_refusal form stage (command_of command)
 -- the answer to a command after a session
 abbrev pub card_answer : FormData → List Exchange → List ℕ → List ℕ
 card_answer form session command =
-  response_bytes (answered form (stage_of session) command).body (answered form (stage_of session) command).status
+    response_bytes (answered form (stage_of session) command).body (answered form (stage_of session) command).status

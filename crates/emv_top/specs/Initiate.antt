@@ -31,7 +31,7 @@ with_groups value (Err place) = Err (Afl place)
 abbrev pub options_value : Option (List ℕ) → Result (List ItemData) TlvFault → Result OptionsData Cause
 options_value None items = Err (Coding (place_or_zero (fault_of items)))
 options_value (Some value) items =
-  if nat_lt (length value) 2 then Err (Value (record { 0 = 0x80 })) else with_groups value (groups_of (drop 2 value))
+    if nat_lt (length value) 2 then Err (Value (record { 0 = 0x80 })) else with_groups value (groups_of (drop 2 value))
 
 unfoldable pub options_in : List ℕ → Result OptionsData Cause
 options_in body = options_value (sole_value 0x80 (items_of body)) (items_of body)
@@ -48,9 +48,9 @@ after_options (Err cause) replies = terminated Initiate cause
 abbrev pub options_said : Option ResponseData → List (List ℕ) → Told
 options_said None replies = terminated Initiate Answer
 options_said (Some said) replies =
-  if said.status == 0x6985 then no_candidate
-  else if said.status == 0x9000 then after_options (options_in said.body) replies
-  else terminated Initiate (Status said.status)
+    if said.status == 0x6985 then no_candidate
+    else if said.status == 0x9000 then after_options (options_in said.body) replies
+    else terminated Initiate (Status said.status)
 
 unfoldable pub initiating : List (List ℕ) → Told
 initiating [] = Asks options_command

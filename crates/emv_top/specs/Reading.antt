@@ -35,13 +35,13 @@ after_gathering entries (Some fault) = Err (cause_of fault)
 -- a record is one template (70); its primitive objects at any depth are gathered
 abbrev pub gathered_if : Bool → Entries → List ℕ → Result Entries Cause
 gathered_if is_template entries body =
-  if is_template then after_gathering (gathered entries (walk_of body)).entries (gathered entries (walk_of body)).fault
-  else Err (Coding (place_or_zero (walk_fault (walk_of body))))
+    if is_template then after_gathering (gathered entries (walk_of body)).entries (gathered entries (walk_of body)).fault
+    else Err (Coding (place_or_zero (walk_fault (walk_of body))))
 
 -- records of the files 1 to 10 are gathered, those of the files 11 to 30 are not
 abbrev pub gathered_record : ℕ → Entries → List ℕ → Result Entries Cause
 gathered_record sfi entries body =
-  if nat_le sfi 10 then gathered_if (is_some (sole_value 0x70 (items_of body))) entries body else Ok entries
+    if nat_le sfi 10 then gathered_if (is_some (sole_value 0x70 (items_of body))) entries body else Ok entries
 
 abbrev pub record_said : ℕ → Entries → Option ResponseData → Result Entries Cause
 record_said sfi entries None = Err Answer
@@ -75,4 +75,4 @@ unfoldable pub reading : Entries → List PlaceData → List (List ℕ) → Told
 reading entries [] replies = finished entries
 reading entries (place ∷ places) [] = Asks (record_command place)
 reading entries (place ∷ places) (reply ∷ replies) =
-  after_record (record_read place.sfi entries reply) (λ more. reading more places replies)
+    after_record (record_read place.sfi entries reply) (λ more. reading more places replies)

@@ -21,7 +21,7 @@ told_after form session = dialogue form.aid (replies session)
 pub data Reached (form : FormData) : List Exchange → Type 0 where
   begun : Reached form []
   exchanged : {session : List Exchange} {ask : List ℕ} → Reached form session → told_after form session ≡ Asks ask →
-    Reached form (session ++ record { command = ask; answer = card_answer form session ask } ∷ [])
+      Reached form (session ++ record { command = ask; answer = card_answer form session ask } ∷ [])
 
 -- the two lines of an exchange
 unfoldable pub exchange_text : Exchange → List ℕ

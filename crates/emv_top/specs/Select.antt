@@ -30,10 +30,10 @@ said_name is_valid (Some name) = Named is_valid name
 abbrev pub said_response : Option ResponseData → Said
 said_response None = Unreadable
 said_response (Some said) =
-  if said.status == 0x6A81 then IsBlocked
-  else if said.status == 0x9000 then said_name true (name_of_fci said.body)
-  else if said.status == 0x6283 then said_name false (name_of_fci said.body)
-  else Nothing
+    if said.status == 0x6A81 then IsBlocked
+    else if said.status == 0x9000 then said_name true (name_of_fci said.body)
+    else if said.status == 0x6283 then said_name false (name_of_fci said.body)
+    else Nothing
 
 unfoldable pub select_said : List ℕ → Said
 select_said reply = said_response (response_of reply)
@@ -60,14 +60,14 @@ after_listed aid turn Unreadable again final = terminated Select Answer
 after_listed aid turn IsBlocked again final = terminated Select CardBlocked
 after_listed aid turn Nothing again final = no_candidate
 after_listed aid turn (Named is_valid name) again final =
-  if bytes_eq name aid then (if is_valid then final else no_candidate)
-  else if is_longer aid name && nat_lt turn 15 then again
-  else no_candidate
+    if bytes_eq name aid then (if is_valid then final else no_candidate)
+    else if is_longer aid name && nat_lt turn 15 then again
+    else no_candidate
 
 unfoldable pub listing : List ℕ → ℕ → List (List ℕ) → Told
 listing aid turn [] = Asks (select_command (if turn == 0 then 0 else 2) aid)
 listing aid turn (reply ∷ replies) =
-  after_listed aid turn (select_said reply) (listing aid (turn + 1) replies) (choosing aid replies)
+    after_listed aid turn (select_said reply) (listing aid (turn + 1) replies) (choosing aid replies)
 
 -- the whole reading of a card, over all its answers
 abbrev pub dialogue : List ℕ → List (List ℕ) → Told

@@ -182,8 +182,7 @@ pub fn read_record(sfi: u8, env: &mut Env, reply: &[u8]) -> Result<(), Cause>
 
 /// Gathers the objects of a record, which is one template 70.
 fn gather_record(env: &mut Env, body: &[u8]) -> Result<(), Cause>
-    ensures {
-        let gathered = gathered_if (is_some (sole_value 0x70 (items_of body.now))) env.old body.now in
+    ensures { let gathered = gathered_if (is_some (sole_value 0x70 (items_of body.now))) env.old body.now in
         MatchResult result (λ _. gathered ≡ Ok env.new) (λ cause. gathered ≡ Err cause) }
 {
     if sole_value(body, Tag(0x70)).is_none() {

@@ -15,8 +15,8 @@ use crate::card::Card;
 use crate::kernel::Terminal;
 use crate::short_form::ShortForm;
 use apdu_core::{Answer, Out};
-use ber_tlv::Tag;
 use arrayvec::ArrayVec;
+use ber_tlv::Tag;
 use emv_ports::{Failed, Sink, write_all};
 use env_map::Env;
 use report_text::{Line, Text, write_line};
@@ -77,7 +77,11 @@ fn write_exchange<K: Sink>(command: &Out, answer: &Answer, sink: &mut K) -> Resu
 }
 
 /// One exchange: the terminal's next command, the card's answer, and their lines.
-fn exchange<'a, K: Sink>(terminal: Terminal<'a>, card: &mut Card<'a>, sink: &mut K) -> Result<Terminal<'a>, Failed>
+fn exchange<'a, K: Sink>(
+    terminal: Terminal<'a>,
+    card: &mut Card<'a>,
+    sink: &mut K,
+) -> Result<Terminal<'a>, Failed>
     requires { is_asking terminal ≡ true }
     ensures ok { IfOk result (λ next. (session : List Exchange) → Stands (seen_form card.old.form.now) terminal.entry card.old.phase session →
         Exchanged (seen_form card.old.form.now) next card.new.phase session (K.held sink.old) (K.held sink.new)) }

@@ -1,1 +1,308 @@
+ghost use Rattle.std.specs.Prelude.{ℕ, List, Some, None};
+ghost use Rattle.std.specs.declared.option.Option.{Option};
+
 use super::*;
+use emv_ports::{Failed, MemorySink, MemorySource, Sink, Source};
+use std::alloc::Global;
+use std::test::Fail;
+
+/// A card that has one application, of which the terminal looks for another.
+const OTHER_CARD: &str = r#"
+aid = "A0000000041010"
+name = "A0000000031010"
+label = "CREDIT"
+aip = "1C00"
+afl = "08010300"
+record = []
+"#;
+
+const OTHER_REPORT: &str = "L0 > 00a4040007a000000004101000
+L0 < 6a82
+read terminated select no-candidate
+";
+
+/// A source that gives one byte a call, and tells nothing.
+#[derive(Drop)]
+struct SlowSource<'a>(&'a [u8]);
+
+impl Source for SlowSource<'_> {
+    ghost left = { λ _. None };
+
+    ghost faults = { λ _. 0 };
+
+    fn read(&mut self, out: &mut [u8]) -> Result<usize, Failed> {
+        if out.is_empty() {
+            return Ok(0);
+        }
+        match self.0 {
+            [] => Ok(0),
+            [first, rest @ ..] => {
+                out[0] = *first;
+                self.0 = rest;
+                Ok(1)
+            }
+        }
+    }
+}
+
+/// A sink that takes one byte a call.
+#[derive(Drop)]
+struct SlowSink(MemorySink);
+
+impl Sink for SlowSink {
+    ghost held = { λ s. Some s.0.held };
+
+    ghost faults = { λ s. s.0.faults };
+
+    fn write(&mut self, piece: &[u8]) -> Result<usize, Failed> {
+        if piece.is_empty() {
+            return Ok(0);
+        }
+        self.0.write(&piece[..1])
+    }
+}
+
+fn words_of(alloc: Global, words: &[&str]) -> Result<Vec<String>, Fail> {
+    let mut list = Vec::new(alloc);
+    for word in words {
+        list.push(String::from_str(alloc, word)?)?;
+    }
+    Ok(list)
+}
+
+fn source_of(alloc: Global, text: &[u8], fails: &[u32]) -> Result<MemorySource, Fail> {
+    Ok(MemorySource::new(text.to_vec(alloc)?, fails.to_vec(alloc)?))
+}
+
+fn sink_of(alloc: Global, fails: &[u32]) -> Result<MemorySink, Fail> {
+    Ok(MemorySink::new(alloc, 10_000, fails.to_vec(alloc)?)?)
+}
+
+#[test]
+fn a_card_without_the_application_is_reported(rt: HostRuntime) -> Result<(), Fail> {
+    let alloc = rt.alloc();
+    for words in [["read"].as_slice(), &["--", "read"], &["read", "--"]] {
+        let words = words_of(alloc, words)?;
+        let mut source = source_of(alloc, OTHER_CARD.as_bytes(), &[])?;
+        let mut sink = sink_of(alloc, &[])?;
+        assert_eq!(rt; run(alloc, &words, &mut source, &mut sink).status, 0);
+        assert_eq!(rt; sink.bytes(), OTHER_REPORT.as_bytes());
+    }
+    Ok(())
+}
+
+#[test]
+fn other_words_give_the_usage_line(rt: HostRuntime) -> Result<(), Fail> {
+    let alloc = rt.alloc();
+    for words in [
+        [].as_slice(),
+        &["--"],
+        &["replay", "x"],
+        &["read", "x"],
+        &["--", "--", "read"],
+        &["--help"],
+        &["Read"],
+    ] {
+        let words = words_of(alloc, words)?;
+        let mut source = source_of(alloc, OTHER_CARD.as_bytes(), &[1])?;
+        let mut sink = sink_of(alloc, &[])?;
+        assert_eq!(rt; run(alloc, &words, &mut source, &mut sink).status, 2);
+        assert_eq!(rt;
+            sink.bytes(),
+            b"usage: emvrun read|replay|generate N\n".as_slice()
+        );
+    }
+    Ok(())
+}
+
+#[test]
+fn refusals_name_their_cause(rt: HostRuntime) -> Result<(), Fail> {
+    let alloc = rt.alloc();
+    let words = words_of(alloc, &["read"])?;
+    let long = vec![in alloc; b'\n'; 4_194_305]?;
+    for (text, line) in [
+        (b"".as_slice(), b"refused 7 NotBuilt file\n".as_slice()),
+        (b"aid = ", b"refused 7 NotBuilt file\n"),
+        (b"\xff", b"refused 7 NotBuilt file\n"),
+        (&long, b"refused 4 OutOfLimit file\n"),
+        (&long[1..], b"refused 7 NotBuilt file\n"),
+    ] {
+        let mut source = source_of(alloc, text, &[])?;
+        let mut sink = sink_of(alloc, &[])?;
+        assert_eq!(rt; run(alloc, &words, &mut source, &mut sink).status, 1);
+        assert_eq!(rt; sink.bytes(), line);
+    }
+    Ok(())
+}
+
+#[test]
+fn faults_of_the_outside_are_answered(rt: HostRuntime) -> Result<(), Fail> {
+    let alloc = rt.alloc();
+    let words = words_of(alloc, &["read"])?;
+    let mut source = source_of(alloc, OTHER_CARD.as_bytes(), &[1])?;
+    let mut sink = sink_of(alloc, &[])?;
+    assert_eq!(rt; run(alloc, &words, &mut source, &mut sink).status, 3);
+    assert_eq!(rt; sink.bytes(), b"".as_slice());
+    let mut source = source_of(alloc, OTHER_CARD.as_bytes(), &[])?;
+    let mut sink = sink_of(alloc, &[2])?;
+    assert_eq!(rt; run(alloc, &words, &mut source, &mut sink).status, 4);
+    assert_eq!(rt;
+        sink.bytes(),
+        b"L0 > 00a4040007a000000004101000\n".as_slice()
+    );
+    Ok(())
+}
+
+#[test]
+fn a_slow_source_and_sink_give_the_same_report(rt: HostRuntime) -> Result<(), Fail> {
+    let alloc = rt.alloc();
+    let words = words_of(alloc, &["read"])?;
+    let mut source = SlowSource(OTHER_CARD.as_bytes());
+    let mut sink = SlowSink(sink_of(alloc, &[])?);
+    assert_eq!(rt; run(alloc, &words, &mut source, &mut sink).status, 0);
+    assert_eq!(rt; sink.0.bytes(), OTHER_REPORT.as_bytes());
+    Ok(())
+}
+
+/// A card with this locator and one file of records, each in hexadecimal.
+fn card_of(alloc: Global, afl: &str, sfi: u8, records: &[&str]) -> Result<String, Fail> {
+    let mut text = format!(in alloc;
+        "aid = \"A0000000031010\"\nname = \"A0000000031010\"\nlabel = \"CREDIT\"\naip = \"1C00\"\nafl = \"{afl}\"\n"
+    )?;
+    let mut number = 1u8;
+    for record in records {
+        text.push_str(format!(in alloc;
+            "[[record]]\nsfi = {sfi}\nnumber = {number}\nbytes = \"{record}\"\n"
+        )?.as_str())?;
+        number = number.saturating_add(1);
+    }
+    Ok(text)
+}
+
+fn ends_with(report: &[u8], line: &str) -> bool {
+    report.ends_with(line.as_bytes())
+}
+
+const WHOLE: &str = "70175A0847617390010100105F24032612318C029F028D018A";
+
+#[test]
+fn faulty_records_end_the_reading(rt: HostRuntime) -> Result<(), Fail> {
+    let alloc = rt.alloc();
+    let words = words_of(alloc, &["read"])?;
+    for (afl, sfi, records, line) in [
+        (
+            "08010100",
+            1,
+            [WHOLE, "00"],
+            "\nobject 94 08010100\nobject 5f24 261231\nread ok\n",
+        ),
+        (
+            "0801010010020100",
+            1,
+            [WHOLE, "00"],
+            "\nread terminated initiate afl 2\n",
+        ),
+        ("", 1, [WHOLE, "00"], "\nread terminated initiate afl 0\n"),
+        (
+            "080101",
+            1,
+            [WHOLE, "00"],
+            "\nread terminated initiate afl 0\n",
+        ),
+        (
+            "08010100",
+            1,
+            ["70045A084761", "00"],
+            "\nread terminated read coding 2\n",
+        ),
+        (
+            "08010100",
+            1,
+            ["5A01477000", "00"],
+            "\nread terminated read coding 0\n",
+        ),
+        (
+            "08010100",
+            1,
+            ["700A5F24032612315F240326", "00"],
+            "\nread terminated read coding 8\n",
+        ),
+        (
+            "08010200",
+            1,
+            [WHOLE, "70035A0147"],
+            "\nread terminated read repeated 5a\n",
+        ),
+        (
+            "08010100",
+            1,
+            ["700482021C00", "00"],
+            "\nread terminated read repeated 82\n",
+        ),
+        (
+            "08010100",
+            1,
+            ["70105A0847617390010100105F2403261231", "00"],
+            "\nread terminated read missing 8c\n",
+        ),
+        (
+            "08010100",
+            1,
+            ["7000", "00"],
+            "\nread terminated read missing 5f24\n",
+        ),
+        (
+            "10010100",
+            1,
+            [WHOLE, "00"],
+            "\nread terminated read status 6a82\n",
+        ),
+        (
+            "08010300",
+            1,
+            [WHOLE, "7000"],
+            "\nread terminated read status 6a83\n",
+        ),
+        (
+            "60010100",
+            12,
+            ["FFFF", "00"],
+            "\nread terminated read missing 5f24\n",
+        ),
+    ] {
+        let document = card_of(alloc, afl, sfi, &records)?;
+        let mut source = source_of(alloc, document.as_bytes(), &[])?;
+        let mut sink = sink_of(alloc, &[])?;
+        assert_eq!(rt; run(alloc, &words, &mut source, &mut sink).status, 0);
+        assert!(rt; ends_with(sink.bytes(), line), "{line}");
+    }
+    Ok(())
+}
+
+/// Three records that give 255 objects of one byte each, of tags 9F8001 to 9F817F.
+#[test]
+fn the_513th_object_is_too_much(rt: HostRuntime) -> Result<(), Fail> {
+    let alloc = rt.alloc();
+    let words = words_of(alloc, &["read"])?;
+    let mut document = format!(in alloc;
+        "aid = \"A0000000031010\"\nname = \"A0000000031010\"\nlabel = \"CREDIT\"\naip = \"1C00\"\nafl = \"08010B00\"\n"
+    )?;
+    let mut first = 0u32;
+    for number in 1..=11u8 {
+        document.push_str(format!(in alloc;
+            "[[record]]\nsfi = 1\nnumber = {number}\nbytes = \"7081C8"
+        )?.as_str())?;
+        for _ in 0..50u8 {
+            let high = 0x81 + first / 128 % 64;
+            let low = first % 128;
+            document.push_str(format!(in alloc; "9F{high:02X}{low:02X}00")?.as_str())?;
+            first = first.saturating_add(1);
+        }
+        document.push_str("\"\n")?;
+    }
+    let mut source = source_of(alloc, document.as_bytes(), &[])?;
+    let mut sink = sink_of(alloc, &[])?;
+    assert_eq!(rt; run(alloc, &words, &mut source, &mut sink).status, 0);
+    assert!(rt; ends_with(sink.bytes(), "9000\nread terminated read too-much\n"));
+    Ok(())
+}

@@ -119,7 +119,12 @@ fn write_usage<K: Sink>(sink: &mut K) -> Status
 ///
 /// The words are those behind the program's name. `read` reads a TOML document that describes a card,
 /// of at most 4,194,304 bytes, and reports what a terminal reads of that card, line by line.
-pub fn run<S: Source, K: Sink>(alloc: Global, words: &[String], source: &mut S, sink: &mut K) -> Finished
+pub fn run<S: Source, K: Sink>(
+    alloc: Global,
+    words: &[String],
+    source: &mut S,
+    sink: &mut K,
+) -> Finished
     // 0: the bytes read are a card, and the sink got the whole report of its reading.
     ensures done { result.status ≡ 0 → (order_of (map string_bytes words.now) ≢ None)
         × (bytes : List ℕ) × (text : List ℕ) × ReadsUpTo 4194305 (S.left source.old) (S.left source.new) bytes

@@ -6,11 +6,13 @@ pub returns-in-Ok-clause-ok : goal.returns-in-Ok-clause-ok
 returns-in-Ok-clause-ok g c = λ session stands. record {
   exchange = record { command = c.ask.new.out.items; answer = c.process.new.out.items };
   stands = goes_on _ _ _ _ _ session c.ask.new.out.items c.as_slice.result.now c.process.new.out.items c.as_slice-in-Ok.result.now stands c.ask.ensures c.as_slice.ensures.value
-    (c.process.ensures.answer session stands.phase_is) c.as_slice-in-Ok.ensures.value c.take.ensures.told (c.process.ensures.stands session stands.phase_is);
-  written = c.in-Ok.ensures.all }
+      (c.process.ensures.answer session stands.phase_is) c.as_slice-in-Ok.ensures.value c.take.ensures.told (c.process.ensures.stands session stands.phase_is);
+  written = c.in-Ok.ensures.all;
+}
 
 pub returns-in-Err-clause-stopped : goal.returns-in-Err-clause-stopped
 returns-in-Err-clause-stopped g c = λ session stands. record {
   exchange = record { command = c.ask.new.out.items; answer = c.process.new.out.items };
   reached = reaches _ _ _ session c.ask.new.out.items c.as_slice.result.now c.process.new.out.items stands c.ask.ensures c.as_slice.ensures.value (c.process.ensures.answer session stands.phase_is);
-  front = c.in-Err.ensures.front }
+  front = c.in-Err.ensures.front;
+}

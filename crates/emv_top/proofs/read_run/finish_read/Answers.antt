@@ -4,4 +4,4 @@ use Rattle.emv_top.proofs.read_run.finish_read.Goals as goal
 
 pub returns-in-Ok-clause-front : goal.returns-in-Ok-clause-front
 returns-in-Ok-clause-front g c =
-  on_err_weaker c.emit.result (λ stopped. AppendsFront-second _ _ _ _ _ c.in-Ok.ensures.all stopped) c.emit.ensures.front
+    on_err_weaker c.emit.result (λ stopped. AppendsFront-second _ _ _ _ _ c.in-Ok.ensures.all stopped) c.emit.ensures.front

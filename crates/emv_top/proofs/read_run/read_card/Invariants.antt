@@ -8,7 +8,8 @@ abbrev pub invariant-loop-card : goal.invariant-loop-card
 invariant-loop-card g l = record {
   running : IsRunning (seen_form l.form) l.terminal l.card.phase (g.K.Sink.held l.fn.sink) (g.K.Sink.held l.sink);
   form : l.card.form.now ≡ l.form;
-  calm : g.K.Sink.faults l.sink ≡ g.K.Sink.faults l.fn.sink }
+  calm : g.K.Sink.faults l.sink ≡ g.K.Sink.faults l.fn.sink;
+}
 
 abbrev pub decreases-loop-card : goal.decreases-loop-card
 decreases-loop-card g l = rank l.terminal

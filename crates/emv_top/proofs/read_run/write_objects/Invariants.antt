@@ -9,7 +9,8 @@ abbrev pub invariant-loop-tag : goal.invariant-loop-tag
 invariant-loop-tag g l = record {
   so_far : IsSoFar (g.K.Sink.held l.fn.sink) (g.K.Sink.held l.sink) (objects_text (entries_after l.last l.env)) (objects_text l.env);
   short : AllShort (entries_after l.last l.env);
-  calm : g.K.Sink.faults l.sink ≡ g.K.Sink.faults l.fn.sink }
+  calm : g.K.Sink.faults l.sink ≡ g.K.Sink.faults l.fn.sink;
+}
 
 abbrev pub decreases-loop-tag : goal.decreases-loop-tag
 decreases-loop-tag g l = length (entries_after l.last l.env)

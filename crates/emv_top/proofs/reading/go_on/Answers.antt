@@ -8,5 +8,6 @@ use Rattle.emv_top.proofs.reading.go_on.Goals as goal
 pub returns-then-current : goal.returns-then-current
 returns-then-current c = record {
   told = λ replies. ap (λ (places : List PlaceData). reading c.args.env places replies)
-    (sym (next_place (c.args.current.file / 8) c.args.current.first c.args.current.last (seen_groups c.args.later.items) c.if-current.true));
-  left = omega arith }
+      (sym (next_place (c.args.current.file / 8) c.args.current.first c.args.current.last (seen_groups c.args.later.items) c.if-current.true));
+  left = omega arith;
+}

@@ -7,7 +7,8 @@ abbrev pub invariant-loop-item : goal.invariant-loop-item
 invariant-loop-item l = record {
   within : l.cursor.place ≤ length l.cursor.bytes;
   same : l.cursor.bytes ≡ l.bytes;
-  found : found_value l.tag.0 (option_map (λ value. value.now) l.found) (items_behind l.cursor.bytes l.cursor.place) ≡ found_value l.tag.0 None (items_of l.bytes) }
+  found : found_value l.tag.0 (option_map (λ value. value.now) l.found) (items_behind l.cursor.bytes l.cursor.place) ≡ found_value l.tag.0 None (items_of l.bytes);
+}
 
 abbrev pub decreases-loop-item : goal.decreases-loop-item
 decreases-loop-item l = length l.cursor.bytes - l.cursor.place
