@@ -57,11 +57,13 @@ AppendsFront-first old new first second stopped = record {
   front = stopped.front;
   more = stopped.more ++ second;
   splits = sym (append_assoc stopped.front stopped.more second) ∙ ap (λ (t : List ℕ). t ++ second) stopped.splits;
-  written = stopped.written }
+  written = stopped.written;
+}
 
 pub AppendsFront-second : (old mid new : Option (List ℕ)) (first second : List ℕ) → Appends old mid first → AppendsFront mid new second → AppendsFront old new (first ++ second)
 AppendsFront-second old mid new first second all stopped = record {
   front = first ++ stopped.front;
   more = stopped.more;
   splits = append_assoc first stopped.front stopped.more ∙ ap (λ (t : List ℕ). first ++ t) stopped.splits;
-  written = Appends-more old mid new first stopped.front all stopped.written }
+  written = Appends-more old mid new first stopped.front all stopped.written;
+}

@@ -1,5 +1,5 @@
 -- A text with too many or too few digits spells no bytes within the limits.
-use Rattle.std.proofs.Common.{◌≡◌, ℕ, ◌*◌, ◌/◌, ◌<◌, ◌≤◌, List, length, Bool, true, false, ◌&&◌, nat_le, Some, None, Ok, Err, refl, ap, ◌∙◌, sym, cond, arith, leb}
+use Rattle.std.proofs.Common.{◌≡◌, ℕ, ◌/◌, ◌<◌, List, length, ◌&&◌, nat_le, None, Ok, Err, refl, arith}
 use Rattle.std.specs.declared.result.Result.{Result}
 use Rattle.std.specs.Result.{result_ok}
 use Rattle.std.proofs.lemmas.Bool.Decides.{nat_tests}

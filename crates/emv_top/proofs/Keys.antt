@@ -1,13 +1,12 @@
 -- The keys of a table and those of its members.
-use Rattle.std.proofs.Common.{◌≡◌, ℕ, List, [], ◌∷◌, Bool, ◌&&◌, refl, ap, map, string_bytes}
+use Rattle.std.proofs.Common.{◌≡◌, ℕ, List, [], ◌∷◌, Bool, ◌&&◌, refl, ap, string_bytes}
 use Rattle.std.specs.Prelude.{String}
 use Rattle.std.specs.List.{list_all, list_any}
 use Rattle.std.specs.Str.{bytes_eq}
 use Rattle.std.specs.BTreeMap.{BTreeMap, keys}
 use Rattle.std.specs.Map.{keys_of}
 use Rattle.std.specs.declared.alloc.Global.{Global}
-use Rattle.toml.specs.Data.{Data}
-use Rattle.toml.specs.View.{view, members_view, table_view}
+use Rattle.toml.specs.View.{members_view, table_view}
 use Rattle.toml.specs.declared.value.Value.{Value}
 use Rattle.emv_top.specs.Values.{only_keys}
 

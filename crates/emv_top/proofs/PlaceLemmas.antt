@@ -1,6 +1,6 @@
 -- The records of a group, one by one.
-use Rattle.std.proofs.Common.{◌≡◌, ℕ, suc, ◌+◌, ◌-◌, ◌<◌, ◌≤◌, List, ◌∷◌, ◌++◌, length, ap, arith, length-append}
-use Rattle.emv_top.specs.Afl.{GroupData, PlaceData, places_from, places_of}
+use Rattle.std.proofs.Common.{◌≡◌, ℕ, suc, ◌+◌, ◌-◌, ◌<◌, List, ◌∷◌, ◌++◌, ap, arith}
+use Rattle.emv_top.specs.Afl.{GroupData, places_from, places_of}
 use Rattle.emv_top.specs.SeenReading.{left_behind}
 
 pub next_place : (sfi first last : ℕ) (later : List GroupData) → first < last →

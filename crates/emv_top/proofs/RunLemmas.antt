@@ -1,5 +1,5 @@
 -- A reading that goes on by one exchange.
-use Rattle.std.proofs.Common.{◌≡◌, ℕ, List, [], ◌∷◌, ◌++◌, Bool, true, false, refl, ap, sym, ◌∙◌, subst, append_assoc, map}
+use Rattle.std.proofs.Common.{◌≡◌, ℕ, List, [], ◌∷◌, ◌++◌, false, refl, ap, sym, ◌∙◌, subst, append_assoc}
 use Rattle.std.proofs.lemmas.List.{append-nil}
 use Rattle.emv_top.specs.Card.{Exchange, card_answer}
 use Rattle.emv_top.specs.Form.{FormData}
@@ -7,7 +7,7 @@ use Rattle.std.specs.declared.option.Option.{Option}
 use Rattle.std.specs.Io.KnownBytes.{Appends}
 use Rattle.emv_ports.specs.Growth.{AppendsFront}
 use Rattle.emv_ports.proofs.Growth.{Appends-more, AppendsFront-first, AppendsFront-second}
-use Rattle.emv_top.specs.Run.{Reached, begun, exchanged, replies, told_after, exchange_text, session_text, closing_text, IsOver, ReadSoFar, ReadReport}
+use Rattle.emv_top.specs.Run.{Reached, exchanged, replies, told_after, exchange_text, session_text, closing_text, IsOver, ReadSoFar, ReadReport}
 use Rattle.emv_top.specs.Running.{Stands, IsRunning, StoppedIn}
 use Rattle.emv_top.specs.SeenCard.{CardStands}
 use Rattle.emv_top.specs.SeenTerminal.{start_of, is_asking, HoldsShort}

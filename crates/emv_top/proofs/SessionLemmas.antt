@@ -1,9 +1,9 @@
 -- A session with one more exchange.
-use Rattle.std.proofs.Common.{◌≡◌, ℕ, List, [], ◌∷◌, ◌++◌, Bool, true, false, ◌||◌, Some, None, refl, ap, sym, ◌∙◌, option_map}
+use Rattle.std.proofs.Common.{◌≡◌, ℕ, List, [], ◌∷◌, ◌++◌, Bool, true, false, ◌||◌, Some, None, refl, ap, sym, ◌∙◌}
 use Rattle.std.specs.Prelude.{if◌then◌else◌}
 use Rattle.std.specs.declared.option.Option.{Option}
 use Rattle.std.specs.List.{list_any}
-use Rattle.emv_top.specs.Card.{Exchange, Stage, IsIdle, IsSelected, IsStarted, is_done_with, or_here, behind_last, stage_behind, stage_of}
+use Rattle.emv_top.specs.Card.{Exchange, Stage, IsSelected, IsStarted, is_done_with, or_here, behind_last, stage_behind, stage_of}
 use Rattle.apdu_core.specs.Response.{response_of}
 use Rattle.emv_top.specs.SeenCard.{seen_phase, CardStands, succeeded}
 use Rattle.emv_top.specs.declared.card.Phase.{Phase}

@@ -1,5 +1,5 @@
 -- Records that are looked through as they are, and as a contract sees them.
-use Rattle.std.proofs.Common.{◌≡◌, List, [], ◌∷◌, Bool, ◌||◌, refl, ap, map}
+use Rattle.std.proofs.Common.{◌≡◌, List, [], ◌∷◌, Bool, ◌||◌, refl, ap}
 use Rattle.std.specs.List.{list_any}
 use Rattle.emv_top.specs.Form.{RecordData, is_pair_of}
 use Rattle.emv_top.specs.Seen.{seen_record, seen_records}

@@ -1,5 +1,5 @@
 -- The application file locator (EMV 4.3 Book 3 section 10.2).
-use Rattle.std.specs.Prelude.{ℕ, zero, suc, List, [], ◌∷◌, ◌++◌, ◌+◌, ◌-◌, ◌/◌, ◌%◌, ◌==◌, ◌&&◌, ◌||◌, Bool, nat_lt, nat_le, length, Result, Ok, Err, if◌then◌else◌}
+use Rattle.std.specs.Prelude.{ℕ, zero, suc, List, [], ◌∷◌, ◌++◌, ◌+◌, ◌-◌, ◌/◌, ◌%◌, ◌==◌, ◌||◌, Bool, nat_lt, length, Result, Ok, Err, if◌then◌else◌}
 use Rattle.std.specs.List.{flat_map}
 
 -- a group: the file, its first record to read and its last

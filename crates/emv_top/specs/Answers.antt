@@ -1,5 +1,5 @@
 -- Which text and status answer an input.
-use Rattle.std.specs.Prelude.{◌≡◌, ℕ, List, Option, Some, None, Result, Ok, Err, ◌⊎◌}
+use Rattle.std.specs.Prelude.{◌≡◌, ℕ, List, Option, Some, None, Ok, Err, ◌⊎◌}
 use Rattle.emv_top.specs.Form.{FormData}
 use Rattle.emv_top.specs.Input.{IsInput}
 use Rattle.emv_ports.specs.Growth.{AppendsFront}

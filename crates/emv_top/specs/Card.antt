@@ -1,6 +1,6 @@
 -- What the card answers: one application without priority and object lists, whose answer to GET
 -- PROCESSING OPTIONS has format 1 (ISO/IEC 7816-4; EMV 4.3 Book 1 section 11.3, Book 3 section 6.5).
-use Rattle.std.specs.Prelude.{ℕ, List, [], ◌∷◌, ◌++◌, ◌+◌, ◌/◌, ◌%◌, ◌==◌, ◌&&◌, ◌||◌, not, Bool, true, false, nat_lt, nat_le, nat_eq, length, Option, Some, None, slice_get, if◌then◌else◌}
+use Rattle.std.specs.Prelude.{ℕ, List, [], ◌∷◌, ◌++◌, ◌/◌, ◌%◌, ◌==◌, ◌&&◌, ◌||◌, not, Bool, true, false, nat_lt, nat_le, nat_eq, length, Option, Some, None, slice_get, if◌then◌else◌}
 use Rattle.std.specs.List.{starts_with, list_any}
 use Rattle.apdu_core.specs.Command.{CommandData, command_of}
 use Rattle.apdu_core.specs.Response.{ResponseData, response_bytes, response_of}

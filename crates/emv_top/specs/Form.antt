@@ -1,10 +1,9 @@
 -- The document that describes a card of one application, as a function of its TOML members.
-use Rattle.std.specs.Prelude.{◌≡◌, ℕ, ◌+◌, ◌<◌, List, [], ◌∷◌, ◌++◌, Bool, true, false, not, ◌&&◌, ◌||◌, ◌==◌, nat_le, nat_lt, nat_eq, length, Some, None, codes, if◌then◌else◌}
+use Rattle.std.specs.Prelude.{ℕ, List, [], ◌∷◌, Bool, false, not, ◌&&◌, ◌||◌, ◌==◌, nat_le, nat_lt, nat_eq, length, Some, None, codes, if◌then◌else◌}
 use Rattle.std.specs.declared.option.Option.{Option}
-use Rattle.std.specs.Option.{option_map}
 use Rattle.std.specs.List.{list_all, list_any, starts_with}
 use Rattle.toml.specs.Data.{Data, Members, Items, no_items, item, as_table}
-use Rattle.emv_top.specs.Values.{◌>>=◌, keep_if, text_at, array_at, number_at, bytes_at, only_keys, is_printable}
+use Rattle.emv_top.specs.Values.{◌>>=◌, text_at, array_at, number_at, bytes_at, only_keys, is_printable}
 
 pub record RecordData : Type 0 where
   pub sfi : ℕ

@@ -5,12 +5,11 @@ use Rattle.apdu_core.specs.Command.{command_bytes}
 use Rattle.apdu_core.specs.Response.{ResponseData, response_of}
 use Rattle.ber_tlv.specs.Left.{items_of}
 use Rattle.ber_tlv.specs.Walked.{walk_of, walk_fault}
-use Rattle.ber_tlv.specs.declared.tag.Tag.{Tag}
 use Rattle.emv_dict.specs.declared.ending.Cause.{Cause}
 use Rattle.emv_dict.specs.declared.ending.Cause.TheVariants.{Answer, Status, Coding, Repeated, Missing, TooMuch}
 use Rattle.emv_dict.specs.declared.ending.Step.TheVariants.{Read}
 use Rattle.env_map.specs.Entries.{Entries, value_of}
-use Rattle.env_map.specs.Gathered.{Gathered, gathered}
+use Rattle.env_map.specs.Gathered.{gathered}
 use Rattle.env_map.specs.declared.env.EnvFault.TheVariants as env
 use Rattle.env_map.specs.declared.gathering.GatherFault.{GatherFault}
 use Rattle.env_map.specs.declared.gathering.GatherFault.TheVariants as gather

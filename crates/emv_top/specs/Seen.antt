@@ -1,6 +1,6 @@
 -- A short form as a contract sees it.
 use Rattle.std.specs.Prelude.{List, map}
-use Rattle.emv_top.specs.Form.{RecordData, FormData}
+use Rattle.emv_top.specs.Form.{RecordData}
 use Rattle.emv_top.specs.declared.short_form.RecordImage.{RecordImage}
 
 unfoldable pub seen_record : RecordImage → RecordData

@@ -1,7 +1,7 @@
 -- Reading in its course, as a contract sees it.
-use Rattle.std.specs.Prelude.{ℕ, List, [], ◌∷◌, ◌++◌, ◌+◌, ◌-◌, ◌*◌, ◌/◌, length}
+use Rattle.std.specs.Prelude.{ℕ, List, ◌∷◌, ◌++◌, ◌+◌, ◌-◌, ◌*◌, ◌/◌, length}
 use Rattle.emv_dict.specs.declared.ending.Step.TheVariants.{Read}
-use Rattle.emv_top.specs.Afl.{GroupData, PlaceData, places_in, places_of, places_from}
+use Rattle.emv_top.specs.Afl.{GroupData, PlaceData, places_of, places_from}
 use Rattle.emv_top.specs.Reading.{reading}
 use Rattle.emv_top.specs.SeenGroups.{seen_group, seen_groups}
 use Rattle.emv_top.specs.Told.{Told, HasRead, terminated}

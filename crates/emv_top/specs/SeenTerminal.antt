@@ -1,5 +1,5 @@
 -- The terminal in its course, as a contract sees it: what it does with further answers.
-use Rattle.std.specs.Prelude.{◌≡◌, ℕ, List, Bool, true, false, ◌+◌, ◌-◌, ⊤}
+use Rattle.std.specs.Prelude.{ℕ, List, Bool, true, false, ◌+◌, ◌-◌, ⊤}
 use Rattle.emv_top.specs.Initiate.{initiating}
 use Rattle.emv_top.specs.Reading.{reading}
 use Rattle.emv_top.specs.SeenReading.{left_of, steps_of}

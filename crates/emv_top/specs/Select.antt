@@ -1,6 +1,6 @@
 -- Application selection by a list of one AID (EMV 4.3 Book 1 section 12.3.3), and the final SELECT
 -- (section 12.4). The AID is matched whole: a longer name is no candidate.
-use Rattle.std.specs.Prelude.{ℕ, List, [], ◌∷◌, ◌+◌, ◌==◌, ◌&&◌, ◌||◌, Bool, true, false, nat_lt, nat_eq, length, Option, Some, None, if◌then◌else◌}
+use Rattle.std.specs.Prelude.{ℕ, List, [], ◌∷◌, ◌+◌, ◌==◌, ◌&&◌, Bool, true, false, nat_lt, nat_eq, length, Option, Some, None, if◌then◌else◌}
 use Rattle.std.specs.List.{starts_with}
 use Rattle.std.specs.Str.{bytes_eq}
 use Rattle.apdu_core.specs.Command.{command_bytes}

@@ -1,5 +1,5 @@
 -- How far a session has come after one more exchange.
-use Rattle.std.specs.Prelude.{Bool, ◌&&◌, if◌then◌else◌}
+use Rattle.std.specs.Prelude.{Bool, if◌then◌else◌}
 use Rattle.emv_top.specs.Card.{Stage, IsIdle, IsSelected, IsStarted}
 
 abbrev pub started_from : Stage → Stage

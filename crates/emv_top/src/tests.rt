@@ -165,7 +165,7 @@ fn a_slow_source_and_sink_give_the_same_report(rt: HostRuntime) -> Result<(), Fa
 }
 
 /// A card with this locator and one file of records, each in hexadecimal.
-fn card_of(alloc: Global, afl: &str, sfi: u8, records: &[&str]) -> Result<String, Fail> {
+fn card_of(alloc: Global, afl: &str, sfi: u8, records: [&str; 2]) -> Result<String, Fail> {
     let mut text = format!(in alloc;
         "aid = \"A0000000031010\"\nname = \"A0000000031010\"\nlabel = \"CREDIT\"\naip = \"1C00\"\nafl = \"{afl}\"\n"
     )?;
@@ -270,7 +270,7 @@ fn faulty_records_end_the_reading(rt: HostRuntime) -> Result<(), Fail> {
             "\nread terminated read missing 5f24\n",
         ),
     ] {
-        let document = card_of(alloc, afl, sfi, &records)?;
+        let document = card_of(alloc, afl, sfi, records)?;
         let mut source = source_of(alloc, document.as_bytes(), &[])?;
         let mut sink = sink_of(alloc, &[])?;
         assert_eq!(rt; run(alloc, &words, &mut source, &mut sink).status, 0);

@@ -3,9 +3,8 @@
 
 use emv_ports::{StdinSource, StdoutSink};
 use emv_top::run;
-use std::env;
-use std::io;
 use std::process::ExitCode;
+use std::{env, io};
 
 /// Answers the words of the command line: standard input is the document, standard output gets each
 /// line, and the exit status is that of the top call. Words that are no text are answered as words

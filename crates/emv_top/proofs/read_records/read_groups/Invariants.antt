@@ -1,4 +1,4 @@
-use Rattle.std.proofs.Common.{◌≡◌, ◌+◌, ◌*◌, ◌≤◌, length}
+use Rattle.std.proofs.Common.{◌≡◌, ◌+◌, ◌*◌, length}
 use Rattle.arrayvec.specs.ArrayVec.{array_vec_len}
 use Rattle.emv_top.specs.Afl.{groups_from, with_groups_before}
 use Rattle.emv_top.specs.SeenGroups.{seen_groups}

@@ -1,4 +1,3 @@
-use Rattle.std.proofs.Common.{ap, sym}
 use Rattle.emv_top.proofs.RunLemmas.{goes_on, reaches}
 use Rattle.emv_top.proofs.read_run.exchange.Goals as goal
 

@@ -1,5 +1,3 @@
-use Rattle.std.proofs.Common.{◌∙◌, ap, sym}
-use Rattle.emv_top.specs.Card.{Stage}
 use Rattle.emv_top.proofs.SessionLemmas.{stands_after}
 use Rattle.emv_top.proofs.card.Card.process.Goals as goal
 
