@@ -4,9 +4,9 @@ use Rattle.emv_top.specs.Form.{FormData}
 use Rattle.emv_top.specs.Input.{IsInput}
 use Rattle.emv_ports.specs.Growth.{AppendsFront}
 use Rattle.emv_ports.specs.Reading.{ReadsUpTo}
-use Rattle.emv_top.specs.Refusal.{refusal_line, usage_line}
+use Rattle.report_text.specs.Refusal.{refusal_line, usage_line}
 use Rattle.emv_top.specs.Run.{ReadReport, ReadSoFar}
-use Rattle.emv_top.specs.declared.refusal.Refusal.{Refusal}
+use Rattle.report_text.specs.declared.refusal.Refusal.{Refusal}
 use Rattle.emv_top.specs.declared.words.Order.{Order}
 
 -- the whole text and the status: a card's report with 0, a refusal's line with 1

@@ -4,8 +4,8 @@ use Rattle.std.specs.Str.{IsUtf8}
 use Rattle.toml.specs.Parse.{parse_document}
 use Rattle.emv_top.specs.Form.{FormData, form_of}
 use Rattle.emv_top.specs.Values.{◌>>=◌}
-use Rattle.emv_top.specs.declared.refusal.Refusal.{Refusal}
-use Rattle.emv_top.specs.declared.refusal.Refusal.TheVariants.{OutOfLimit, NotBuilt}
+use Rattle.report_text.specs.declared.refusal.Refusal.{Refusal}
+use Rattle.report_text.specs.declared.refusal.Refusal.TheVariants.{OutOfLimit, NotBuilt}
 
 -- the card that the bytes describe: they are UTF-8, and a TOML document in this form
 pub record Describes (bytes : List ℕ) (found : Option FormData) : Type 0 where

@@ -21,7 +21,6 @@ pub mod Run
 pub mod Running
 pub mod Short
 pub mod Words
-pub mod Refusal
 pub mod Input
 pub mod Answers
 pub mod StatusCode

@@ -2,11 +2,11 @@
 ghost use Rattle.std.specs.Prelude.{◌≡◌, IfOk, IfErr, Ok, Err};
 ghost use Rattle.emv_top.specs.Input.{Describes, IsInput};
 ghost use Rattle.emv_top.specs.SeenForm.{seen_form};
-ghost use Rattle.emv_top.specs.declared.refusal.Refusal.{Refusal};
+ghost use Rattle.report_text.specs.declared.refusal.Refusal.{Refusal};
 ghost use Rattle.std.specs.Option.{option_map};
 
-use crate::refusal::Refusal;
 use crate::short_form::{ShortForm, read_form};
+use report_text::Refusal;
 use std::alloc::{AllocError, Global};
 
 /// An input has at most so many bytes.

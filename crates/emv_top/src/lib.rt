@@ -9,7 +9,6 @@ mod kernel;
 mod read_records;
 mod read_run;
 mod reading;
-mod refusal;
 mod short_form;
 mod templates;
 mod top;

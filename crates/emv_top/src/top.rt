@@ -5,7 +5,7 @@ ghost use Rattle.emv_ports.specs.Causes.{Rose};
 ghost use Rattle.emv_ports.specs.Growth.{AppendsFront};
 ghost use Rattle.emv_ports.specs.Reading.{ReadsUpTo};
 ghost use Rattle.emv_top.specs.Answers.{Answers, AnswersSoFar, WritesFront};
-ghost use Rattle.emv_top.specs.Refusal.{usage_line};
+ghost use Rattle.report_text.specs.Refusal.{usage_line};
 ghost use Rattle.emv_top.specs.StatusCode.{code_of};
 ghost use Rattle.emv_top.specs.Words.{order_of};
 
@@ -13,7 +13,7 @@ use crate::input::{InputFault, MOST_BYTES, read_input};
 use crate::read_run::read_card;
 use crate::words::{Order, read_words};
 use emv_ports::{Failed, ReadFault, Sink, Source, read_up_to, write_all};
-use report_text::USAGE;
+use report_text::usage;
 use std::alloc::Global;
 
 /// How the program ends.
@@ -103,13 +103,12 @@ fn read_and_answer<S: Source, K: Sink>(alloc: Global, source: &mut S, sink: &mut
 }
 
 /// The usage line.
-#[tactic(auto, unfolding(crate::specs::Refusal::usage_line))]
 fn write_usage<K: Sink>(sink: &mut K) -> Status
     ensures usage { result ≡ Status.Usage → Appends (K.held sink.old) (K.held sink.new) usage_line × (K.faults sink.new ≡ K.faults sink.old) }
     ensures front { result ≡ Status.WriteFault → AppendsFront (K.held sink.old) (K.held sink.new) usage_line × Rose (K.faults sink.old) (K.faults sink.new) }
     ensures either { (result ≡ Status.Usage) ⊎ (result ≡ Status.WriteFault) }
 {
-    match write_all(sink, USAGE) {
+    match write_all(sink, usage()) {
         Ok(()) => Status::Usage,
         Err(Failed) => Status::WriteFault,
     }

@@ -9,7 +9,7 @@ pub mod words;
 pub mod write;
 
 pub use line::{EndParts, Line, Shown};
-pub use refusal::USAGE;
+pub use refusal::{Refusal, usage};
 pub use write::{Text, write_line};
 
 #[cfg(test)]

@@ -1,7 +1,7 @@
--- The lines that are no report: of a refused input, and of a wrong command line.
+-- The lines that stand in a report's place: of a refused input, and of a wrong command line.
 use Rattle.std.specs.Prelude.{ℕ, List, [], ◌∷◌, ◌++◌, codes}
-use Rattle.emv_top.specs.declared.refusal.Refusal.{Refusal}
-use Rattle.emv_top.specs.declared.refusal.Refusal.TheVariants.{OutOfLimit, NotBuilt}
+use Rattle.report_text.specs.declared.refusal.Refusal.{Refusal}
+use Rattle.report_text.specs.declared.refusal.Refusal.TheVariants.{OutOfLimit, NotBuilt}
 
 -- `refused`, the fault's number and name, and the place
 abbrev pub refusal_line : Refusal → List ℕ
