@@ -9,3 +9,4 @@ pub mod SessionLemmas
 pub mod ShortValues
 pub mod Twins
 pub mod WordLemmas
+pub mod Completing

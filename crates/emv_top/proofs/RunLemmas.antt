@@ -2,12 +2,13 @@
 use Rattle.std.proofs.Common.{◌≡◌, ℕ, List, [], ◌∷◌, ◌++◌, false, refl, ap, sym, ◌∙◌, subst, append_assoc}
 use Rattle.std.proofs.lemmas.List.{append-nil}
 use Rattle.emv_top.specs.Card.{Exchange, card_answer}
+use Rattle.emv_top.specs.Complete.{Complete}
 use Rattle.emv_top.specs.Form.{FormData}
 use Rattle.std.specs.declared.option.Option.{Option}
 use Rattle.std.specs.Io.KnownBytes.{Appends}
 use Rattle.emv_ports.specs.Growth.{AppendsFront}
 use Rattle.emv_ports.proofs.Growth.{Appends-more, AppendsFront-first, AppendsFront-second}
-use Rattle.emv_top.specs.Run.{Reached, exchanged, replies, told_after, exchange_text, session_text, closing_text, IsOver, ReadSoFar, ReadReport}
+use Rattle.emv_top.specs.Run.{Reached, exchanged, replies, told_after, exchange_text, session_text, closing_text, IsOver, ReadReport}
 use Rattle.emv_top.specs.Running.{Stands, IsRunning, StoppedIn}
 use Rattle.emv_top.specs.SeenCard.{CardStands}
 use Rattle.emv_top.specs.SeenTerminal.{start_of, is_asking, HoldsShort}
@@ -22,7 +23,7 @@ use Rattle.emv_top.proofs.ShortValues.{dialogue_short}
 use Rattle.emv_top.specs.declared.kernel.Terminal.{Terminal}
 use Rattle.emv_top.specs.declared.kernel.Terminal.TheVariants as at
 
-replies-push : (session : List Exchange) (x : Exchange) → replies (session ++ x ∷ []) ≡ replies session ++ x.answer ∷ []
+pub replies-push : (session : List Exchange) (x : Exchange) → replies (session ++ x ∷ []) ≡ replies session ++ x.answer ∷ []
 replies-push [] x = refl
 replies-push (y ∷ session) x = ap (λ (rs : List (List ℕ)). y.answer ∷ rs) (replies-push session x)
 
@@ -41,6 +42,14 @@ reaches form terminal phase session ask sent answer stands asks sends answers =
     subst (λ (a : List ℕ). Reached form (session ++ record { command = ask; answer = a } ∷ [])) (sym (answers ∙ ap (λ (c : List ℕ). card_answer form session c) sends))
     (exchanged stands.reached (told_now form terminal phase session stands ∙ asks))
 
+-- behind one more answer the dialogue goes on as the terminal does with it
+pub leads_on : (form : FormData) (terminal : Terminal) (phase : Phase) (session : List Exchange) (ask answer : List ℕ) → Stands form terminal phase session →
+    (later : List (List ℕ)) → dialogue form.aid (replies (session ++ record { command = ask; answer = answer } ∷ []) ++ later) ≡ start_of terminal (answer ∷ later)
+leads_on form terminal phase session ask answer stands later =
+    ap (λ (rs : List (List ℕ)). dialogue form.aid (rs ++ later)) (replies-push session (record { command = ask; answer = answer }))
+    ∙ ap (λ (rs : List (List ℕ)). dialogue form.aid rs) (append_assoc (replies session) (answer ∷ []) later)
+    ∙ stands.told (answer ∷ later)
+
 pub goes_on : (form : FormData) (terminal next : Terminal) (phase next_phase : Phase) (session : List Exchange) (ask sent answer reply : List ℕ) →
     Stands form terminal phase session → start_of terminal [] ≡ Asks ask → sent ≡ ask → answer ≡ card_answer form session sent → reply ≡ answer →
     ((later : List (List ℕ)) → start_of next later ≡ start_of terminal (reply ∷ later)) →
@@ -49,9 +58,7 @@ pub goes_on : (form : FormData) (terminal next : Terminal) (phase next_phase : P
 goes_on form terminal next phase next_phase session ask sent answer reply stands asks sends answers same takes phase_is = record {
   reached = reaches form terminal phase session ask sent answer stands asks sends answers;
   told = λ later.
-      ap (λ (rs : List (List ℕ)). dialogue form.aid (rs ++ later)) (replies-push session (record { command = ask; answer = answer }))
-      ∙ ap (λ (rs : List (List ℕ)). dialogue form.aid rs) (append_assoc (replies session) (answer ∷ []) later)
-      ∙ stands.told (answer ∷ later)
+      leads_on form terminal phase session ask answer stands later
       ∙ ap (λ (r : List ℕ). start_of terminal (r ∷ later)) (sym same)
       ∙ sym (takes later);
   phase_is = subst (λ (c : List ℕ). CardStands next_phase (session ++ record { command = c; answer = answer } ∷ [])) sends phase_is;
@@ -87,29 +94,46 @@ report_done form terminal phase old mid new running ended closed =
           (subst (λ (t : Told). Appends mid new (closing_text t)) (sym now) closed),
     )
 
-pub report_stopped : (form : FormData) (terminal : Terminal) (phase : Phase) (old mid new : Option (List ℕ)) → IsRunning form terminal phase old mid →
-    AppendsFront mid new (closing_text (start_of terminal [])) → (text : List ℕ) × ReadSoFar form text × AppendsFront old new text
-report_stopped form terminal phase old mid new running closed =
+pub report_stopped : (form : FormData) (terminal : Terminal) (phase : Phase) (old mid new : Option (List ℕ)) → IsRunning form terminal phase old mid → is_asking terminal ≡ false →
+    AppendsFront mid new (closing_text (start_of terminal [])) → (text : List ℕ) × ReadReport form text × AppendsFront old new text
+report_stopped form terminal phase old mid new running ended closed =
     let now = told_now form terminal phase running.session running.stands in (
       session_text running.session ++ closing_text (told_after form running.session),
-      record { session = running.session; reached = running.stands.reached; spelled = refl },
+      record {
+        session = running.session;
+        reached = running.stands.reached;
+        over = subst (λ (t : Told). IsOver t) (sym now) (over_of terminal ended);
+        spelled = refl;
+      },
       AppendsFront-second old mid new (session_text running.session) (closing_text (told_after form running.session)) running.written
           (subst (λ (t : Told). AppendsFront mid new (closing_text t)) (sym now) closed),
     )
 
-stopped_in : (form : FormData) (session : List Exchange) (old mid new : Option (List ℕ)) → Appends old mid (session_text session) → StoppedIn form session mid new →
-    (text : List ℕ) × ReadSoFar form text × AppendsFront old new text
-stopped_in form session old mid new written stopped =
-    let longer : List Exchange = session ++ stopped.exchange ∷ [] in (
-      session_text longer ++ closing_text (told_after form longer),
-      record { session = longer; reached = stopped.reached; spelled = refl },
-      AppendsFront-first old new (session_text longer) (closing_text (told_after form longer))
-          (subst (λ (t : List ℕ). AppendsFront old new t) (sym (session_text-push session stopped.exchange))
-          (AppendsFront-second old mid new (session_text session) (exchange_text stopped.exchange) written stopped.front)),
+session_text-append : (first second : List Exchange) → session_text (first ++ second) ≡ session_text first ++ session_text second
+session_text-append [] second = refl
+session_text-append (x ∷ first) second = ap (λ (t : List ℕ). exchange_text x ++ t) (session_text-append first second) ∙ sym (append_assoc (exchange_text x) (session_text first) (session_text second))
+
+-- a front of the lines of a session that comes to an end is a front of a report
+front_of_report : (form : FormData) (session : List Exchange) (old new : Option (List ℕ)) → Complete form session → AppendsFront old new (session_text session) →
+    (text : List ℕ) × ReadReport form text × AppendsFront old new text
+front_of_report form session old new complete front =
+    let whole : List Exchange = session ++ complete.more in (
+      session_text whole ++ closing_text (told_after form whole),
+      record { session = whole; reached = complete.reached; over = complete.over; spelled = refl },
+      AppendsFront-first old new (session_text whole) (closing_text (told_after form whole))
+          (subst (λ (t : List ℕ). AppendsFront old new t) (sym (session_text-append session complete.more))
+          (AppendsFront-first old new (session_text session) (session_text complete.more) front)),
     )
 
+stopped_in : (form : FormData) (session : List Exchange) (old mid new : Option (List ℕ)) → Appends old mid (session_text session) → StoppedIn form session mid new →
+    (text : List ℕ) × ReadReport form text × AppendsFront old new text
+stopped_in form session old mid new written stopped =
+    front_of_report form (session ++ stopped.exchange ∷ []) old new stopped.complete
+    (subst (λ (t : List ℕ). AppendsFront old new t) (sym (session_text-push session stopped.exchange))
+    (AppendsFront-second old mid new (session_text session) (exchange_text stopped.exchange) written stopped.front))
+
 pub exchange_stopped : (form other : FormData) → other ≡ form → (terminal : Terminal) (phase : Phase) (old mid new : Option (List ℕ)) → IsRunning form terminal phase old mid →
-    ((session : List Exchange) → Stands other terminal phase session → StoppedIn other session mid new) → (text : List ℕ) × ReadSoFar form text × AppendsFront old new text
+    ((session : List Exchange) → Stands other terminal phase session → StoppedIn other session mid new) → (text : List ℕ) × ReadReport form text × AppendsFront old new text
 exchange_stopped form other same terminal phase old mid new running stops =
     stopped_in form running.session old mid new running.written
     (subst (λ (f : FormData). StoppedIn f running.session mid new) same

@@ -5,7 +5,7 @@ use Rattle.emv_top.specs.Input.{IsInput}
 use Rattle.emv_ports.specs.Growth.{AppendsFront}
 use Rattle.emv_ports.specs.Reading.{ReadsUpTo}
 use Rattle.report_text.specs.Refusal.{refusal_line, usage_line}
-use Rattle.emv_top.specs.Run.{ReadReport, ReadSoFar}
+use Rattle.emv_top.specs.Run.{ReadReport}
 use Rattle.report_text.specs.declared.refusal.Refusal.{Refusal}
 use Rattle.emv_top.specs.declared.words.Order.{Order}
 
@@ -15,14 +15,8 @@ Answers bytes status text =
     ((form : FormData) × IsInput bytes (Ok form) × ReadReport form text × (status ≡ 0))
     ⊎ ((refusal : Refusal) × IsInput bytes (Err refusal) × (text ≡ refusal_line refusal) × (status ≡ 1))
 
--- a text that an answer may have come to: a report so far, or a refusal's line
-abbrev pub AnswersSoFar : List ℕ → List ℕ → Type 0
-AnswersSoFar bytes text =
-    ((form : FormData) × IsInput bytes (Ok form) × ReadSoFar form text)
-    ⊎ ((refusal : Refusal) × IsInput bytes (Err refusal) × (text ≡ refusal_line refusal))
-
 -- a front of the usage line for words that give no order, else of an answer to the bytes read
 abbrev pub WritesFront : Option Order → Option (List ℕ) → Option (List ℕ) → Option (List ℕ) → Option (List ℕ) → Type 0
 WritesFront None left_old left_new old new = AppendsFront old new usage_line
 WritesFront (Some order) left_old left_new old new =
-    (bytes : List ℕ) × (text : List ℕ) × ReadsUpTo 4194305 left_old left_new bytes × AnswersSoFar bytes text × AppendsFront old new text
+    (bytes : List ℕ) × (status : ℕ) × (text : List ℕ) × ReadsUpTo 4194305 left_old left_new bytes × Answers bytes status text × AppendsFront old new text

@@ -24,3 +24,4 @@ pub mod Words
 pub mod Input
 pub mod Answers
 pub mod StatusCode
+pub mod Complete

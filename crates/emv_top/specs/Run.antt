@@ -48,12 +48,6 @@ IsOver (Asks ask) = ⊥
 IsOver (Ended ending) = ⊤
 IsOver (HasRead entries) = ⊤
 
--- the lines of a session so far, with those at the end where it is over
-pub record ReadSoFar (form : FormData) (text : List ℕ) : Type 0 where
-  pub session : List Exchange
-  pub reached : Reached form session
-  pub spelled : text ≡ session_text session ++ closing_text (told_after form session)
-
 -- the report of a whole reading
 pub record ReadReport (form : FormData) (text : List ℕ) : Type 0 where
   pub session : List Exchange

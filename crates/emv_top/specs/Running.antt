@@ -4,6 +4,7 @@ use Rattle.std.specs.declared.option.Option.{Option}
 use Rattle.std.specs.Io.KnownBytes.{Appends}
 use Rattle.emv_ports.specs.Growth.{AppendsFront}
 use Rattle.emv_top.specs.Card.{Exchange}
+use Rattle.emv_top.specs.Complete.{Complete}
 use Rattle.emv_top.specs.Form.{FormData}
 use Rattle.emv_top.specs.Run.{Reached, replies, exchange_text, session_text}
 use Rattle.emv_top.specs.SeenCard.{CardStands}
@@ -31,8 +32,9 @@ pub record Exchanged (form : FormData) (terminal : Terminal) (phase : Phase) (se
   pub stands : Stands form terminal phase (session ++ exchange ∷ [])
   pub written : Appends old new (exchange_text exchange)
 
--- one more exchange was made, and a front of its lines was written
+-- one more exchange was made, a front of its lines was written, and the session would have gone on
+-- to its end
 pub record StoppedIn (form : FormData) (session : List Exchange) (old new : Option (List ℕ)) : Type 0 where
   pub exchange : Exchange
-  pub reached : Reached form (session ++ exchange ∷ [])
+  pub complete : Complete form (session ++ exchange ∷ [])
   pub front : AppendsFront old new (exchange_text exchange)

@@ -5,7 +5,7 @@ ghost use Rattle.emv_ports.specs.Causes.{HasCause};
 ghost use Rattle.emv_ports.specs.Growth.{AppendsFront};
 ghost use Rattle.report_text.specs.Text.{line_text};
 ghost use Rattle.emv_top.specs.Card.{Exchange};
-ghost use Rattle.emv_top.specs.Run.{ReadSoFar, ReadReport, closing_text, object_text, objects_text, exchange_text};
+ghost use Rattle.emv_top.specs.Run.{ReadReport, closing_text, object_text, objects_text, exchange_text};
 ghost use Rattle.emv_top.specs.Running.{Stands, Exchanged, StoppedIn};
 ghost use Rattle.emv_top.specs.SeenForm.{seen_form};
 ghost use Rattle.emv_top.specs.SeenTerminal.{start_of, is_asking, rank, HoldsShort};
@@ -170,7 +170,7 @@ fn finish_read<K: Sink>(env: &Env, sink: &mut K) -> Result<(), Failed>
 /// The report of the reading of a card.
 pub fn read_card<K: Sink>(form: &ShortForm, sink: &mut K) -> Result<(), Failed>
     ensures all { OnOk result ((text : List ℕ) × ReadReport (seen_form form.now) text × Appends (K.held sink.old) (K.held sink.new) text) }
-    ensures front { OnErr result ((text : List ℕ) × ReadSoFar (seen_form form.now) text × AppendsFront (K.held sink.old) (K.held sink.new) text) }
+    ensures front { OnErr result ((text : List ℕ) × ReadReport (seen_form form.now) text × AppendsFront (K.held sink.old) (K.held sink.new) text) }
     ensures cause { HasCause (K.faults sink.old) (K.faults sink.new) result }
 {
     let mut card = Card::power_up(form);

@@ -4,7 +4,7 @@ ghost use Rattle.std.specs.Io.KnownBytes.{Appends};
 ghost use Rattle.emv_ports.specs.Causes.{Rose};
 ghost use Rattle.emv_ports.specs.Growth.{AppendsFront};
 ghost use Rattle.emv_ports.specs.Reading.{ReadsUpTo};
-ghost use Rattle.emv_top.specs.Answers.{Answers, AnswersSoFar, WritesFront};
+ghost use Rattle.emv_top.specs.Answers.{Answers, WritesFront};
 ghost use Rattle.report_text.specs.Refusal.{usage_line};
 ghost use Rattle.emv_top.specs.StatusCode.{code_of};
 ghost use Rattle.emv_top.specs.Words.{order_of};
@@ -39,7 +39,7 @@ fn answer<K: Sink>(alloc: Global, bytes: &[u8], sink: &mut K) -> Status
     ensures refused { result ≡ Status.Refused → (text : List ℕ) × Answers bytes.now 1 text × Appends (K.held sink.old) (K.held sink.new) text }
     ensures usage { result ≢ Status.Usage }
     ensures read_fault { result ≢ Status.ReadFault }
-    ensures front { result ≡ Status.WriteFault → (text : List ℕ) × AnswersSoFar bytes.now text × AppendsFront (K.held sink.old) (K.held sink.new) text }
+    ensures front { result ≡ Status.WriteFault → (status : ℕ) × (text : List ℕ) × Answers bytes.now status text × AppendsFront (K.held sink.old) (K.held sink.new) text }
     ensures write_fault { result ≡ Status.WriteFault → Rose (K.faults sink.old) (K.faults sink.new) }
     ensures memory { result ≡ Status.OutOfMemory → sink.new ≡ sink.old }
     ensures calm { result ≢ Status.WriteFault → K.faults sink.new ≡ K.faults sink.old }
@@ -88,8 +88,8 @@ fn read_and_answer<S: Source, K: Sink>(alloc: Global, source: &mut S, sink: &mut
         × Answers bytes 1 text × Appends (K.held sink.old) (K.held sink.new) text }
     ensures usage { result ≢ Status.Usage }
     ensures read_fault { result ≡ Status.ReadFault → Rose (S.faults source.old) (S.faults source.new) × (sink.new ≡ sink.old) }
-    ensures front { result ≡ Status.WriteFault → (bytes : List ℕ) × (text : List ℕ) × ReadsUpTo 4194305 (S.left source.old) (S.left source.new) bytes
-        × AnswersSoFar bytes text × AppendsFront (K.held sink.old) (K.held sink.new) text }
+    ensures front { result ≡ Status.WriteFault → (bytes : List ℕ) × (status : ℕ) × (text : List ℕ) × ReadsUpTo 4194305 (S.left source.old) (S.left source.new) bytes
+        × Answers bytes status text × AppendsFront (K.held sink.old) (K.held sink.new) text }
     ensures write_fault { result ≡ Status.WriteFault → Rose (K.faults sink.old) (K.faults sink.new) }
     ensures memory { result ≡ Status.OutOfMemory → sink.new ≡ sink.old }
     ensures source_calm { result ≢ Status.ReadFault → S.faults source.new ≡ S.faults source.old }
@@ -142,7 +142,8 @@ pub fn run<S: Source, K: Sink>(
     ensures read_fault { result.status ≡ 3 → (order_of (map string_bytes words.now) ≢ None)
         × Rose (S.faults source.old) (S.faults source.new) × (sink.new ≡ sink.old) }
 
-    // 4: the sink failed, and got a front of the usage line, of a report or of a refusal's line.
+    // 4: the sink failed, and got a front of the usage line, or of the report or the refusal's line
+    // that answers the bytes read.
     ensures write_fault { result.status ≡ 4 → Rose (K.faults sink.old) (K.faults sink.new) }
     ensures front { result.status ≡ 4 → WritesFront (order_of (map string_bytes words.now)) (S.left source.old) (S.left source.new) (K.held sink.old) (K.held sink.new) }
 

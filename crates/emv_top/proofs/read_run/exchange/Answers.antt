@@ -1,4 +1,5 @@
-use Rattle.emv_top.proofs.RunLemmas.{goes_on, reaches}
+use Rattle.emv_top.proofs.Completing.{completes_answered}
+use Rattle.emv_top.proofs.RunLemmas.{goes_on, leads_on, reaches}
 use Rattle.emv_top.proofs.read_run.exchange.Goals as goal
 
 pub returns-in-Ok-clause-ok : goal.returns-in-Ok-clause-ok
@@ -12,6 +13,8 @@ returns-in-Ok-clause-ok g c = λ session stands. record {
 pub returns-in-Err-clause-stopped : goal.returns-in-Err-clause-stopped
 returns-in-Err-clause-stopped g c = λ session stands. record {
   exchange = record { command = c.ask.new.out.items; answer = c.process.new.out.items };
-  reached = reaches _ _ _ session c.ask.new.out.items c.as_slice.result.now c.process.new.out.items stands c.ask.ensures c.as_slice.ensures.value (c.process.ensures.answer session stands.phase_is);
+  complete = completes_answered _ c.args.terminal _ c.process.new.out.items c.requires
+      (reaches _ _ _ session c.ask.new.out.items c.as_slice.result.now c.process.new.out.items stands c.ask.ensures c.as_slice.ensures.value (c.process.ensures.answer session stands.phase_is))
+      (leads_on _ _ _ session c.ask.new.out.items c.process.new.out.items stands);
   front = c.in-Err.ensures.front;
 }

@@ -35,5 +35,5 @@ returns-clause-all g c =
 pub returns-clause-front : goal.returns-clause-front
 returns-clause-front g c =
     on_err_weaker c.finish.result
-    (λ closed. report_stopped (seen_form c.args.form.now) c.loop-card.terminal c.loop-card.card.phase _ _ _ c.loop-card.invariant.running closed)
+    (λ closed. report_stopped (seen_form c.args.form.now) c.loop-card.terminal c.loop-card.card.phase _ _ _ c.loop-card.invariant.running (sym c.is_asking.ensures ∙ c.loop-card-test.false) closed)
     c.finish.ensures.front
