@@ -9,7 +9,7 @@ use arrayvec::ArrayVec;
 /// The bytes of a command: at most a header, a length, 255 data bytes and an expected length.
 pub type Out = ArrayVec<u8, 261>;
 
-/// A command of the terminal (EMV 4.3 Book 3 section 6.3.2).
+/// A command of the terminal (ISO/IEC 7816-4 section 5.1).
 #[derive(Clone, Copy, PartialEq, Eq, Debug)]
 pub struct Command<'a> {
     /// CLA.

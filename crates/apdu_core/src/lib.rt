@@ -1,5 +1,5 @@
 //! Commands and responses between the terminal and the card (ISO/IEC 7816-4 section 5, EMV 4.3
-//! Book 3 section 6.3): short lengths, one grammar for reading and writing.
+//! Book 3 section 6): short lengths, one grammar for reading and writing.
 #![tactic(auto)]
 
 pub mod command;

@@ -9,7 +9,7 @@ use arrayvec::ArrayVec;
 /// The bytes of a response: at most 256 body bytes and the status.
 pub type Answer = ArrayVec<u8, 258>;
 
-/// An answer of the card (EMV 4.3 Book 3 section 6.3.3).
+/// An answer of the card (ISO/IEC 7816-4 section 5.1).
 #[derive(Clone, Copy, PartialEq, Eq, Debug)]
 pub struct Response<'a> {
     /// The body, of at most 256 bytes; empty where there is none.

@@ -79,18 +79,14 @@ impl<'a> Cursor<'a> {
     }
 }
 
-/// Each byte string has exactly one list of data objects or exactly one fault: the one that
-/// `items_of` names.
-pub fn one_reading(bytes: &[u8])
+/// Why the byte string is no list of data objects, or `None` where it is one: the fault at the first
+/// place that its objects reach and where none stands (EMV 4.3 Book 3 Annex B). Each byte string has
+/// exactly one list of data objects or exactly one fault: the one that `items_of` names.
+pub fn first_fault(bytes: &[u8]) -> Option<TlvFault>
+    ensures result { result ≡ fault_of (items_of bytes.now) }
     ensures list { (items : List ItemData) → (items_of bytes.now ≡ Ok items) ↔ Items bytes.now 0 items }
     ensures fault { (fault : TlvFault) → (items_of bytes.now ≡ Err fault)
         ↔ ((items : List ItemData) × FaultBehind bytes.now 0 items fault) }
-{}
-
-/// Why the byte string is no list of data objects, or `None` where it is one: the fault at the first
-/// place that its objects reach and where none stands (EMV 4.3 Book 3 Annex B).
-pub fn first_fault(bytes: &[u8]) -> Option<TlvFault>
-    ensures { result ≡ fault_of (items_of bytes.now) }
 {
     let mut cursor = Cursor::new(bytes);
     loop {

@@ -8,7 +8,7 @@ pub mod tag;
 pub mod walk;
 pub mod write;
 
-pub use cursor::Cursor;
+pub use cursor::{Cursor, first_fault};
 pub use item::{Item, TlvFault, read_tag};
 pub use tag::{Tag, is_constructed, is_readable};
 pub use walk::deep_fault;

@@ -1,8 +1,8 @@
-use crate::cursor::{Cursor, first_fault};
 use crate::item::{Item, TlvFault, read_tag};
 use crate::tag::{Tag, is_constructed, is_readable};
 use crate::walk::deep_fault;
 use crate::write::{Full, write_item};
+use crate::{Cursor, first_fault};
 use arrayvec::ArrayVec;
 use std::array;
 

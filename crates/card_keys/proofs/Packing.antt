@@ -1,7 +1,8 @@
 -- Digits, two a byte.
 use Rattle.std.proofs.Common.{◌≡◌, ℕ, zero, suc, ◌+◌, ◌-◌, ◌*◌, ◌<◌, List, [], ◌∷◌, ◌++◌, length, get_or, set, take, replicate, refl, ap, sym, ◌∙◌, arith}
 use Rattle.std.proofs.lemmas.List.{take_more, take_more_set, length-append, length-drop, length-replicate}
-use Rattle.card_keys.specs.Master.{numbered, rightmost_sixteen, packed, diversifier_of}
+use Rattle.card_keys.specs.Master.{numbered, rightmost_sixteen, diversifier_of}
+use Rattle.emv_dict.specs.Nibbles.{packed}
 
 get_or-packed : (digits : List ℕ) (i : ℕ) → 2 * i + 1 < length digits → get_or (packed digits) i 0 ≡ get_or digits (2 * i) 0 * 16 + get_or digits (2 * i + 1) 0
 unfolding packed

@@ -1,5 +1,6 @@
 -- The master key of a card from its issuer's, EMV 4.3 Book 2 Annex A1.4.1 (option A).
-use Rattle.std.specs.Prelude.{ℕ, List, [], ◌∷◌, ◌++◌, ◌+◌, ◌*◌, ◌/◌, ◌%◌, length, map, drop, replicate}
+use Rattle.std.specs.Prelude.{ℕ, List, [], ◌∷◌, ◌++◌, ◌/◌, ◌%◌, length, map, drop, replicate}
+use Rattle.emv_dict.specs.Nibbles.{packed}
 use Rattle.triple_des.specs.Bits.{xor_bytes}
 use Rattle.triple_des.specs.TripleDes.{tdes}
 use Rattle.card_keys.specs.Parity.{odd_parity}
@@ -11,12 +12,6 @@ numbered pan sequence = pan ++ sequence / 16 ∷ sequence % 16 ∷ []
 -- the rightmost sixteen digits, with zeros on the left where there are fewer
 abbrev pub rightmost_sixteen : List ℕ → List ℕ
 rightmost_sixteen digits = drop (length digits) (replicate 16 0 ++ digits)
-
--- two digits a byte
-unfoldable pub packed : List ℕ → List ℕ
-packed (high ∷ low ∷ rest) = (high * 16 + low) ∷ packed rest
-packed (high ∷ []) = []
-packed [] = []
 
 -- Y, the eight bytes that stand for the card
 unfoldable pub diversifier_of : List ℕ → ℕ → List ℕ

@@ -11,7 +11,8 @@ pub enum How {
     Offline,
 }
 
-/// What an issuer's script command makes a card do (EMV 4.3 Book 3 section 6.5).
+/// What an issuer's script command makes a card do (EMV 4.3 Book 3 section 6.5; PUT DATA is
+/// this project's own).
 #[derive(Clone, Copy, PartialEq, Eq, Debug)]
 pub enum Scripted {
     /// APPLICATION BLOCK.

@@ -38,7 +38,7 @@ fn read_card(form: u8, count: u8, card: u8, rest: &[u8]) -> Option<CardState>
 }
 
 /// Whether the form is known, the card is said to be blocked or not, and so many bytes are those of
-/// one to four applications.
+/// at most four applications.
 fn is_head(form: u8, count: u8, card: u8, size: usize) -> bool
     ensures { IsTrue result ↔ IsHead form count card size }
 {

@@ -30,6 +30,6 @@ pub struct AppState {
 pub struct CardState {
     /// Whether the card as a whole is blocked.
     pub blocked: bool,
-    /// Its one to four applications.
+    /// Its applications, at most four.
     pub apps: ArrayVec<AppState, 4>,
 }

@@ -5,7 +5,8 @@ ghost use Rattle.emv_dict.specs.Flags.{tvr_bits, have_common_bit};
 use bitflags::{Flag, Flags, bitflag_items};
 
 /// The terminal verification results (EMV 4.3 Book 3 Annex C5): what the terminal's checks found.
-/// The number's low 40 bits are the object's five bytes, big-endian; bits above them are no part of it.
+/// The number's low 40 bits are the object's five bytes, big-endian; `from_bytes` and the
+/// names below give none above them.
 #[derive(Clone, Copy, PartialEq, Eq, Debug, Default)]
 pub struct Tvr(pub u64);
 
@@ -77,7 +78,7 @@ impl Tvr {
         Tvr(u64::from_be_bytes([0, 0, 0, a, b, c, d, e]))
     }
 
-    /// Whether some bit of the results stands in the action code too (EMV 4.3 Book 3 section 10.7).
+    /// Whether some bit of the number stands in the action code too (EMV 4.3 Book 3 section 10.7).
     pub fn meets(&self, code: &Tvr) -> bool
         ensures { result ≡ have_common_bit self.now.0 code.now.0 }
     {

@@ -12,6 +12,7 @@ pub struct StdinSource<R: Read + Drop> {
 }
 
 impl<R: Read + Drop> StdinSource<R> {
+    /// A source at the reader's place, without faults yet.
     pub fn new(reader: R) -> Self
         ensures reader { result.reader ≡ reader }
         ensures faults { result.faults ≡ 0 }
@@ -44,6 +45,7 @@ pub struct StdoutSink<W: Write + Drop> {
 }
 
 impl<W: Write + Drop> StdoutSink<W> {
+    /// A sink behind what the writer holds, without faults yet.
     pub fn new(writer: W) -> Self
         ensures writer { result.writer ≡ writer }
         ensures faults { result.faults ≡ 0 }

@@ -18,7 +18,8 @@ pub enum ReadFault {
     OutOfMemory,
 }
 
-/// Reads a source to its end, or up to `most` bytes, whichever comes first.
+/// Reads a source to its end, or up to `most` bytes, whichever comes first. Of what a failed read
+/// leaves in the source nothing is said.
 pub fn read_up_to<S: Source>(
     alloc: Global,
     source: &mut S,

@@ -1,8 +1,9 @@
 -- The document that describes a card of one application, as a function of its TOML members.
-use Rattle.std.specs.Prelude.{ℕ, List, [], ◌∷◌, Bool, false, not, ◌&&◌, ◌||◌, ◌==◌, nat_le, nat_lt, nat_eq, length, Some, None, codes, if◌then◌else◌}
+use Rattle.std.specs.Prelude.{ℕ, List, [], ◌∷◌, Bool, false, not, ◌&&◌, ◌||◌, ◌==◌, nat_le, length, Some, None, codes, if◌then◌else◌}
 use Rattle.std.specs.declared.option.Option.{Option}
-use Rattle.std.specs.List.{list_all, list_any, starts_with}
+use Rattle.std.specs.List.{list_all, list_any}
 use Rattle.toml.specs.Data.{Data, Members, Items, no_items, item, as_table}
+use Rattle.emv_top.specs.Select.{is_longer}
 use Rattle.emv_top.specs.Values.{◌>>=◌, text_at, array_at, number_at, bytes_at, only_keys, is_printable}
 
 pub record RecordData : Type 0 where
@@ -63,11 +64,6 @@ label_at key ms = do
 unfoldable pub form_keys : List (List ℕ)
 form_keys = codes "aid" ∷ codes "name" ∷ codes "label" ∷ codes "aip" ∷ codes "afl" ∷ codes "record" ∷ []
 
--- the AID is shorter than the name and begins it: a partial name, which the card's own SELECT
--- would find under another length
-abbrev pub is_partial_name : List ℕ → List ℕ → Bool
-is_partial_name aid name = nat_lt (length aid) (length name) && starts_with nat_eq name aid
-
 unfoldable pub form_of : Members → Option FormData
 form_of ms = do
   aid ← bytes_at (codes "aid") 5 16 ms
@@ -76,5 +72,5 @@ form_of ms = do
   aip ← bytes_at (codes "aip") 2 2 ms
   afl ← bytes_at (codes "afl") 0 248 ms
   records ← records_at (codes "record") ms
-  if only_keys form_keys ms && not (is_partial_name aid name)
+  if only_keys form_keys ms && not (is_longer aid name)
       then Some (record { aid = aid; name = name; label = label; aip = aip; afl = afl; records = records }) else None

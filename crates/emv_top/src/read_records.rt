@@ -14,8 +14,7 @@ ghost use Rattle.emv_top.specs.Templates.{sole_value};
 use crate::templates::{place_of, place_or_zero, sole_value};
 use apdu_core::{Response, read_response};
 use arrayvec::ArrayVec;
-use ber_tlv::cursor::first_fault;
-use ber_tlv::{Tag, deep_fault};
+use ber_tlv::{Tag, deep_fault, first_fault};
 use emv_dict::Cause;
 use env_map::{Env, EnvFault, GatherFault, gather};
 

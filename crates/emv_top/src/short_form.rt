@@ -7,12 +7,13 @@ ghost use Rattle.std.specs.BTreeMap.{keys};
 ghost use Rattle.std.specs.Prelude.{string_bytes};
 ghost use Rattle.toml.specs.View.{view, table_view, array_view};
 ghost use Rattle.emv_top.specs.Values.{only_keys, is_printable, bytes_at};
-ghost use Rattle.emv_top.specs.Form.{RecordData, FormData, record_of, records_of, has_twins, form_of, record_keys, form_keys, label_at, is_pair_of, record_item, records_at, is_partial_name};
+ghost use Rattle.emv_top.specs.Form.{RecordData, FormData, record_of, records_of, has_twins, form_of, record_keys, form_keys, label_at, is_pair_of, record_item, records_at};
 ghost use Rattle.emv_top.specs.Seen.{seen_record, seen_records};
 ghost use Rattle.emv_top.specs.SeenForm.{seen_form};
 
 pub mod values;
 
+use crate::app_select::is_longer;
 use arrayvec::ArrayVec;
 use std::alloc::{AllocError, Global};
 use toml::value::Array;
@@ -211,13 +212,6 @@ fn only_form_keys(table: &Table) -> bool
     all_form_keys(table)
 }
 
-/// Whether the AID is shorter than the name and begins it.
-fn is_partial(aid: &[u8], name: &[u8]) -> bool
-    ensures { result ≡ is_partial_name aid.now name.now }
-{
-    aid.len() < name.len() && name.starts_with(aid)
-}
-
 /// The card that a document's table describes; `None` where it describes none in this form.
 #[tactic(auto, unfolding(crate::specs::Form::form_of, crate::specs::SeenForm::seen_form))]
 pub fn read_form(alloc: Global, table: &Table) -> Result<Option<ShortForm>, AllocError>
@@ -241,7 +235,7 @@ pub fn read_form(alloc: Global, table: &Table) -> Result<Option<ShortForm>, Allo
     let Some(records) = records_at(alloc, table, "record")? else {
         return Ok(None);
     };
-    if !only_form_keys(table) || is_partial(aid.as_slice(), name.as_slice()) {
+    if !only_form_keys(table) || is_longer(aid.as_slice(), name.as_slice()) {
         return Ok(None);
     }
     Ok(Some(ShortForm {

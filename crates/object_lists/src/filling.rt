@@ -24,8 +24,8 @@ pub struct CardData {
 const MOST: usize = 252;
 
 /// Fills an object list (EMV 4.3 Book 3 section 5.4): for each entry the value of its object, cut or
-/// filled to the entry's length, from `card` if the card gives the object, else from `terminal`; or
-/// zeros. The data replace what `out` held. `Full` comes exactly where they have more than 252 bytes,
+/// filled to the entry's length, from `card` where the dictionary says that the object comes from the
+/// card, else from `terminal`; zeros where that gives none. The data replace what `out` held. `Full` comes exactly where they have more than 252 bytes,
 /// and `out` is empty then.
 pub fn fill(dol: &Dol, card: &Env, terminal: &Env, out: &mut ArrayVec<u8, 252>) -> Result<(), Full>
     ensures ok { OnOk result (out.new.items ≡ dol_data dol.now card.now terminal.now) }
