@@ -48,8 +48,8 @@ fn is_blocked_after(blocked: bool, decision: &Decision) -> bool
     blocked || matches!(decision, Decision::Script(Scripted::CardBlock))
 }
 
-/// The application's state after one more decision.
-fn changed(app: &AppState, decision: &Decision) -> AppState
+/// The state of an application after one more decision, which it has to allow.
+pub fn changed(app: &AppState, decision: &Decision) -> AppState
     requires { MayDecide app.now decision.now }
     ensures { result ≡ changed_state app.now decision.now }
 {

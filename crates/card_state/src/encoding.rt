@@ -40,7 +40,7 @@ fn append_app(out: &mut ArrayVec<u8, 1024>, app: AppState)
 }
 
 /// The application's flags: value 1 for blocked, value 2 for a failed issuer authentication.
-fn flags(app: &AppState) -> u8
+pub fn flags(app: &AppState) -> u8
     ensures { result ≡ flags_of app.now }
 {
     u8::from(app.blocked) + 2 * u8::from(app.auth_failed)

@@ -8,10 +8,10 @@ pub mod decoding;
 pub mod encoding;
 pub mod state;
 
-pub use change::apply;
+pub use change::{apply, changed};
 pub use decision::{Decision, How, Scripted};
 pub use decoding::decode;
-pub use encoding::encode;
+pub use encoding::{encode, flags};
 pub use state::{AppState, CardState};
 
 #[cfg(test)]

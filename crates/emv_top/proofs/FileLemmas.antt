@@ -2,7 +2,7 @@
 use Rattle.std.proofs.Common.{◌≡◌, ℕ, List, [], ◌∷◌, Bool, ◌||◌, refl, ap}
 use Rattle.std.specs.Prelude.{◌==◌}
 use Rattle.std.specs.List.{list_any}
-use Rattle.emv_top.specs.Card.{has_file}
+use Rattle.emv_top.specs.CardApp.{has_file}
 use Rattle.emv_top.specs.Seen.{seen_record, seen_records}
 use Rattle.emv_top.specs.declared.short_form.RecordImage.{RecordImage}
 

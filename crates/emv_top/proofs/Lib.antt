@@ -1,12 +1,15 @@
 pub mod AflLemmas
+pub mod CardLemmas
+pub mod Completing
+pub mod DolLemmas
 pub mod FileLemmas
 pub mod Hex
 pub mod Keys
 pub mod ObjectLemmas
 pub mod PlaceLemmas
+pub mod PutLemmas
 pub mod RunLemmas
 pub mod SessionLemmas
 pub mod ShortValues
 pub mod Twins
 pub mod WordLemmas
-pub mod Completing

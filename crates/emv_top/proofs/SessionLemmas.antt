@@ -1,13 +1,12 @@
 -- A session with one more exchange.
-use Rattle.std.proofs.Common.{◌≡◌, ℕ, List, [], ◌∷◌, ◌++◌, Bool, true, false, ◌||◌, Some, None, refl, ap, sym, ◌∙◌}
+use Rattle.std.proofs.Common.{◌≡◌, ℕ, List, [], ◌∷◌, ◌++◌, Bool, true, false, Some, None, refl, ap, sym, ◌∙◌}
 use Rattle.std.specs.Prelude.{if◌then◌else◌}
 use Rattle.std.specs.declared.option.Option.{Option}
-use Rattle.std.specs.List.{list_any}
-use Rattle.emv_top.specs.Card.{Exchange, Stage, IsSelected, IsStarted, is_done_with, or_here, behind_last, stage_behind, stage_of}
-use Rattle.apdu_core.specs.Response.{response_of}
-use Rattle.emv_top.specs.SeenCard.{seen_phase, CardStands, succeeded}
-use Rattle.emv_top.specs.declared.card.Phase.{Phase}
-use Rattle.emv_top.specs.StageAfter.{stage_after, started_from}
+use Rattle.emv_top.specs.CardSession.{Exchange, event_of, is_selection, is_start, made, or_here, or_later, behind_last, behind_first, first_made, phase_made, phase_started, phase_selected, phase_of}
+use Rattle.emv_top.specs.PhaseAfter.{phase_after, phase_after_start, phase_after_cryptogram}
+use Rattle.emv_top.specs.declared.phase.Phase.{Phase}
+use Rattle.emv_top.specs.declared.phase.Event.{Event}
+use Rattle.emv_top.specs.declared.phase.Event.TheVariants.{Selection, Start, Cryptogram}
 
 with_last : Exchange → Option (List Exchange) → Option (List Exchange)
 with_last x None = None
@@ -16,66 +15,97 @@ with_last x (Some xs) = Some (xs ++ x ∷ [])
 pushed : Bool → Exchange → Option (List Exchange) → Option (List Exchange)
 pushed here x before = (if here then Some [] else with_last x before)
 
-push_step : (here : Bool) (first : Bool) (x : Exchange) (ys : List Exchange) (before : Option (List Exchange)) →
+last_step : (here : Bool) (first : Bool) (x : Exchange) (ys : List Exchange) (before : Option (List Exchange)) →
     or_here first (ys ++ x ∷ []) (pushed here x before) ≡ pushed here x (or_here first ys before)
 unfolding pushed with_last
-push_step true true x ys None = refl
-push_step true true x ys (Some zs) = refl
-push_step true false x ys None = refl
-push_step true false x ys (Some zs) = refl
-push_step false true x ys None = refl
-push_step false true x ys (Some zs) = refl
-push_step false false x ys None = refl
-push_step false false x ys (Some zs) = refl
+last_step true true x ys None = refl
+last_step true true x ys (Some zs) = refl
+last_step true false x ys None = refl
+last_step true false x ys (Some zs) = refl
+last_step false true x ys None = refl
+last_step false true x ys (Some zs) = refl
+last_step false false x ys None = refl
+last_step false false x ys (Some zs) = refl
 
 behind_last-push : (test : Exchange → Bool) (x : Exchange) (xs : List Exchange) → behind_last test (xs ++ x ∷ []) ≡ pushed (test x) x (behind_last test xs)
-unfolding pushed with_last
+unfolding pushed with_last behind_last
 behind_last-push test x [] = refl
-behind_last-push test x (y ∷ ys) = ap (λ (o : Option (List Exchange)). or_here (test y) (ys ++ x ∷ []) o) (behind_last-push test x ys) ∙ push_step (test x) (test y) x ys (behind_last test ys)
+behind_last-push test x (y ∷ ys) = ap (λ (o : Option (List Exchange)). or_here (test y) (ys ++ x ∷ []) o) (behind_last-push test x ys) ∙ last_step (test x) (test y) x ys (behind_last test ys)
 
-list_any-push : (test : Exchange → Bool) (x : Exchange) (xs : List Exchange) → list_any test (xs ++ x ∷ []) ≡ (if test x then true else list_any test xs)
-list_any-push test x xs = grow (test x) refl xs
+-- what stands behind the first one, where that was found before or is this one
+first_pushed : Bool → Exchange → Option (List Exchange) → Option (List Exchange)
+first_pushed here x None = (if here then Some [] else None)
+first_pushed here x (Some xs) = Some (xs ++ x ∷ [])
+
+behind_first-push : (test : Exchange → Bool) (x : Exchange) (xs : List Exchange) → behind_first test (xs ++ x ∷ []) ≡ first_pushed (test x) x (behind_first test xs)
+unfolding behind_first first_pushed
+behind_first-push test x [] = refl
+behind_first-push test x (y ∷ ys) = by_test (test y) (behind_first-push test x ys)
   where
-    grow : (here : Bool) → test x ≡ here → (ys : List Exchange) → list_any test (ys ++ x ∷ []) ≡ (if here then true else list_any test ys)
-    grow true is [] = rw is refl
-    grow false is [] = rw is refl
-    grow true is (y ∷ ys) = elim (test y) as (λ b. (b || list_any test (ys ++ x ∷ [])) ≡ true) [ true ↦ refl | false ↦ grow true is ys ]
-    grow false is (y ∷ ys) = ap (λ (b : Bool). test y || b) (grow false is ys)
+    by_test : (here : Bool) → behind_first test (ys ++ x ∷ []) ≡ first_pushed (test x) x (behind_first test ys)
+        → (if here then Some (ys ++ x ∷ []) else behind_first test (ys ++ x ∷ [])) ≡ first_pushed (test x) x (if here then Some ys else behind_first test ys)
+    by_test true rest = refl
+    by_test false rest = rest
 
-stage_by : (selects starts : Bool) (x : Exchange) (before : Option (List Exchange)) → is_done_with 0xA8 x ≡ starts →
-    stage_behind (pushed selects x before) ≡ stage_after selects starts (stage_behind before)
-unfolding pushed with_last
-stage_by true starts x None is = refl
-stage_by true starts x (Some xs) is = refl
-stage_by false true x None is = refl
-stage_by false false x None is = refl
-stage_by false true x (Some xs) is =
-    ap (λ (b : Bool). if b then IsStarted else IsSelected) (list_any-push (is_done_with 0xA8) x xs ∙ ap (λ (b : Bool). if b then true else list_any (is_done_with 0xA8) xs) is)
-    ∙ from_either (list_any (is_done_with 0xA8) xs)
+later_step : (first : Option Bool) (last : Option Bool) (rest : Option Bool) → or_later first (or_later rest last) ≡ or_later (or_later first rest) last
+later_step (Some online) last rest = refl
+later_step None last rest = refl
+
+first_made-push : (x : Exchange) (xs : List Exchange) → first_made (xs ++ x ∷ []) ≡ or_later (first_made xs) (made (event_of x))
+unfolding first_made
+first_made-push x [] = by_event (made (event_of x))
   where
-    from_either : (b : Bool) → IsStarted ≡ started_from (if b then IsStarted else IsSelected)
-    from_either true = refl
-    from_either false = refl
-stage_by false false x (Some xs) is =
-    ap (λ (b : Bool). if b then IsStarted else IsSelected) (list_any-push (is_done_with 0xA8) x xs ∙ ap (λ (b : Bool). if b then true else list_any (is_done_with 0xA8) xs) is)
+    by_event : (here : Option Bool) → or_later here None ≡ here
+    by_event (Some online) = refl
+    by_event None = refl
+first_made-push x (y ∷ ys) = ap (λ (o : Option Bool). or_later (made (event_of y)) o) (first_made-push x ys) ∙ later_step (made (event_of y)) (made (event_of x)) (first_made ys)
 
-pub stage_of-push : (session : List Exchange) (x : Exchange) → stage_of (session ++ x ∷ []) ≡ stage_after (is_done_with 0xA4 x) (is_done_with 0xA8 x) (stage_of session)
-unfolding stage_of
-stage_of-push session x =
-    ap stage_behind (behind_last-push (is_done_with 0xA4) x session) ∙ stage_by (is_done_with 0xA4 x) (is_done_with 0xA8 x) x (behind_last (is_done_with 0xA4) session) refl
+-- after GET PROCESSING OPTIONS, by the first cryptogram so far
+made_step : (event : Option Event) (first : Option Bool) → is_selection event ≡ false → phase_made (or_later first (made event)) ≡ phase_after event (phase_made first)
+made_step None None other = refl
+made_step None (Some true) other = refl
+made_step None (Some false) other = refl
+made_step (Some Selection) first other = absurd (cc)
+made_step (Some Start) None other = refl
+made_step (Some Start) (Some true) other = refl
+made_step (Some Start) (Some false) other = refl
+made_step (Some (Cryptogram true)) None other = refl
+made_step (Some (Cryptogram false)) None other = refl
+made_step (Some (Cryptogram online)) (Some true) other = refl
+made_step (Some (Cryptogram online)) (Some false) other = refl
 
-done_is : (ins : ℕ) (command answer : List ℕ) (body : List ℕ) (status : ℕ) → response_of answer ≡ Some (record { body = body; status = status }) →
-    is_done_with ins (record { command = command; answer = answer }) ≡ succeeded ins command status
-unfolding is_done_with
-done_is ins command answer body status is = rw is refl
+-- after SELECT, by what stands behind GET PROCESSING OPTIONS so far
+started_step : (x : Exchange) (event : Option Event) (behind : Option (List Exchange)) → event_of x ≡ event → is_selection event ≡ false →
+    phase_started (first_pushed (is_start event) x behind) ≡ phase_after event (phase_started behind)
+unfolding first_pushed first_made
+started_step x None None is other = refl
+started_step x (Some Selection) None is other = absurd (cc)
+started_step x (Some Start) None is other = refl
+started_step x (Some (Cryptogram online)) None is other = refl
+started_step x event (Some later) is other =
+    ap phase_made (first_made-push x later ∙ ap (λ (e : Option Event). or_later (first_made later) (made e)) is) ∙ made_step event (first_made later) other
 
-pub stands_after : (session : List Exchange) (command answer : List ℕ) (body : List ℕ) (status : ℕ) (phase next : Phase) →
-    response_of answer ≡ Some (record { body = body; status = status }) →
-    seen_phase next ≡ stage_after (succeeded 0xA4 command status) (succeeded 0xA8 command status) (seen_phase phase) →
-    CardStands phase session → CardStands next (session ++ record { command = command; answer = answer } ∷ [])
-stands_after session command answer body status phase next is moves stands =
-    moves
-    ∙ ap (λ (b : Bool). stage_after b (succeeded 0xA8 command status) (seen_phase phase)) (sym (done_is 0xA4 command answer body status is))
-    ∙ ap (λ (b : Bool). stage_after (is_done_with 0xA4 (record { command = command; answer = answer })) b (seen_phase phase)) (sym (done_is 0xA8 command answer body status is))
-    ∙ ap (λ (s : Stage). stage_after (is_done_with 0xA4 (record { command = command; answer = answer })) (is_done_with 0xA8 (record { command = command; answer = answer })) s) stands
-    ∙ sym (stage_of-push session (record { command = command; answer = answer }))
+selected_step : (x : Exchange) (event : Option Event) (behind : Option (List Exchange)) → event_of x ≡ event → is_selection event ≡ false →
+    phase_selected (with_last x behind) ≡ phase_after event (phase_selected behind)
+unfolding with_last
+selected_step x None None is other = refl
+selected_step x (Some Selection) None is other = absurd (cc)
+selected_step x (Some Start) None is other = refl
+selected_step x (Some (Cryptogram online)) None is other = refl
+selected_step x event (Some later) is other =
+    ap phase_started (behind_first-push (λ y. is_start (event_of y)) x later ∙ ap (λ (e : Option Event). first_pushed (is_start e) x (behind_first (λ y. is_start (event_of y)) later)) is)
+    ∙ started_step x event (behind_first (λ y. is_start (event_of y)) later) is other
+
+phase_step : (x : Exchange) (event : Option Event) (behind : Option (List Exchange)) → event_of x ≡ event →
+    phase_selected (pushed (is_selection event) x behind) ≡ phase_after event (phase_selected behind)
+unfolding pushed behind_first
+phase_step x None behind is = selected_step x None behind is refl
+phase_step x (Some Selection) behind is = refl
+phase_step x (Some Start) behind is = selected_step x (Some Start) behind is refl
+phase_step x (Some (Cryptogram online)) behind is = selected_step x (Some (Cryptogram online)) behind is refl
+
+pub phase_of-push : (session : List Exchange) (x : Exchange) → phase_of (session ++ x ∷ []) ≡ phase_after (event_of x) (phase_of session)
+unfolding phase_of
+phase_of-push session x =
+    ap phase_selected (behind_last-push (λ y. is_selection (event_of y)) x session)
+    ∙ phase_step x (event_of x) (behind_last (λ y. is_selection (event_of y)) session) refl

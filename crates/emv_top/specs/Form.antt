@@ -3,6 +3,7 @@ use Rattle.std.specs.Prelude.{ℕ, List, [], ◌∷◌, Bool, false, not, ◌&&�
 use Rattle.std.specs.declared.option.Option.{Option}
 use Rattle.std.specs.List.{list_all, list_any}
 use Rattle.toml.specs.Data.{Data, Members, Items, no_items, item, as_table}
+use Rattle.emv_top.specs.Payment.{PayData, payment_at}
 use Rattle.emv_top.specs.Select.{is_longer}
 use Rattle.emv_top.specs.Values.{◌>>=◌, text_at, array_at, number_at, bytes_at, only_keys, is_printable}
 
@@ -18,6 +19,7 @@ pub record FormData : Type 0 where
   pub aip : List ℕ
   pub afl : List ℕ
   pub records : List RecordData
+  pub pay : Option PayData
 
 unfoldable pub record_keys : List (List ℕ)
 record_keys = codes "sfi" ∷ codes "number" ∷ codes "bytes" ∷ []
@@ -62,7 +64,7 @@ label_at key ms = do
   if nat_le 1 (length text) && nat_le (length text) 16 && list_all is_printable text then Some text else None
 
 unfoldable pub form_keys : List (List ℕ)
-form_keys = codes "aid" ∷ codes "name" ∷ codes "label" ∷ codes "aip" ∷ codes "afl" ∷ codes "record" ∷ []
+form_keys = codes "aid" ∷ codes "name" ∷ codes "label" ∷ codes "aip" ∷ codes "afl" ∷ codes "record" ∷ codes "pay" ∷ []
 
 unfoldable pub form_of : Members → Option FormData
 form_of ms = do
@@ -72,5 +74,6 @@ form_of ms = do
   aip ← bytes_at (codes "aip") 2 2 ms
   afl ← bytes_at (codes "afl") 0 248 ms
   records ← records_at (codes "record") ms
+  pay ← payment_at (codes "pay") ms
   if only_keys form_keys ms && not (is_longer aid name)
-      then Some (record { aid = aid; name = name; label = label; aip = aip; afl = afl; records = records }) else None
+      then Some (record { aid = aid; name = name; label = label; aip = aip; afl = afl; records = records; pay = pay }) else None

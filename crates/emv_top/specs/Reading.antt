@@ -1,6 +1,7 @@
 -- READ RECORD for each record of the locator, and what the records give (EMV 4.3 Book 3 sections
 -- 6.5.11 and 10.2).
 use Rattle.std.specs.Prelude.{ℕ, Bool, List, [], ◌∷◌, ◌+◌, ◌*◌, ◌==◌, nat_le, Option, Some, None, Result, Ok, Err, is_some, if◌then◌else◌}
+use Rattle.std.specs.Option.{option_or}
 use Rattle.apdu_core.specs.Command.{command_bytes}
 use Rattle.apdu_core.specs.Response.{ResponseData, response_of}
 use Rattle.ber_tlv.specs.Left.{items_of}
@@ -14,6 +15,7 @@ use Rattle.env_map.specs.declared.env.EnvFault.TheVariants as env
 use Rattle.env_map.specs.declared.gathering.GatherFault.{GatherFault}
 use Rattle.env_map.specs.declared.gathering.GatherFault.TheVariants as gather
 use Rattle.emv_top.specs.Afl.{PlaceData}
+use Rattle.emv_top.specs.Checked.{checked, first_wrong}
 use Rattle.emv_top.specs.Templates.{sole_value, place_of, place_or_zero}
 use Rattle.emv_top.specs.Told.{Told, Asks, HasRead, terminated}
 
@@ -58,12 +60,20 @@ missing_from (tag ∷ tags) entries = (if is_some (value_of tag entries) then mi
 unfoldable pub first_missing : Entries → Option ℕ
 first_missing entries = missing_from (0x5F24 ∷ 0x5A ∷ 0x8C ∷ 0x8D ∷ []) entries
 
-abbrev pub told_of_missing : Entries → Option ℕ → Told
-told_of_missing entries None = HasRead entries
-told_of_missing entries (Some tag) = terminated Read (Missing (record { 0 = tag }))
+abbrev pub missing_cause : Option ℕ → Option Cause
+missing_cause None = None
+missing_cause (Some tag) = Some (Missing (record { 0 = tag }))
 
-unfoldable pub finished : Entries → Told
-finished entries = told_of_missing entries (first_missing entries)
+-- a mandatory object that is not there, then an object that does not pass its check
+unfoldable pub reading_fault : Entries → Option Cause
+reading_fault entries = option_or (missing_cause (first_missing entries)) (first_wrong checked entries)
+
+abbrev pub told_of_fault : Entries → List (List ℕ) → Option Cause → Told
+told_of_fault entries replies None = HasRead entries replies
+told_of_fault entries replies (Some cause) = terminated Read cause
+
+unfoldable pub finished : Entries → List (List ℕ) → Told
+finished entries replies = told_of_fault entries replies (reading_fault entries)
 
 abbrev pub after_record : Result Entries Cause → (Entries → Told) → Told
 after_record (Ok entries) next = next entries
@@ -71,7 +81,7 @@ after_record (Err cause) next = terminated Read cause
 
 -- the records at these places in turn, over the objects so far
 unfoldable pub reading : Entries → List PlaceData → List (List ℕ) → Told
-reading entries [] replies = finished entries
+reading entries [] replies = finished entries replies
 reading entries (place ∷ places) [] = Asks (record_command place)
 reading entries (place ∷ places) (reply ∷ replies) =
     after_record (record_read place.sfi entries reply) (λ more. reading more places replies)

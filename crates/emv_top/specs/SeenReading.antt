@@ -25,7 +25,7 @@ left_of r = first_place r ∷ left_behind (seen_group r.current) (seen_groups r.
 -- what the terminal does with further answers to READ RECORD
 abbrev pub told_by : ReadNext → List (List ℕ) → Told
 told_by (Ask r) replies = reading r.env (left_of r) replies
-told_by (Done env) replies = HasRead env
+told_by (Done env) replies = HasRead env replies
 told_by (Ended cause) replies = terminated Read cause
 
 -- at least as many steps as records are left, a group counted as 256

@@ -69,6 +69,6 @@ listing aid turn [] = Asks (select_command (if turn == 0 then 0 else 2) aid)
 listing aid turn (reply ∷ replies) =
     after_listed aid turn (select_said reply) (listing aid (turn + 1) replies) (choosing aid replies)
 
--- the whole reading of a card, over all its answers
-abbrev pub dialogue : List ℕ → List (List ℕ) → Told
-dialogue aid replies = listing aid 0 replies
+-- from the first SELECT to the end of reading, over all answers
+abbrev pub opening : List ℕ → List (List ℕ) → Told
+opening aid replies = listing aid 0 replies

@@ -1,4 +1,4 @@
--- What a terminal does next after the answers so far.
+-- What a terminal that selects, initiates and reads an application does next after the answers so far.
 use Rattle.std.specs.Prelude.{ℕ, List}
 use Rattle.emv_dict.specs.declared.ending.Ending.{Ending}
 use Rattle.emv_dict.specs.declared.ending.Ending.TheVariants.{Terminated}
@@ -11,7 +11,8 @@ use Rattle.env_map.specs.Entries.{Entries}
 pub data Told : Type 0 where
   Asks : List ℕ → Told
   Ended : Ending → Told
-  HasRead : Entries → Told
+  -- the objects that were read, and the answers that are left
+  HasRead : Entries → List (List ℕ) → Told
 
 abbrev pub terminated : Step → Cause → Told
 terminated step cause = Ended (Terminated step cause)

@@ -1,9 +1,9 @@
 -- What the readers of one key find in the members of a TOML table.
-use Rattle.std.specs.Prelude.{ℕ, ℤ, pos, negsuc, List, ◌++◌, Bool, true, ◌&&◌, nat_le, length, Some, None, if◌then◌else◌}
+use Rattle.std.specs.Prelude.{ℕ, ℤ, pos, negsuc, List, ◌++◌, ◌-◌, map, Bool, true, ◌&&◌, nat_le, length, Some, None, if◌then◌else◌}
 use Rattle.std.specs.declared.option.Option.{Option}
 use Rattle.std.specs.Option.{option_and_then, option_map}
 use Rattle.std.specs.Result.{result_ok}
-use Rattle.std.specs.List.{list_any}
+use Rattle.std.specs.List.{list_any, list_all}
 use Rattle.std.specs.Str.{bytes_eq}
 use Rattle.hex.specs.Hex.{decode_of}
 use Rattle.toml.specs.Data.{Members, Items, get_member, as_str, as_integer, as_array, no_members, member}
@@ -36,6 +36,17 @@ hex_bytes least most text = result_ok (decode_of text) >>= (λ bytes. keep_if (n
 
 unfoldable pub bytes_at : List ℕ → ℕ → ℕ → Members → Option (List ℕ)
 bytes_at key least most ms = text_at key ms >>= hex_bytes least most
+
+-- the digits that a text of decimal digits spells, where their number is within the limits
+abbrev pub is_digit : ℕ → Bool
+is_digit c = nat_le 48 c && nat_le c 57
+
+unfoldable pub digits_in : ℕ → ℕ → List ℕ → Option (List ℕ)
+digits_in least most text =
+    keep_if (list_all is_digit text && (nat_le least (length text) && nat_le (length text) most)) (map (λ c. c - 48) text)
+
+unfoldable pub digits_at : List ℕ → ℕ → ℕ → Members → Option (List ℕ)
+digits_at key least most ms = text_at key ms >>= digits_in least most
 
 -- a printable character of ASCII
 abbrev pub is_printable : ℕ → Bool

@@ -1,216 +1,263 @@
 //! The terminal: which command it sends after the answers so far, and how it ends.
-ghost use Rattle.std.specs.Prelude.{◌≡◌, ℕ, List, ◌∷◌, ◌+◌, ◌-◌, ◌==◌, ◌<◌, ◌≤◌, [], length, true, false, if◌then◌else◌};
-ghost use Rattle.emv_top.specs.Select.{dialogue, listing, choosing, select_command, after_listed, Named};
-ghost use Rattle.emv_top.specs.Initiate.{OptionsData, initiating, options_command, options_in, after_options};
-ghost use Rattle.emv_top.specs.SeenTerminal.{start_of, rank, is_asking};
-ghost use Rattle.emv_top.specs.Reading.{reading, record_command};
-ghost use Rattle.emv_top.specs.SeenReading.{told_by, steps_in, left_of};
-ghost use Rattle.emv_top.specs.Told.{Asks, terminated};
+ghost use Rattle.std.specs.Prelude.{◌≡◌, ℕ, List, ◌∷◌, ◌+◌, ◌<◌, ◌≤◌, [], length, Some, true, false};
+ghost use Rattle.emv_top.specs.Dialogue.{Asks, dialogue, continued, paying, after_answer, first_list as list_of, generate_command as command_for, asked_marks, ending_of};
+ghost use Rattle.emv_top.specs.Told as Told;
+ghost use Rattle.emv_top.specs.Marks.{IsAnswered, parts_of};
+ghost use Rattle.emv_top.specs.OnlineStep.{ac_read};
+ghost use Rattle.emv_top.specs.SeenAc.{seen_ac};
+ghost use Rattle.emv_top.specs.SeenKernel.{dealing_of, is_asking, rank_of};
+ghost use Rattle.emv_top.specs.SeenOpening.{told_next, rank_next};
 
-use crate::app_select::{Said, is_longer, read_select};
-use crate::read_records::{first_objects, read_options};
-use crate::reading::{ReadNext, Reading, begin};
-use apdu_core::{Command, Out, read_response, write_command};
+use crate::action_analysis::wanted;
+use crate::card_cryptogram::kind_byte;
+use crate::online_step::{Ac, read_ac};
+use crate::opening::{Opening, OpeningNext};
+use crate::terminal_data::{NO_VERIFICATION, code_for, results_read, terminal_data};
+use apdu_core::{Command, Out, write_command};
 use arrayvec::ArrayVec;
-use emv_dict::{Cause, Ending, Step};
+use ber_tlv::Tag;
+use emv_dict::{Cause, Ending, Kind, Step, Tsi};
 use env_map::Env;
+use object_lists::{Dol, fill, read_dol};
+use report_text::EndParts;
 
-/// A terminal that looks for one application and reads it.
+/// A terminal that reads an application, and pays where an amount is given.
 #[derive(Drop)]
-pub enum Terminal<'a> {
-    /// SELECT of the AID was answered `turn` times so far.
-    Listing { aid: &'a ArrayVec<u8, 16>, turn: u8 },
-    /// The application is on the card; it is now selected by its name, which is the AID.
-    Choosing { aid: &'a ArrayVec<u8, 16> },
-    /// The application is selected.
-    Initiating,
-    /// Its records are read.
-    Reading(Reading),
-    /// They have been read.
-    Finished(Env),
-    /// The transaction has ended.
-    Over(Ending),
+pub enum Kernel<'a> {
+    /// The application is selected, initiated and read.
+    Opening {
+        aid: &'a ArrayVec<u8, 16>,
+        amount: Option<u64>,
+        opening: Opening<'a>,
+    },
+    /// The first cryptogram, of this kind, is asked for with this command.
+    First {
+        kind: Kind,
+        command: Out,
+    },
+    /// Reading alone was wanted, and gave these objects.
+    HasRead(Env),
+    /// Reading alone was wanted, and the transaction ended before.
+    NotRead(Ending),
+    /// The purchase has ended.
+    HasPaid(EndParts),
 }
 
-impl<'a> Terminal<'a> {
-    /// A terminal that knows one AID.
-    pub fn begin(aid: &'a ArrayVec<u8, 16>) -> Terminal<'a>
-        ensures { (replies : List (List ℕ)) → start_of result replies ≡ dialogue aid.now.items replies }
+impl<'a> Kernel<'a> {
+    /// A terminal that knows one AID. The amount to pay is in the currency's least unit.
+    #[tactic(auto, unfolding(crate::specs::Dialogue::dialogue))]
+    pub fn begin(aid: &'a ArrayVec<u8, 16>, amount: Option<u64>) -> Kernel<'a>
+        ensures { (replies : List (List ℕ)) → dealing_of result replies ≡ dialogue aid.now.items amount replies }
     {
-        Terminal::Listing { aid, turn: 0 }
+        Kernel::Opening {
+            aid,
+            amount,
+            opening: Opening::begin(aid),
+        }
     }
 
     /// Whether the terminal has a command to send.
     pub fn is_asking(&self) -> bool
         ensures { result ≡ is_asking self.now }
     {
-        match self {
-            Terminal::Finished(_) => false,
-            Terminal::Over(_) => false,
-            _ => true,
-        }
+        matches!(self, Kernel::Opening { .. } | Kernel::First { .. })
     }
-}
 
-impl<'a> Terminal<'a> {
     /// The next command.
-    #[tactic(auto, unfolding(crate::specs::Select::listing, crate::specs::Select::choosing, crate::specs::Initiate::initiating, crate::specs::Reading::reading))]
+    #[tactic(auto, unfolding(crate::specs::Dialogue::first_step))]
     pub fn ask(&self, out: &mut Out)
         requires { is_asking self.now ≡ true }
-        ensures { start_of self.now [] ≡ Asks out.new.items }
+        ensures { dealing_of self.now [] ≡ Asks out.new.items }
     {
         match self {
-            Terminal::Listing { aid, turn } => ask_select(aid.as_slice(), *turn, out),
-            Terminal::Choosing { aid } => ask_select(aid.as_slice(), 0, out),
-            Terminal::Initiating => ask_options(out),
-            Terminal::Reading(reading) => reading.ask(out),
-            Terminal::Finished(_) => unreachable!(),
-            Terminal::Over(_) => unreachable!(),
+            Kernel::Opening { opening, .. } => opening.ask(out),
+            Kernel::First { command, .. } => copy_command(command, out),
+            _ => unreachable!(),
         }
     }
 
     /// Takes the card's answer to it.
-    #[tactic(auto, unfolding(crate::specs::Initiate::initiating))]
-    pub fn take(self, reply: &[u8]) -> Terminal<'a>
+    #[tactic(auto, unfolding(crate::specs::Dialogue::first_step))]
+    pub fn take(self, reply: &[u8]) -> Kernel<'a>
         requires { is_asking self ≡ true }
-        ensures told { (later : List (List ℕ)) → start_of result later ≡ start_of self.entry (reply.now ∷ later) }
-        ensures nearer { rank result < rank self.entry }
+        ensures told { (later : List (List ℕ)) → dealing_of result later ≡ dealing_of self.entry (reply.now ∷ later) }
+        ensures nearer { rank_of result < rank_of self.entry }
     {
         match self {
-            Terminal::Listing { aid, turn } => listed(aid, turn, reply),
-            Terminal::Choosing { aid } => chosen(aid, reply),
-            Terminal::Initiating => initiated(reply),
-            Terminal::Reading(reading) => read_next(reading.take(reply)),
-            Terminal::Finished(_) => unreachable!(),
-            Terminal::Over(_) => unreachable!(),
+            Kernel::Opening {
+                aid,
+                amount,
+                opening,
+            } => opened(aid, amount, opening.take(reply)),
+            Kernel::First { kind, .. } => answered(kind, reply),
+            _ => unreachable!(),
         }
     }
 }
 
-/// SELECT of an AID or a name: its first occurrence at turn 0, else the next one.
-fn ask_select(name: &[u8], turn: u8, out: &mut Out)
-    requires { length name.now ≤ 16 }
-    ensures { out.new.items ≡ select_command (if turn == 0 then 0 else 2) name.now }
+fn copy_command(command: &Out, out: &mut Out)
+    ensures { out.new.items ≡ command.now.items }
 {
-    let command = Command {
-        class: 0x00,
-        ins: 0xa4,
-        p1: 0x04,
-        p2: if turn == 0 { 0x00 } else { 0x02 },
-        body: name,
-        expects: Some(0),
-    };
-    write_command(&command, out);
+    out.clear();
+    if out.try_extend_from_slice(command.as_slice()).is_err() {
+        unreachable!();
+    }
 }
 
-/// GET PROCESSING OPTIONS without objects.
-fn ask_options(out: &mut Out)
-    ensures { out.new.items ≡ options_command }
+/// What follows selection, initiation and reading.
+fn opened<'a>(aid: &'a ArrayVec<u8, 16>, amount: Option<u64>, next: OpeningNext<'a>) -> Kernel<'a>
+    ensures told { (later : List (List ℕ)) → dealing_of result later ≡ continued aid.now.items amount (told_next next.entry later) }
+    ensures left { rank_of result ≤ rank_next next.entry + 2 }
+{
+    match next {
+        OpeningNext::Ask(opening) => Kernel::Opening {
+            aid,
+            amount,
+            opening,
+        },
+        OpeningNext::Done(env) => has_read(aid, amount, env),
+        OpeningNext::Ended(ending) => not_read(amount, ending),
+    }
+}
+
+fn has_read<'a>(aid: &'a ArrayVec<u8, 16>, amount: Option<u64>, env: Env) -> Kernel<'a>
+    ensures told { (later : List (List ℕ)) → dealing_of result later ≡ continued aid.now.items amount (Told.HasRead env later) }
+    ensures left { rank_of result ≤ 1 }
+{
+    match amount {
+        None => Kernel::HasRead(env),
+        Some(amount) => begin_first(aid.as_slice(), amount, &env),
+    }
+}
+
+#[tactic(auto, unfolding(crate::specs::Marks::parts_of))]
+fn not_read<'a>(amount: Option<u64>, ending: Ending) -> Kernel<'a>
+    ensures told { (aid : List ℕ) (later : List (List ℕ)) → dealing_of result later ≡ continued aid amount (Told.Ended ending) }
+    ensures left { rank_of result ≡ 0 }
+{
+    match amount {
+        None => Kernel::NotRead(ending),
+        Some(_) => Kernel::HasPaid(EndParts {
+            ending,
+            ..EndParts::default()
+        }),
+    }
+}
+
+/// The terminal decides, and asks for the first cryptogram (EMV 4.3 Book 3 sections 10.7 and 10.8).
+#[tactic(auto, unfolding(crate::specs::Dialogue::paying, crate::specs::Dialogue::first_with, crate::specs::Marks::tvr_bytes))]
+fn begin_first<'a>(aid: &[u8], amount: u64, card: &Env) -> Kernel<'a>
+    requires { length aid.now ≤ 16 }
+    ensures told { (later : List (List ℕ)) → dealing_of result later ≡ paying aid.now amount card.now later }
+    ensures left { rank_of result ≤ 1 }
+{
+    let kind = wanted(results_read().bytes(), card);
+    let dol = first_list(card);
+    let terminal = terminal_data(aid, amount, kind);
+    let mut filled = ArrayVec::new();
+    match fill(&dol, card, &terminal, &mut filled) {
+        Ok(()) => Kernel::First {
+            kind,
+            command: generate_command(kind, filled.as_slice()),
+        },
+        Err(_) => Kernel::HasPaid(asked_parts(
+            kind,
+            Ending::Terminated(Step::First, Cause::Dol(Tag(0x8c))),
+        )),
+    }
+}
+
+/// The card's object list for the first GENERATE AC, which reading has checked.
+#[tactic(auto, unfolding(crate::specs::Dialogue::first_list))]
+fn first_list(card: &Env) -> Dol
+    ensures { result ≡ list_of card.now }
+{
+    match card.get(Tag(0x8c)) {
+        Some(value) if value.len() <= 255 => match read_dol(value) {
+            Ok(dol) => dol,
+            Err(_) => no_entries(),
+        },
+        _ => no_entries(),
+    }
+}
+
+#[tactic(auto, unfolding(object_lists::specs::DolEntries::entries_behind, object_lists::specs::DolEntries::entries_from))]
+fn no_entries() -> Dol
+    ensures { result ≡ [] }
+{
+    match read_dol(&[]) {
+        Ok(dol) => dol,
+        Err(_) => unreachable!(),
+    }
+}
+
+/// GENERATE AC for a kind of cryptogram, over this data.
+fn generate_command(kind: Kind, filled: &[u8]) -> Out
+    requires { length filled.now ≤ 252 }
+    ensures { result.items ≡ command_for kind filled.now }
 {
     let command = Command {
         class: 0x80,
-        ins: 0xa8,
-        p1: 0x00,
+        ins: 0xae,
+        p1: kind_byte(kind),
         p2: 0x00,
-        body: &[0x83, 0x00],
+        body: filled,
         expects: Some(0),
     };
-    write_command(&command, out);
+    let mut out = Out::new();
+    write_command(&command, &mut out);
+    out
 }
 
-fn terminated<'a>(step: Step, cause: Cause) -> Terminal<'a>
-    ensures told { (replies : List (List ℕ)) → start_of result replies ≡ terminated step cause }
-    ensures over { rank result ≡ 0 }
+/// After the answer to the first GENERATE AC.
+fn answered<'a>(kind: Kind, reply: &[u8]) -> Kernel<'a>
+    ensures told { (later : List (List ℕ)) → dealing_of result later ≡ after_answer (asked_marks kind) (ac_read kind reply.now) }
+    ensures over { rank_of result ≡ 0 }
 {
-    Terminal::Over(Ending::Terminated(step, cause))
-}
-
-/// After an answer to a SELECT of the list.
-#[tactic(auto, unfolding(crate::specs::Select::listing))]
-fn listed<'a>(aid: &'a ArrayVec<u8, 16>, turn: u8, reply: &[u8]) -> Terminal<'a>
-    ensures told { (later : List (List ℕ)) → start_of result later ≡ listing aid.now.items turn (reply.now ∷ later) }
-    ensures nearer { rank result < 16131 + (16 - turn) }
-{
-    match read_select(reply) {
-        Said::Unreadable => terminated(Step::Select, Cause::Answer),
-        Said::Blocked => terminated(Step::Select, Cause::CardBlocked),
-        Said::Nothing => terminated(Step::Select, Cause::NoCandidate),
-        Said::Named { valid, name } => found(aid, turn, valid, name),
+    match read_ac(reply, kind) {
+        Ok(ac) => Kernel::HasPaid(answered_parts(kind, &ac)),
+        Err(cause) => Kernel::HasPaid(asked_parts(kind, Ending::Terminated(Step::First, cause))),
     }
 }
 
-/// After a readable FCI in the list.
-fn found<'a>(aid: &'a ArrayVec<u8, 16>, turn: u8, valid: bool, name: &[u8]) -> Terminal<'a>
-    ensures told { (later : List (List ℕ)) → start_of result later
-        ≡ after_listed aid.now.items turn (Named valid name.now) (listing aid.now.items (turn + 1) later) (choosing aid.now.items later) }
-    ensures nearer { rank result < 16131 + (16 - turn) }
+/// The end of a purchase whose first cryptogram was asked for and not read.
+#[tactic(auto, unfolding(crate::specs::Marks::parts_of))]
+fn asked_parts(kind: Kind, ending: Ending) -> EndParts
+    ensures { result ≡ parts_of (asked_marks kind) ending }
 {
-    if name == aid.as_slice() {
-        if valid {
-            return Terminal::Choosing { aid };
-        }
-        return terminated(Step::Select, Cause::NoCandidate);
-    }
-    if is_longer(aid.as_slice(), name) && turn < 15 {
-        return Terminal::Listing {
-            aid,
-            turn: turn + 1,
-        };
-    }
-    terminated(Step::Select, Cause::NoCandidate)
-}
-
-/// After the answer to the final SELECT.
-#[tactic(auto, unfolding(crate::specs::Select::choosing))]
-fn chosen<'a>(aid: &'a ArrayVec<u8, 16>, reply: &[u8]) -> Terminal<'a>
-    ensures told { (later : List (List ℕ)) → start_of result later ≡ choosing aid.now.items (reply.now ∷ later) }
-    ensures nearer { rank result < 16130 }
-{
-    match read_select(reply) {
-        Said::Unreadable => terminated(Step::Select, Cause::Answer),
-        Said::Named { valid: true, .. } => Terminal::Initiating,
-        _ => terminated(Step::Select, Cause::NoCandidate),
+    EndParts {
+        ending,
+        tvr: results_read(),
+        tsi: Tsi::default(),
+        cvm: NO_VERIFICATION,
+        arc: code_for(kind),
+        atc_ac: None,
+        scripts: ArrayVec::new(),
     }
 }
 
-/// After the answer to GET PROCESSING OPTIONS.
-#[tactic(auto, unfolding(crate::specs::Initiate::initiating))]
-fn initiated<'a>(reply: &[u8]) -> Terminal<'a>
-    ensures told { (later : List (List ℕ)) → start_of result later ≡ initiating (reply.now ∷ later) }
-    ensures nearer { rank result < 16129 }
+/// The end of a purchase whose first cryptogram decided.
+#[tactic(auto, unfolding(crate::specs::Marks::parts_of))]
+fn answered_parts(kind: Kind, ac: &Ac) -> EndParts
+    ensures { result ≡ parts_of (IsAnswered (seen_ac ac.now) ∷ asked_marks kind) (ending_of ac.now.kind) }
 {
-    let Ok(response) = read_response(reply) else {
-        return terminated(Step::Initiate, Cause::Answer);
-    };
-    match response.status {
-        0x6985 => terminated(Step::Select, Cause::NoCandidate),
-        0x9000 => begin_reading(response.body),
-        status => terminated(Step::Initiate, Cause::Status(status)),
+    EndParts {
+        ending: ending_of(ac.kind),
+        tvr: results_read(),
+        tsi: Tsi::CARD_RISK_MANAGEMENT,
+        cvm: NO_VERIFICATION,
+        arc: code_for(kind),
+        atc_ac: Some((ac.counter, ac.cryptogram)),
+        scripts: ArrayVec::new(),
     }
 }
 
-fn begin_reading<'a>(body: &[u8]) -> Terminal<'a>
-    requires { length body.now ≤ 256 }
-    ensures told { (later : List (List ℕ)) → start_of result later ≡ after_options (options_in body.now) later }
-    ensures nearer { rank result < 16129 }
+/// How a purchase ends by the kind of cryptogram that was read.
+fn ending_of(kind: Kind) -> Ending
+    ensures { result ≡ ending_of kind }
 {
-    match read_options(body) {
-        Err(cause) => terminated(Step::Initiate, cause),
-        Ok(options) => {
-            let env = first_objects(&options);
-            read_next(begin(env, options.groups))
-        }
-    }
-}
-
-/// What reading does next.
-fn read_next<'a>(next: ReadNext) -> Terminal<'a>
-    ensures told { (replies : List (List ℕ)) → start_of result replies ≡ told_by next replies }
-    ensures left { rank result ≡ steps_in next }
-{
-    match next {
-        ReadNext::Ask(reading) => Terminal::Reading(reading),
-        ReadNext::Done(env) => Terminal::Finished(env),
-        ReadNext::Ended(cause) => terminated(Step::Read, cause),
+    match kind {
+        Kind::Tc => Ending::Approved { online: false },
+        _ => Ending::Declined { online: false },
     }
 }

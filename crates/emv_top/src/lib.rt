@@ -2,15 +2,25 @@
 //! status comes out. The contract of `run` is what the project promises.
 #![tactic(auto)]
 
+mod action_analysis;
 mod app_select;
-mod card;
+mod card_app;
+mod card_cryptogram;
+mod card_policy;
+mod checked;
 mod input;
 mod kernel;
+mod lines;
+mod online_step;
+mod opening;
+mod payment;
+mod phase;
 mod read_records;
-mod read_run;
 mod reading;
+mod session;
 mod short_form;
 mod templates;
+mod terminal_data;
 mod top;
 mod words;
 

@@ -3,10 +3,11 @@ ghost use Rattle.std.specs.Prelude.{◌≡◌, ℕ, List, ◌∷◌, ◌*◌, �
 ghost use Rattle.env_map.specs.Entries.{Entries};
 ghost use Rattle.apdu_core.specs.Command.{command_bytes};
 ghost use Rattle.emv_top.specs.Afl.{PlaceData, places_of, places_in};
-ghost use Rattle.emv_top.specs.Reading.{reading, finished, record_command};
+ghost use Rattle.emv_top.specs.Reading.{reading, reading_fault, record_command};
 ghost use Rattle.emv_top.specs.SeenGroups.{seen_group, seen_groups};
 ghost use Rattle.emv_top.specs.SeenReading.{left_of, left_behind, told_by, first_place, steps_behind, steps_of, steps_in};
 
+use crate::checked::first_wrong;
 use crate::read_records::{Group, Groups, first_missing, read_record};
 use apdu_core::{Command, Out, write_command};
 use emv_dict::Cause;
@@ -103,14 +104,24 @@ pub fn begin(env: Env, groups: Groups) -> ReadNext
     })
 }
 
-/// Ends reading: the mandatory objects must be there.
+/// Ends reading: the mandatory objects must be there, and the checked ones have their forms.
 #[tactic(auto, unfolding(crate::specs::Reading::finished, crate::specs::Reading::reading))]
 fn finish(env: Env) -> ReadNext
     ensures told { (replies : List (List ℕ)) → told_by result replies ≡ reading env [] replies }
     ensures left { steps_in result ≡ 0 }
 {
-    match first_missing(&env) {
+    match reading_fault(&env) {
         None => ReadNext::Done(env),
-        Some(tag) => ReadNext::Ended(Cause::Missing(tag)),
+        Some(cause) => ReadNext::Ended(cause),
+    }
+}
+
+#[tactic(auto, unfolding(crate::specs::Reading::reading_fault))]
+fn reading_fault(env: &Env) -> Option<Cause>
+    ensures { result ≡ reading_fault env.now }
+{
+    match first_missing(env) {
+        Some(tag) => Some(Cause::Missing(tag)),
+        None => first_wrong(env),
     }
 }

@@ -14,6 +14,7 @@ ghost use Rattle.emv_top.specs.SeenForm.{seen_form};
 pub mod values;
 
 use crate::app_select::is_longer;
+use crate::payment::{Payment, payment_at};
 use arrayvec::ArrayVec;
 use std::alloc::{AllocError, Global};
 use toml::value::Array;
@@ -46,6 +47,8 @@ pub struct ShortForm {
     pub afl: ArrayVec<u8, 248>,
     /// At most 64 records, no two of one number in one file.
     pub records: Vec<RecordImage>,
+    /// A purchase, and what the card's cryptogram is made with.
+    pub pay: Option<Payment>,
 }
 
 #[tactic(auto, unfolding(crate::specs::Form::record_keys))]
@@ -198,6 +201,7 @@ fn is_form_key(key: &str) -> bool
         || key == "aip"
         || key == "afl"
         || key == "record"
+        || key == "pay"
 }
 
 fn all_form_keys(table: &Table) -> bool
@@ -235,6 +239,9 @@ pub fn read_form(alloc: Global, table: &Table) -> Result<Option<ShortForm>, Allo
     let Some(records) = records_at(alloc, table, "record")? else {
         return Ok(None);
     };
+    let Some(pay) = payment_at(table, "pay") else {
+        return Ok(None);
+    };
     if !only_form_keys(table) || is_longer(aid.as_slice(), name.as_slice()) {
         return Ok(None);
     }
@@ -245,5 +252,6 @@ pub fn read_form(alloc: Global, table: &Table) -> Result<Option<ShortForm>, Allo
         aip,
         afl,
         records,
+        pay,
     }))
 }

@@ -8,10 +8,12 @@ ghost use Rattle.emv_top.specs.Words.{order_of, order_named};
 pub enum Order {
     /// Read a card and print what it gives.
     Read,
+    /// Make a purchase with a card, and print each exchange and its end.
+    Replay,
 }
 
 /// The order that the words behind the program's name give, where they are in the grammar: the
-/// first word `--`, if any, is taken out, and `read` is left.
+/// first word `--`, if any, is taken out, and `read` or `replay` is left.
 #[tactic(auto, unfolding(crate::specs::Words::order_of))]
 pub fn read_words(words: &[String]) -> Option<Order>
     ensures { result ≡ order_of (map string_bytes words.now) }
@@ -47,9 +49,9 @@ fn is_dashes(word: &String) -> bool
 fn order_named(word: &String) -> Option<Order>
     ensures { result ≡ order_named (string_bytes word.now ∷ []) }
 {
-    if word.as_str() == "read" {
-        Some(Order::Read)
-    } else {
-        None
+    match word.as_str() {
+        "read" => Some(Order::Read),
+        "replay" => Some(Order::Replay),
+        _ => None,
     }
 }

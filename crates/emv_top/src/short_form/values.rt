@@ -1,13 +1,14 @@
 //! Readers of one key of a TOML table, by its type and its limits.
-ghost use Rattle.std.specs.Prelude.{◌≡◌, ℕ, ◌≤◌, IfSome, option_copied, IsTrue, map};
+ghost use Rattle.std.specs.Prelude.{◌≡◌, ℕ, ◌≤◌, ◌-◌, IfSome, option_copied, IsTrue, map, length};
 ghost use Rattle.std.specs.Option.{option_map};
 ghost use Rattle.std.specs.List.{list_all};
 ghost use Rattle.arrayvec.specs.ArrayVec.{array_vec_len};
 ghost use Rattle.toml.specs.Data.{get_member, as_str};
 ghost use Rattle.toml.specs.View.{view, table_view, array_view};
-ghost use Rattle.emv_top.specs.Values.{text_at, hex_bytes, bytes_at, number_at, array_at, is_printable};
+ghost use Rattle.emv_top.specs.Values.{text_at, hex_bytes, bytes_at, number_at, array_at, is_digit, digits_in, digits_at};
 
 use arrayvec::ArrayVec;
+use emv_dict::Digits;
 use toml::value::Array;
 use toml::{Table, Value};
 
@@ -78,4 +79,45 @@ pub fn bytes_at<const N: usize>(table: &Table, key: &str, least: usize) -> Optio
     ensures enough { IfSome result (λ v. least ≤ array_vec_len v) }
 {
     hex_bytes(text_at(table, key)?, least)
+}
+
+/// The decimal digits that a text spells, from `least` to `most` of them.
+#[tactic(auto, unfolding(crate::specs::Values::digits_in))]
+fn digits_in(text: &str, least: usize, most: usize) -> Option<Digits>
+    requires { most ≤ 19 }
+    ensures { result ≡ digits_in least most text.now }
+{
+    let text = text.as_bytes();
+    if !are_digits(text) || text.len() < least || text.len() > most {
+        return None;
+    }
+    Some(digits_of(text))
+}
+
+/// The digits of a text of digits.
+fn digits_of(text: &[u8]) -> Digits
+    requires few { length text.now ≤ 19 }
+    requires digits { IsTrue (list_all is_digit text.now) }
+    ensures { result ≡ map (λ c. c - 48) text.now }
+{
+    let mut digits = Digits::empty();
+    for character in text {
+        digits.push(*character - 48);
+    }
+    digits
+}
+
+fn are_digits(text: &[u8]) -> bool
+    ensures { result ≡ list_all is_digit text.now }
+{
+    text.iter().all(|c| 48 <= *c && *c <= 57)
+}
+
+/// The decimal digits at a key, from `least` to `most` of them.
+#[tactic(auto, unfolding(crate::specs::Values::digits_at))]
+pub fn digits_at(table: &Table, key: &str, least: usize, most: usize) -> Option<Digits>
+    requires { most ≤ 19 }
+    ensures { result ≡ digits_at key.now least most (table_view table.now) }
+{
+    digits_in(text_at(table, key)?, least, most)
 }
