@@ -2,6 +2,7 @@
 use Rattle.std.specs.Prelude.{ℕ, ◌+◌, ◌-◌, ◌*◌, ◌==◌, Bool, true, false, not, nat_le, ◌&&◌, if◌then◌else◌, List, [], ◌∷◌, length, Option, Some, None}
 use Rattle.std.specs.List.{fold}
 use Rattle.std.specs.Option.{option_map, option_and_then}
+use Rattle.emv_dict.specs.Digits.{is_pin_length}
 
 -- a character `0` to `9`
 abbrev pub is_digit : ℕ → Bool
@@ -16,9 +17,9 @@ abbrev pub digits_of : List ℕ → Option (List ℕ)
 digits_of [] = Some []
 digits_of (c ∷ cs) = (if is_digit c then digit_before (c - 48) (digits_of cs) else None)
 
--- the digits of a PIN: 4 to 12 (ISO 9564-1)
+-- the digits of a PIN, as many as one has
 unfoldable pub pin_of : List ℕ → Option (List ℕ)
-pin_of text = (if nat_le 4 (length text) && nat_le (length text) 12 then digits_of text else None)
+pin_of text = (if is_pin_length (length text) then digits_of text else None)
 
 -- the number that decimal digits write behind those that wrote `number`
 abbrev pub number_behind : ℕ → List ℕ → ℕ

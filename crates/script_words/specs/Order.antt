@@ -3,6 +3,7 @@
 use Rattle.std.specs.Prelude.{ℕ, ◌-◌, Bool, true, false, if◌then◌else◌, List, length, take, drop, codes, Option, Some, None}
 use Rattle.std.specs.Option.{option_map}
 use Rattle.std.specs.Str.{bytes_eq}
+use Rattle.emv_dict.specs.Settings.{most_amount}
 use Rattle.script_words.specs.Numeral.{pin_of, numeral_of}
 use Rattle.issuer_host.specs.declared.script.Word.{Word}
 use Rattle.issuer_host.specs.declared.script.Word.TheVariants.{Block, Unblock, CardBlock, PinUnblock, Pin, Count, Amount}
@@ -29,7 +30,7 @@ abbrev pub count_word : List ℕ → Option Word
 count_word text = option_map Count (numeral_of 255 text)
 
 abbrev pub amount_word : List ℕ → Option Word
-amount_word text = option_map Amount (numeral_of 999999999999 text)
+amount_word text = option_map Amount (numeral_of most_amount text)
 
 -- a word with its argument, one space between them
 unfoldable pub with_argument : List ℕ → Option Word
