@@ -8,7 +8,7 @@ ghost use Rattle.ber_tlv.specs.Written.{tag_bytes};
 ghost use Rattle.report_text.specs.Pieces.{hex_or_dash, digits_text, two_bytes};
 
 use crate::Text;
-use ber_tlv::Tag;
+use ber_tlv::{Tag, tag_bytes};
 use emv_dict::Digits;
 use itoa::Buffer;
 
