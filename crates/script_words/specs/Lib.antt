@@ -1,2 +1,3 @@
 pub mod Numeral
 pub mod Order
+pub mod Spelling

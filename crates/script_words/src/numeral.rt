@@ -1,6 +1,6 @@
 //! Decimal digits as characters.
 ghost use Rattle.std.specs.Prelude.{◌≡◌, ◌≤◌, IfSome};
-ghost use Rattle.script_words.specs.Numeral.{is_digit as is_digit_spec, is_shortest as is_shortest_spec, pin_of, number_of, numeral_of};
+ghost use Rattle.script_words.specs.Numeral.{is_shortest as is_shortest_spec, pin_of, number_of, numeral_of};
 
 use emv_dict::Digits;
 
@@ -15,7 +15,7 @@ pub fn read_pin(text: &[u8]) -> Option<Digits>
     }
     let mut digits = Digits::empty();
     for c in text {
-        if !is_digit(*c) {
+        if !c.is_ascii_digit() {
             return None;
         }
         digits.push(*c - b'0');
@@ -58,7 +58,7 @@ fn read_number(text: &[u8], most: u64) -> Option<u64>
 {
     let mut number = 0;
     for c in text {
-        if !is_digit(*c) {
+        if !c.is_ascii_digit() {
             return None;
         }
         number = number * 10 + u64::from(*c - b'0');
@@ -67,10 +67,4 @@ fn read_number(text: &[u8], most: u64) -> Option<u64>
         }
     }
     Some(number)
-}
-
-fn is_digit(c: u8) -> bool
-    ensures { result ≡ is_digit_spec c }
-{
-    48 <= c && c <= 57
 }

@@ -1,8 +1,10 @@
 //! The grammar of the words that order a script command.
-ghost use Rattle.std.specs.Prelude.{◌≡◌, option_copied, codes};
+ghost use Rattle.std.specs.Prelude.{◌≡◌, codes, Some, IfSome};
 ghost use Rattle.std.specs.Option.{option_map};
 ghost use Rattle.std.specs.Str.{bytes_eq};
 ghost use Rattle.script_words.specs.Order.{behind as behind_spec, before as before_spec, pin_word as pin_spec, count_word as count_spec, amount_word as amount_spec, with_argument, word_of, order_of};
+ghost use Rattle.script_words.specs.Spelling.{IsWord, order_text};
+ghost use Rattle.issuer_host.specs.declared.script.Ordered.{Ordered as Order};
 
 use crate::numeral::{read_numeral, read_pin};
 use issuer_host::{Ordered, Word};
@@ -11,8 +13,18 @@ use issuer_host::{Ordered, Word};
 /// `pin D` with 4 to 12 decimal digits, `count N` with a number up to 255, or `amount N` with a
 /// number up to 999999999999, numbers in decimal without leading zeros, each alone or with ` bad`
 /// behind it, and one space between words. `None` for any other text.
-#[tactic(auto, unfolding(crate::specs::Order::order_of))]
 pub fn read_order(text: &[u8]) -> Option<Ordered>
+    ensures exact { result ≡ order_of text.now }
+    // What was read stands in the text, and what stands in a text is read.
+    ensures spelled { IfSome result (λ order. order_text order ≡ text.now) }
+    ensures known { (order : Order) → IsWord order.word → order_text order ≡ text.now → result ≡ Some order }
+    ensures proper { IfSome result (λ order. IsWord order.word) }
+{
+    ordered(text)
+}
+
+#[tactic(auto, unfolding(crate::specs::Order::order_of))]
+fn ordered(text: &[u8]) -> Option<Ordered>
     ensures { result ≡ order_of text.now }
 {
     match before(text, " bad") {
