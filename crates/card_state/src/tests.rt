@@ -13,25 +13,26 @@ const PIN_99999: [u8; 8] = [0x25, 0x99, 0x99, 0x9F, 0xFF, 0xFF, 0xFF, 0xFF];
 /// A card of two like applications.
 fn opening() -> CardState {
     let mut apps = ArrayVec::new();
-    apps.push(opening_app());
-    apps.push(opening_app());
+    apps.push(OPENED);
+    apps.push(OPENED);
     CardState {
         blocked: false,
         apps,
     }
 }
 
-fn opening_app() -> AppState {
-    AppState {
-        counter: 10,
-        last_online: 9,
-        count_limit: 5,
-        sum_limit: 20000,
-        tries: 3,
-        pin: PIN_1234,
-        ..AppState::default()
-    }
-}
+const OPENED: AppState = AppState {
+    counter: 10,
+    last_online: 9,
+    count: 0,
+    sum: 0,
+    count_limit: 5,
+    sum_limit: 20000,
+    tries: 3,
+    blocked: false,
+    auth_failed: false,
+    pin: PIN_1234,
+};
 
 /// Whether the state allows the decision.
 fn is_allowed(app: &AppState, decision: &Decision) -> bool
@@ -86,131 +87,158 @@ const FINISHED: Decision = Decision::Second {
     amount: 500,
 };
 
-/// A first TC of this amount.
-fn approved(amount: u64) -> Decision {
-    Decision::First {
-        kind: Kind::Tc,
-        amount,
-        currency: [0x08, 0x40],
-    }
-}
+const APPROVED_100: Decision = Decision::First {
+    kind: Kind::Tc,
+    amount: 100,
+    currency: [0x08, 0x40],
+};
+
+const APPROVED_700: Decision = Decision::First {
+    kind: Kind::Tc,
+    amount: 700,
+    currency: [0x08, 0x40],
+};
+
+const APPROVED_1000: Decision = Decision::First {
+    kind: Kind::Tc,
+    amount: 1000,
+    currency: [0x08, 0x40],
+};
+
+const APPROVED_2500: Decision = Decision::First {
+    kind: Kind::Tc,
+    amount: 2500,
+    currency: [0x08, 0x40],
+};
+
+const OFFLINE: Decision = Decision::Second {
+    kind: Kind::Tc,
+    how: How::Offline,
+    amount: 300,
+};
+
+const DECLINED: Decision = Decision::Second {
+    kind: Kind::Aac,
+    how: How::Offline,
+    amount: 300,
+};
+
+const ALONE: Decision = Decision::Second {
+    kind: Kind::Tc,
+    how: How::Alone,
+    amount: 300,
+};
+
+const RIGHT_PIN: Decision = Decision::PinRight { limit: 3 };
+
+const CHANGE: Decision = Decision::Script(Scripted::PinChange {
+    pin: PIN_99999,
+    limit: 5,
+});
+
+const RIGHT: Decision = Decision::Authenticated { right: true };
+
+const WRONG: Decision = Decision::Authenticated { right: false };
+
+/// Decisions of one application, and its state behind them, worked out by hand.
+const HISTORIES: [(&[Decision], AppState); 9] = [
+    (&[], OPENED),
+    (
+        &[STARTED, TRY, RIGHT_PIN, APPROVED_2500],
+        AppState {
+            counter: 11,
+            count: 1,
+            sum: 2500,
+            ..OPENED
+        },
+    ),
+    (
+        &[
+            STARTED,
+            APPROVED_1000,
+            STARTED,
+            ONLINE,
+            RIGHT,
+            FINISHED,
+            STARTED,
+            APPROVED_700,
+        ],
+        AppState {
+            counter: 13,
+            last_online: 12,
+            count: 1,
+            sum: 700,
+            ..OPENED
+        },
+    ),
+    (
+        &[STARTED, ONLINE, OFFLINE],
+        AppState {
+            counter: 11,
+            count: 1,
+            sum: 300,
+            ..OPENED
+        },
+    ),
+    (
+        &[STARTED, ONLINE, DECLINED, STARTED, ONLINE, ALONE],
+        AppState {
+            counter: 12,
+            ..OPENED
+        },
+    ),
+    (
+        &[STARTED, TRY, TRY, CHANGE, TRY],
+        AppState {
+            counter: 11,
+            tries: 4,
+            pin: PIN_99999,
+            ..OPENED
+        },
+    ),
+    (
+        &[
+            TRY,
+            TRY,
+            Decision::Script(Scripted::PinUnblock { limit: 2 }),
+        ],
+        AppState { tries: 2, ..OPENED },
+    ),
+    (
+        &[
+            STARTED,
+            ONLINE,
+            WRONG,
+            Decision::Script(Scripted::Count(9)),
+            Decision::Script(Scripted::Sum(77)),
+        ],
+        AppState {
+            counter: 11,
+            auth_failed: true,
+            count_limit: 9,
+            sum_limit: 77,
+            ..OPENED
+        },
+    ),
+    (
+        &[
+            WRONG,
+            RIGHT,
+            Decision::Script(Scripted::Block),
+            Decision::Script(Scripted::Unblock),
+        ],
+        OPENED,
+    ),
+];
 
 #[test]
 fn totals_are_those_worked_out_by_hand(rt: HostRuntime) {
-    let app = opening_app();
-    let offline = Decision::Second {
-        kind: Kind::Tc,
-        how: How::Offline,
-        amount: 300,
-    };
-    let declined = Decision::Second {
-        kind: Kind::Aac,
-        how: How::Offline,
-        amount: 300,
-    };
-    let alone = Decision::Second {
-        kind: Kind::Tc,
-        how: How::Alone,
-        amount: 300,
-    };
-    let right = Decision::PinRight { limit: 3 };
-    let change = Decision::Script(Scripted::PinChange {
-        pin: PIN_99999,
-        limit: 5,
-    });
-    let wrong = Decision::Authenticated { right: false };
-    let cases: [(&[Decision], AppState); 9] = [
-        (&[], app),
-        (
-            &[STARTED, TRY, right, approved(2500)],
-            AppState {
-                counter: 11,
-                count: 1,
-                sum: 2500,
-                ..app
-            },
-        ),
-        (
-            &[
-                STARTED,
-                approved(1000),
-                STARTED,
-                ONLINE,
-                Decision::Authenticated { right: true },
-                FINISHED,
-                STARTED,
-                approved(700),
-            ],
-            AppState {
-                counter: 13,
-                last_online: 12,
-                count: 1,
-                sum: 700,
-                ..app
-            },
-        ),
-        (
-            &[STARTED, ONLINE, offline],
-            AppState {
-                counter: 11,
-                count: 1,
-                sum: 300,
-                ..app
-            },
-        ),
-        (
-            &[STARTED, ONLINE, declined, STARTED, ONLINE, alone],
-            AppState { counter: 12, ..app },
-        ),
-        (
-            &[STARTED, TRY, TRY, change, TRY],
-            AppState {
-                counter: 11,
-                tries: 4,
-                pin: PIN_99999,
-                ..app
-            },
-        ),
-        (
-            &[
-                TRY,
-                TRY,
-                Decision::Script(Scripted::PinUnblock { limit: 2 }),
-            ],
-            AppState { tries: 2, ..app },
-        ),
-        (
-            &[
-                STARTED,
-                ONLINE,
-                wrong,
-                Decision::Script(Scripted::Count(9)),
-                Decision::Script(Scripted::Sum(77)),
-            ],
-            AppState {
-                counter: 11,
-                auth_failed: true,
-                count_limit: 9,
-                sum_limit: 77,
-                ..app
-            },
-        ),
-        (
-            &[
-                wrong,
-                Decision::Authenticated { right: true },
-                Decision::Script(Scripted::Block),
-                Decision::Script(Scripted::Unblock),
-            ],
-            app,
-        ),
-    ];
-    for (decisions, want) in cases {
+    for (decisions, want) in HISTORIES {
         let mut state = opening();
         for decision in decisions {
             take(&rt, &mut state, 0, decision);
         }
-        assert_eq!(rt; state.apps.as_slice(), [want, app].as_slice());
+        assert_eq!(rt; state.apps.as_slice(), [want, OPENED].as_slice());
         assert!(rt; !state.blocked);
     }
 }
@@ -223,7 +251,7 @@ fn applications_count_their_own_decisions(rt: HostRuntime) {
         (0, STARTED),
         (1, STARTED),
         (1, TRY),
-        (0, approved(100)),
+        (0, APPROVED_100),
         (1, STARTED),
         (0, block),
     ] {
@@ -237,12 +265,12 @@ fn applications_count_their_own_decisions(rt: HostRuntime) {
         count: 1,
         sum: 100,
         blocked: true,
-        ..opening_app()
+        ..OPENED
     };
     let second = AppState {
         counter: 12,
         tries: 2,
-        ..opening_app()
+        ..OPENED
     };
     assert_eq!(rt; state.apps.as_slice(), [first, second].as_slice());
 }
@@ -250,7 +278,7 @@ fn applications_count_their_own_decisions(rt: HostRuntime) {
 #[test]
 fn encodings_are_read_back_and_nothing_else_is(rt: HostRuntime) {
     let mut apps = ArrayVec::new();
-    apps.push(opening_app());
+    apps.push(OPENED);
     let state = CardState {
         blocked: false,
         apps,

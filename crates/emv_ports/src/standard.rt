@@ -14,8 +14,8 @@ pub struct StdinSource<R: Read + Drop> {
 impl<R: Read + Drop> StdinSource<R> {
     /// A source at the reader's place, without faults yet.
     pub fn new(reader: R) -> Self
-        ensures reader { result.reader ≡ reader }
-        ensures faults { result.faults ≡ 0 }
+        ensures left { ⟦<StdinSource<R> as Source>⟧.left result ≡ R.remaining reader }
+        ensures faults { ⟦<StdinSource<R> as Source>⟧.faults result ≡ 0 }
     {
         StdinSource { reader, faults: 0 }
     }
@@ -47,8 +47,8 @@ pub struct StdoutSink<W: Write + Drop> {
 impl<W: Write + Drop> StdoutSink<W> {
     /// A sink behind what the writer holds, without faults yet.
     pub fn new(writer: W) -> Self
-        ensures writer { result.writer ≡ writer }
-        ensures faults { result.faults ≡ 0 }
+        ensures held { ⟦<StdoutSink<W> as Sink>⟧.held result ≡ W.contents writer }
+        ensures faults { ⟦<StdoutSink<W> as Sink>⟧.faults result ≡ 0 }
     {
         StdoutSink { writer, faults: 0 }
     }

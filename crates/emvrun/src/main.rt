@@ -8,14 +8,21 @@ use std::{env, io};
 
 /// Answers the words of the command line: standard input is the document, standard output gets each
 /// line, and the exit status is that of the top call. Words that are no text are answered as words
-/// that are not in the grammar.
+/// that are not in the grammar; where there is no memory for the words, the status is 5.
 fn main(rt: HostRuntime) -> ExitCode {
     let mut source = StdinSource::new(rt.reader());
     let mut sink = StdoutSink::new(io::writer(&rt));
     let mut words = Vec::new(rt.alloc());
-    if let Ok(given) = env::args(&rt) {
-        for word in given.skip(1) {
-            if words.push(word).is_err() {
+    match env::args(&rt) {
+        Ok(given) => {
+            for word in given.skip(1) {
+                if words.push(word).is_err() {
+                    return ExitCode::from(5);
+                }
+            }
+        }
+        Err(error) => {
+            if error.kind() == io::ErrorKind::OutOfMemory {
                 return ExitCode::from(5);
             }
         }

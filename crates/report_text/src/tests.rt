@@ -41,232 +41,233 @@ fn greatest() -> Shown {
     }
 }
 
+fn power(lane: u8, card: &[u8], apps: &[Shown]) -> Line {
+    Line::Power {
+        lane,
+        card: some(card),
+        apps: some(apps),
+    }
+}
+
 #[test]
-fn lines_of_a_lane(rt: HostRuntime) {
+fn power_lines(rt: HostRuntime) {
+    let torn = Line::PowerTorn {
+        lane: 0,
+        card: some(b"c1"),
+    };
+    let four = [opened(), greatest(), opened(), greatest()];
+    for (line, want) in [
+        (power(0, b"c1", &[opened()]), "L0 power c1 10,9,0,0,3,0\n"),
+        (power(15, b"abcdefghijklmnop", &four), FOUR_APPLICATIONS),
+        (torn, "L0 power c1 torn\n"),
+    ] {
+        assert!(rt; same_text(&line, want), "{want}");
+    }
+}
+
+const FOUR_APPLICATIONS: &str =
+    "L15 power abcdefghijklmnop 10,9,0,0,3,0 65535,65535,255,18446744073709551615,255,255 10,9,0,0,3,0 65535,65535,255,18446744073709551615,255,255\n";
+
+fn to_card(lane: u8, bytes: &[u8]) -> Line {
+    Line::ToCard {
+        lane,
+        bytes: some(bytes),
+    }
+}
+
+fn from_card(lane: u8, bytes: &[u8]) -> Line {
+    Line::FromCard {
+        lane,
+        bytes: some(bytes),
+    }
+}
+
+#[test]
+fn lines_of_a_card(rt: HostRuntime) {
     for (line, want) in [
         (
-            Line::Power {
-                lane: 0,
-                card: some(b"c1"),
-                apps: some(&[opened()]),
-            },
-            "L0 power c1 10,9,0,0,3,0\n",
-        ),
-        (
-            Line::Power {
-                lane: 15,
-                card: some(b"abcdefghijklmnop"),
-                apps: some(&[opened(), greatest(), opened(), greatest()]),
-            },
-            "L15 power abcdefghijklmnop 10,9,0,0,3,0 65535,65535,255,18446744073709551615,255,255 10,9,0,0,3,0 65535,65535,255,18446744073709551615,255,255\n",
-        ),
-        (
-            Line::PowerTorn {
-                lane: 0,
-                card: some(b"c1"),
-            },
-            "L0 power c1 torn\n",
-        ),
-        (
-            Line::ToCard {
-                lane: 0,
-                bytes: some(&[0x80, 0xca, 0x9f, 0x36, 0x00]),
-            },
+            to_card(0, &[0x80, 0xca, 0x9f, 0x36, 0x00]),
             "L0 > 80ca9f3600\n",
         ),
-        (
-            Line::FromCard {
-                lane: 3,
-                bytes: some(&[0x6a, 0x82]),
-            },
-            "L3 < 6a82\n",
-        ),
-        (
-            Line::FromCard {
-                lane: 0,
-                bytes: some(&[]),
-            },
-            "L0 < -\n",
-        ),
+        (from_card(3, &[0x6a, 0x82]), "L3 < 6a82\n"),
+        (from_card(0, &[]), "L0 < -\n"),
         (Line::Torn { lane: 0 }, "L0 < torn\n"),
-        (
-            Line::ToHost {
-                lane: 0,
-                bytes: some(&[0xe1, 0x00]),
-            },
-            "L0 host > e100\n",
-        ),
-        (
-            Line::FromHost {
-                lane: 0,
-                bytes: some(&[0xe2, 0x04, 0x8a, 0x02, 0x30, 0x30]),
-            },
-            "L0 host < e2048a023030\n",
-        ),
-        (Line::NoReply { lane: 2 }, "L2 host < none\n"),
-        (
-            Line::SettleCall {
-                lane: 0,
-                bytes: some(&[0xe3]),
-            },
-            "S0 > e3\n",
-        ),
-        (
-            Line::SettleReply {
-                lane: 1,
-                bytes: some(&[0xe2, 0xff]),
-            },
-            "S1 < e2ff\n",
-        ),
     ] {
         assert!(rt; same_text(&line, want), "{want}");
     }
 }
 
 #[test]
-fn lines_of_a_card_an_account_and_a_reading(rt: HostRuntime) -> Result<(), Fail> {
+fn lines_of_a_host(rt: HostRuntime) {
+    let asked = Line::ToHost {
+        lane: 0,
+        bytes: some(&[0xe1, 0x00]),
+    };
+    let answered = Line::FromHost {
+        lane: 0,
+        bytes: some(&[0xe2, 0x04, 0x8a, 0x02, 0x30, 0x30]),
+    };
+    let settled = Line::SettleCall {
+        lane: 0,
+        bytes: some(&[0xe3]),
+    };
+    let accepted = Line::SettleReply {
+        lane: 1,
+        bytes: some(&[0xe2, 0xff]),
+    };
+    for (line, want) in [
+        (asked, "L0 host > e100\n"),
+        (answered, "L0 host < e2048a023030\n"),
+        (Line::NoReply { lane: 2 }, "L2 host < none\n"),
+        (settled, "S0 > e3\n"),
+        (accepted, "S1 < e2ff\n"),
+    ] {
+        assert!(rt; same_text(&line, want), "{want}");
+    }
+}
+
+#[test]
+fn lines_of_an_audit(rt: HostRuntime) {
+    let powered = Line::AuditPower {
+        card: some(b"c1"),
+        apps: some(&[opened()]),
+    };
+    let asked = Line::AuditAsk {
+        card: some(b"c1"),
+        bytes: some(&[0x00, 0xa4]),
+    };
+    let answered = Line::AuditAnswer {
+        card: some(b"z9"),
+        bytes: some(&[0x90, 0x00]),
+    };
+    for (line, want) in [
+        (powered, "A c1 power 10,9,0,0,3,0\n"),
+        (asked, "A c1 > 00a4\n"),
+        (answered, "A z9 < 9000\n"),
+    ] {
+        assert!(rt; same_text(&line, want), "{want}");
+    }
+}
+
+fn object(tag: u32, value: &[u8]) -> Line {
+    Line::Object {
+        tag: Tag(tag),
+        value: some(value),
+    }
+}
+
+#[test]
+fn lines_of_a_reading(rt: HostRuntime) {
+    for (line, want) in [
+        (object(0x5a, &[0x47, 0x61]), "object 5a 4761\n"),
+        (object(0x9f0d, &[]), "object 9f0d -\n"),
+        (object(0x9f8101, &[0xab]), "object 9f8101 ab\n"),
+        (Line::ReadOk, "read ok\n"),
+    ] {
+        assert!(rt; same_text(&line, want), "{want}");
+    }
+}
+
+#[test]
+fn lines_of_accounts(rt: HostRuntime) -> Result<(), Fail> {
     let pan = Digits::new(&[4, 7, 6, 1, 7, 3, 9, 0, 0, 1, 0, 1, 0, 0, 1, 0]).ok_or("digits")?;
     let other = Digits::new(&[9, 0, 9]).ok_or("digits")?;
+    let overdrawn = Line::Balance {
+        pan: other,
+        amount: -1,
+    };
     for (line, want) in [
-        (
-            Line::AuditPower {
-                card: some(b"c1"),
-                apps: some(&[opened()]),
-            },
-            "A c1 power 10,9,0,0,3,0\n",
-        ),
-        (
-            Line::AuditAsk {
-                card: some(b"c1"),
-                bytes: some(&[0x00, 0xa4]),
-            },
-            "A c1 > 00a4\n",
-        ),
-        (
-            Line::AuditAnswer {
-                card: some(b"z9"),
-                bytes: some(&[0x90, 0x00]),
-            },
-            "A z9 < 9000\n",
-        ),
         (
             Line::Balance { pan, amount: 97500 },
             "balance 4761739001010010 97500\n",
         ),
-        (
-            Line::Balance {
-                pan: other,
-                amount: -1,
-            },
-            "balance 909 -1\n",
-        ),
+        (overdrawn, "balance 909 -1\n"),
         (Line::Done { number: 10000 }, "done 10000\n"),
-        (
-            Line::Object {
-                tag: Tag(0x5a),
-                value: some(&[0x47, 0x61]),
-            },
-            "object 5a 4761\n",
-        ),
-        (
-            Line::Object {
-                tag: Tag(0x9f0d),
-                value: some(&[]),
-            },
-            "object 9f0d -\n",
-        ),
-        (
-            Line::Object {
-                tag: Tag(0x9f8101),
-                value: some(&[0xab]),
-            },
-            "object 9f8101 ab\n",
-        ),
-        (Line::ReadOk, "read ok\n"),
-        (
-            Line::ReadEnded {
-                ending: Ending::Terminated(Step::Select, Cause::NoCandidate),
-            },
-            "read terminated select no-candidate\n",
-        ),
     ] {
         assert!(rt; same_text(&line, want), "{want}");
     }
     Ok(())
 }
 
+/// Each ending, step and cause with its line.
+const ENDINGS: [(Ending, &str); 21] = [
+    (
+        Ending::Approved { online: false },
+        "read approved offline\n",
+    ),
+    (Ending::Approved { online: true }, "read approved online\n"),
+    (
+        Ending::Declined { online: false },
+        "read declined offline\n",
+    ),
+    (Ending::Declined { online: true }, "read declined online\n"),
+    (Ending::CutOff(Step::Power), "read cut power\n"),
+    (Ending::CutOff(Step::Script), "read cut script\n"),
+    (
+        Ending::Terminated(Step::Select, Cause::CardBlocked),
+        "read terminated select card-blocked\n",
+    ),
+    (
+        Ending::Terminated(Step::Initiate, Cause::Afl(2)),
+        "read terminated initiate afl 2\n",
+    ),
+    (
+        Ending::Terminated(Step::Read, Cause::Status(0x6a83)),
+        "read terminated read status 6a83\n",
+    ),
+    (
+        Ending::Terminated(Step::Read, Cause::Coding(200)),
+        "read terminated read coding 200\n",
+    ),
+    (
+        Ending::Terminated(Step::Read, Cause::Repeated(Tag(0x5f24))),
+        "read terminated read repeated 5f24\n",
+    ),
+    (
+        Ending::Terminated(Step::Read, Cause::Missing(Tag(0x8c))),
+        "read terminated read missing 8c\n",
+    ),
+    (
+        Ending::Terminated(Step::Read, Cause::Value(Tag(0x9f42))),
+        "read terminated read value 9f42\n",
+    ),
+    (
+        Ending::Terminated(Step::Read, Cause::TooMuch),
+        "read terminated read too-much\n",
+    ),
+    (
+        Ending::Terminated(Step::Verify, Cause::Answer),
+        "read terminated verify answer\n",
+    ),
+    (
+        Ending::Terminated(Step::Risk, Cause::Answer),
+        "read terminated risk answer\n",
+    ),
+    (
+        Ending::Terminated(Step::First, Cause::Dol(Tag(0x8c))),
+        "read terminated first dol 8c\n",
+    ),
+    (
+        Ending::Terminated(Step::First, Cause::Kind(0xc0)),
+        "read terminated first kind c0\n",
+    ),
+    (
+        Ending::Terminated(Step::Authenticate, Cause::Answer),
+        "read terminated authenticate answer\n",
+    ),
+    (
+        Ending::Terminated(Step::Second, Cause::Kind(0x80)),
+        "read terminated second kind 80\n",
+    ),
+    (
+        Ending::Terminated(Step::Select, Cause::NoCandidate),
+        "read terminated select no-candidate\n",
+    ),
+];
+
 #[test]
 fn every_ending_step_and_cause(rt: HostRuntime) {
-    for (ending, want) in [
-        (
-            Ending::Approved { online: false },
-            "read approved offline\n",
-        ),
-        (Ending::Approved { online: true }, "read approved online\n"),
-        (
-            Ending::Declined { online: false },
-            "read declined offline\n",
-        ),
-        (Ending::Declined { online: true }, "read declined online\n"),
-        (Ending::CutOff(Step::Power), "read cut power\n"),
-        (Ending::CutOff(Step::Script), "read cut script\n"),
-        (
-            Ending::Terminated(Step::Select, Cause::CardBlocked),
-            "read terminated select card-blocked\n",
-        ),
-        (
-            Ending::Terminated(Step::Initiate, Cause::Afl(2)),
-            "read terminated initiate afl 2\n",
-        ),
-        (
-            Ending::Terminated(Step::Read, Cause::Status(0x6a83)),
-            "read terminated read status 6a83\n",
-        ),
-        (
-            Ending::Terminated(Step::Read, Cause::Coding(200)),
-            "read terminated read coding 200\n",
-        ),
-        (
-            Ending::Terminated(Step::Read, Cause::Repeated(Tag(0x5f24))),
-            "read terminated read repeated 5f24\n",
-        ),
-        (
-            Ending::Terminated(Step::Read, Cause::Missing(Tag(0x8c))),
-            "read terminated read missing 8c\n",
-        ),
-        (
-            Ending::Terminated(Step::Read, Cause::Value(Tag(0x9f42))),
-            "read terminated read value 9f42\n",
-        ),
-        (
-            Ending::Terminated(Step::Read, Cause::TooMuch),
-            "read terminated read too-much\n",
-        ),
-        (
-            Ending::Terminated(Step::Verify, Cause::Answer),
-            "read terminated verify answer\n",
-        ),
-        (
-            Ending::Terminated(Step::Risk, Cause::Answer),
-            "read terminated risk answer\n",
-        ),
-        (
-            Ending::Terminated(Step::First, Cause::Dol(Tag(0x8c))),
-            "read terminated first dol 8c\n",
-        ),
-        (
-            Ending::Terminated(Step::First, Cause::Kind(0xc0)),
-            "read terminated first kind c0\n",
-        ),
-        (
-            Ending::Terminated(Step::Authenticate, Cause::Answer),
-            "read terminated authenticate answer\n",
-        ),
-        (
-            Ending::Terminated(Step::Second, Cause::Kind(0x80)),
-            "read terminated second kind 80\n",
-        ),
-    ] {
+    for (ending, want) in ENDINGS {
         assert!(rt; same_text(&Line::ReadEnded { ending }, want), "{want}");
     }
 }

@@ -26,5 +26,5 @@ abbrev pub pages_for : List ℕ → ℕ
 pages_for state = (length state + 65) / 64
 
 -- how many writes a commit makes: the pages of the other copy that hold the state, and the selector
-abbrev pub commit_writes : List ℕ → List ℕ → ℕ
-commit_writes old new = pages_for new + 1
+abbrev pub commit_writes : List ℕ → ℕ
+commit_writes new = pages_for new + 1

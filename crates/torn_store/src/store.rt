@@ -127,9 +127,9 @@ impl<P: Pages> Store<P> {
         ensures holds { IfOk result (λ settled. Holds recover settled.memory.cells new.now) }
         ensures spared { OnOk result
             (cuts_among self.memory.plan (next self.memory.commit)
-            (commit_writes self.state new.now) ≡ false) }
+            (commit_writes new.now) ≡ false) }
         ensures wrote { IfOk result (λ settled.
-            settled.memory.writes ≡ commit_writes self.state new.now) }
+            settled.memory.writes ≡ commit_writes new.now) }
         ensures commit { IfOk result (λ settled.
             settled.memory.commit ≡ next self.memory.commit) }
         ensures plan { IfOk result (λ settled. settled.memory.plan ≡ self.memory.plan) }
@@ -142,7 +142,7 @@ impl<P: Pages> Store<P> {
             → Holds recover (P.memory lost.pages).cells self.state) }
         ensures cut { OnErr result
             (cuts_among self.memory.plan (next self.memory.commit)
-            (commit_writes self.state new.now) ≡ true) }
+            (commit_writes new.now) ≡ true) }
         ensures gone { IfErr result (λ lost. IsGone self.memory (P.memory lost.pages)) }
     {
         let Store {

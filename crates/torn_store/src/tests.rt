@@ -7,7 +7,6 @@ ghost use Rattle.torn_store.specs.Recovery.{Between};
 use super::*;
 use emv_ports::{MemoryPages, Pages, Tear, TearAt};
 use std::process::Abort;
-use std::test::Fail;
 
 /// Three states: the second fills one page with its length, the third all pages of a copy.
 const FIRST: [u8; 3] = [1; 3];
@@ -145,59 +144,44 @@ fn check_tear<P: Pages>(rt: &impl Abort, pages: P, tear: Tear, second: Option<Te
     );
 }
 
-#[test]
-fn a_tear_at_any_place_leaves_the_old_or_the_new_state(rt: HostRuntime) -> Result<(), Fail> {
-    let repairs = [
-        None,
-        Some(Tear {
-            commit: 0,
-            at: TearAt::Before(1),
-        }),
-        Some(Tear {
-            commit: 0,
-            at: TearAt::Within(1),
-        }),
-        Some(Tear {
-            commit: 0,
-            at: TearAt::Before(2),
-        }),
-        Some(Tear {
-            commit: 0,
-            at: TearAt::Release,
-        }),
-    ];
-    for commit in 0..3 {
-        for second in repairs {
-            for number in 1..20 {
-                check_tear(
-                    &rt,
-                    MemoryPages::blank(),
-                    Tear {
-                        commit,
-                        at: TearAt::Before(number),
-                    },
-                    second,
-                );
-                check_tear(
-                    &rt,
-                    MemoryPages::blank(),
-                    Tear {
-                        commit,
-                        at: TearAt::Within(number),
-                    },
-                    second,
-                );
-            }
-            check_tear(
-                &rt,
-                MemoryPages::blank(),
-                Tear {
-                    commit,
-                    at: TearAt::Release,
-                },
-                second,
-            );
-        }
+/// A tear in the repair that follows, or none.
+const REPAIRS: [Option<Tear>; 5] = [
+    None,
+    Some(Tear {
+        commit: 0,
+        at: TearAt::Before(1),
+    }),
+    Some(Tear {
+        commit: 0,
+        at: TearAt::Within(1),
+    }),
+    Some(Tear {
+        commit: 0,
+        at: TearAt::Before(2),
+    }),
+    Some(Tear {
+        commit: 0,
+        at: TearAt::Release,
+    }),
+];
+
+/// Tears new pages at this place of a commit, with each tear of the repair behind it.
+fn check_place(rt: &impl Abort, commit: u8, at: TearAt)
+    requires commit { commit < 3 }
+    requires at { IsTrue (is_place at) }
+{
+    for second in REPAIRS {
+        check_tear(rt, MemoryPages::blank(), Tear { commit, at }, second);
     }
-    Ok(())
+}
+
+#[test]
+fn a_tear_at_any_place_leaves_the_old_or_the_new_state(rt: HostRuntime) {
+    for commit in 0..3 {
+        for number in 1..20 {
+            check_place(&rt, commit, TearAt::Before(number));
+            check_place(&rt, commit, TearAt::Within(number));
+        }
+        check_place(&rt, commit, TearAt::Release);
+    }
 }

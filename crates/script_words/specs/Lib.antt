@@ -1,0 +1,3 @@
+pub mod Numeral
+pub mod Order
+pub mod Spelling
