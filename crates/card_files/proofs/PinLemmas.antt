@@ -1,0 +1,1 @@
+-- The PIN that a block spells.

@@ -1,0 +1,9 @@
+pub mod AppRules
+pub mod Control
+pub mod Faults
+pub mod Files
+pub mod Lists
+pub mod Seen
+pub mod SeenApp
+pub mod Views
+pub mod SeenFault
