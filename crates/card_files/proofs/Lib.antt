@@ -1,2 +1,6 @@
 mod FaultLemmas
+mod Keeping
+mod Mapped
+mod NameLemmas
 mod PinLemmas
+mod SizeLemmas

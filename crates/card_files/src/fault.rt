@@ -31,7 +31,8 @@ pub enum ImageFault {
 /// The first key of the application's files that is against its rule.
 #[tactic(auto, unfolding(crate::specs::Faults::file_lines, crate::specs::SeenApp::seen_app))]
 fn first_file_key(app: &AppImage) -> Option<&'static str>
-    ensures { option_copied result ≡ first_broken (file_lines (seen_app app.now)) }
+    ensures key { option_copied result ≡ first_broken (file_lines (seen_app app.now)) }
+    ensures short { IfSome result (λ key. length key.now ≤ 16) }
 {
     if !is_name(app.name.as_slice()) {
         return Some("name");
@@ -66,7 +67,8 @@ fn first_file_key(app: &AppImage) -> Option<&'static str>
 /// The first key of the application's account and state that is against its rule.
 #[tactic(auto, unfolding(crate::specs::Faults::state_lines, crate::specs::SeenApp::seen_app))]
 fn first_state_key(app: &AppImage) -> Option<&'static str>
-    ensures { option_copied result ≡ first_broken (state_lines (seen_app app.now)) }
+    ensures key { option_copied result ≡ first_broken (state_lines (seen_app app.now)) }
+    ensures short { IfSome result (λ key. length key.now ≤ 16) }
 {
     if !is_pan(&app.pan) {
         return Some("pan");
@@ -95,7 +97,8 @@ fn first_state_key(app: &AppImage) -> Option<&'static str>
 /// The first key of the application that is against its rule.
 #[tactic(auto, unfolding(crate::specs::Faults::app_fault), using(crate::proofs::FaultLemmas::first_broken_append))]
 fn first_key(app: &AppImage) -> Option<&'static str>
-    ensures { option_copied result ≡ app_fault (seen_app app.now) }
+    ensures key { option_copied result ≡ app_fault (seen_app app.now) }
+    ensures short { IfSome result (λ key. length key.now ≤ 16) }
 {
     match first_file_key(app) {
         Some(key) => Some(key),
@@ -105,11 +108,12 @@ fn first_key(app: &AppImage) -> Option<&'static str>
 
 /// The bytes of a key's name.
 fn key_bytes(key: &str) -> ArrayVec<u8, 16>
-    ensures { length key.now ≤ 16 → result.items ≡ key.now }
+    requires { length key.now ≤ 16 }
+    ensures { result.items ≡ key.now }
 {
     let mut bytes = ArrayVec::new();
-    for byte in key.as_bytes().iter().take(16) {
-        bytes.push(*byte);
+    if bytes.try_extend_from_slice(key.as_bytes()).is_err() {
+        unreachable!();
     }
     bytes
 }

@@ -1,8 +1,10 @@
 ghost use Rattle.std.specs.Prelude.{◌≡◌, ◌<◌, ◌≤◌, ◌↔◌, length, slice_get, IfSome, None, MatchResult, Some, option_map, option_copied};
+ghost use Rattle.std.specs.List.{All};
 ghost use Rattle.card_files.specs.Control.{fci_bytes};
 ghost use Rattle.card_files.specs.Faults.{image_fault};
 ghost use Rattle.card_files.specs.Files as spec;
 ghost use Rattle.card_files.specs.Files.{record_of, opening_of};
+ghost use Rattle.card_files.specs.Kept.{KeepsRules};
 ghost use Rattle.card_files.specs.SeenApp.{seen_app, seen_apps};
 ghost use Rattle.card_files.specs.SeenFault.{seen_fault};
 
@@ -55,8 +57,18 @@ impl Image {
     pub fn apps(&self) -> &[AppImage]
         ensures apps { seen_apps result.now ≡ self.now }
         ensures faultless { image_fault self.now ≡ None }
+        ensures some { 1 ≤ length result.now }
+        ensures few { length result.now ≤ 4 }
+        ensures rules { All (λ app. KeepsRules (seen_app app)) result.now }
     {
         &self.apps
+    }
+
+    /// The application of this number, where there is one.
+    fn app(&self, app: u8) -> Option<&AppImage>
+        ensures { option_map (λ image. seen_app image.now) result ≡ slice_get self.now app }
+    {
+        self.apps().get(usize::from(app))
     }
 
     /// The bytes of the record of this number in a file of an application; `None` where there is no
@@ -64,7 +76,7 @@ impl Image {
     pub fn record(&self, app: u8, sfi: u8, number: u8) -> Option<&[u8]>
         ensures { option_map (λ bytes. bytes.now) result ≡ record_of self.now app sfi number }
     {
-        match self.apps().get(usize::from(app)) {
+        match self.app(app) {
             Some(image) => record_in(&image.records, sfi, number),
             None => None,
         }
@@ -74,7 +86,7 @@ impl Image {
     pub fn has_file(&self, app: u8, sfi: u8) -> bool
         ensures { result ≡ spec.has_file self.now app sfi }
     {
-        match self.apps().get(usize::from(app)) {
+        match self.app(app) {
             Some(image) => is_file(&image.records, sfi),
             None => false,
         }
@@ -86,7 +98,7 @@ impl Image {
         requires { app < length self.now }
         ensures { IfSome (slice_get self.now app) (λ image. out.new.items ≡ fci_bytes image) }
     {
-        write_fci(&self.apps[usize::from(app)], out);
+        write_fci(&self.apps()[usize::from(app)], out);
     }
 
     /// Replaces `out` by the state of the card before its first decision.
