@@ -20,7 +20,7 @@ head_holds : (holds : Bool) (key : List ℕ) (rest : Option (List ℕ)) → (if 
 head_holds true key rest none = (refl, none)
 head_holds false key rest none = absurd (true≢false (some_is_not_none key none))
 
-blank : Line
+abbrev blank : Line
 blank = ([], true)
 
 rule : (ls : List Line) → first_broken ls ≡ None → (k : ℕ) → (get_or ls k blank).1 ≡ true
@@ -73,21 +73,28 @@ counted : (test : Bool) (count : ℕ) (rest : Option Fault) → (if test then re
 counted true count rest none = (refl, none)
 counted false count rest none = absurd (true≢false (some_is_not_none (OfCount count) none))
 
-pub all_kept : (apps : List AppData) → image_fault apps ≡ None → All (λ app. KeepsRules app) apps
+all_kept : (apps : List AppData) → image_fault apps ≡ None → All (λ app. KeepsRules app) apps
 unfolding image_fault
 all_kept apps none =
     let parts = counted (is_within 1 4 (length apps)) (length apps) (option_or (field_fault 0 apps) (name_fault [] apps)) none in
     each_kept 0 apps (first_none (field_fault 0 apps) (name_fault [] apps) parts.1).0
 
-pub count_kept : (apps : List AppData) → image_fault apps ≡ None → (1 ≤ length apps) × (length apps ≤ 4)
+count_kept : (apps : List AppData) → image_fault apps ≡ None → (1 ≤ length apps) × (length apps ≤ 4)
 unfolding image_fault
 count_kept apps none =
     let parts = counted (is_within 1 4 (length apps)) (length apps) (option_or (field_fault 0 apps) (name_fault [] apps)) none in
     let ends = and_parts (nat_le 1 (length apps)) (nat_le (length apps) 4) parts.0 in
     (leb-true 1 (length apps) ends.0, leb-true (length apps) 4 ends.1)
 
--- what holds of all that is seen holds of what each application is seen as
-pub of_images : (apps : List AppImage) → All (λ app. KeepsRules app) (seen_apps apps) → All (λ app. KeepsRules (seen_app app)) apps
-of_images apps all k d within =
+-- the same of the applications as they are
+pub all_of_images : (apps : List AppImage) → image_fault (seen_apps apps) ≡ None → All (λ app. KeepsRules (seen_app app)) apps
+all_of_images apps none k d within =
     let long : length (seen_apps apps) ≡ length apps = length-map apps seen_app in
-    rw (sym (get_or-map seen_app apps k d (seen_app d) within)) (all k (seen_app d) (omega arith))
+    let at : KeepsRules (get_or (seen_apps apps) k (seen_app d)) = all_kept (seen_apps apps) none k (seen_app d) (omega arith) in
+    rw (get_or-map seen_app apps k d (seen_app d) within) at at
+
+pub count_of_images : (apps : List AppImage) → image_fault (seen_apps apps) ≡ None → (1 ≤ length apps) × (length apps ≤ 4)
+count_of_images apps none =
+    let long : length (seen_apps apps) ≡ length apps = length-map apps seen_app in
+    let ends = count_kept (seen_apps apps) none in
+    (omega (arith, ends.0), omega (arith, ends.1))

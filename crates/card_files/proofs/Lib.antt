@@ -2,5 +2,6 @@ mod FaultLemmas
 mod Keeping
 mod Mapped
 mod NameLemmas
+mod OpeningLemmas
 mod PinLemmas
 mod SizeLemmas

@@ -57,6 +57,7 @@ impl Image {
     pub fn apps(&self) -> &[AppImage]
         ensures apps { seen_apps result.now ≡ self.now }
         ensures faultless { image_fault self.now ≡ None }
+        ensures count { length result.now ≡ length self.now }
         ensures some { 1 ≤ length result.now }
         ensures few { length result.now ≤ 4 }
         ensures rules { All (λ app. KeepsRules (seen_app app)) result.now }
@@ -73,6 +74,7 @@ impl Image {
 
     /// The bytes of the record of this number in a file of an application; `None` where there is no
     /// such application, file or number.
+    #[tactic(auto, unfolding(crate::specs::SeenApp::seen_app))]
     pub fn record(&self, app: u8, sfi: u8, number: u8) -> Option<&[u8]>
         ensures { option_map (λ bytes. bytes.now) result ≡ record_of self.now app sfi number }
     {
@@ -83,6 +85,7 @@ impl Image {
     }
 
     /// Whether an application has a file of this identifier.
+    #[tactic(auto, unfolding(crate::specs::SeenApp::seen_app))]
     pub fn has_file(&self, app: u8, sfi: u8) -> bool
         ensures { result ≡ spec.has_file self.now app sfi }
     {
