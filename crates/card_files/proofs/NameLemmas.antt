@@ -35,5 +35,5 @@ pub passed_over : (apps : List AppImage) (i : ℕ) (x : AppImage) → i < length
     → name_fault (seen_apps (take (i + 1) apps)) (seen_apps (drop (i + 1) apps)) ≡ name_fault (seen_apps (take i apps)) (seen_apps (drop i apps))
 passed_over apps i x within is test =
     let grown : seen_apps (take (i + 1) apps) ≡ seen_apps (take i apps) ++ seen_app x ∷ [] =
-        ap seen_apps (take_more apps i x within ∙ ap (λ (y : AppImage). take i apps ++ y ∷ []) (sym is)) ∙ map-append seen_app (take i apps) (x ∷ []) in
+    ap seen_apps (take_more apps i x within ∙ ap (λ (y : AppImage). take i apps ++ y ∷ []) (sym is)) ∙ map-append seen_app (take i apps) (x ∷ []) in
     rw (grown, opened apps i x within is) (sym (onward (seen_apps (take i apps)) (seen_apps (drop (i + 1) apps)) (seen_app x) test))

@@ -50,7 +50,7 @@ passes pin bytes is same =
     let decimal : list_all is_decimal pin ≡ true = list_all-from_AllPass is_decimal pin (λ k d within. le-leb (get_or pin k d) 9 (is.decimal k d within)) in
     let equal : bytes_eq (block_of 2 pin) bytes ≡ true = (bytes_eq-Decides (block_of 2 pin) bytes).1 same in
     and_from (has_size 4 12 pin) (list_all is_decimal pin && bytes_eq (block_of 2 pin) bytes) size
-        (and_from (list_all is_decimal pin) (bytes_eq (block_of 2 pin) bytes) decimal equal)
+    (and_from (list_all is_decimal pin) (bytes_eq (block_of 2 pin) bytes) decimal equal)
 
 -- and only they do
 passed : (pin bytes : List ℕ) → (has_size 4 12 pin && (list_all is_decimal pin && bytes_eq (block_of 2 pin) bytes)) ≡ true
@@ -59,12 +59,14 @@ passed pin bytes test =
     let parts = and_parts (has_size 4 12 pin) (list_all is_decimal pin && bytes_eq (block_of 2 pin) bytes) test in
     let ends = and_parts (nat_le 4 (length pin)) (nat_le (length pin) 12) parts.0 in
     let rest = and_parts (list_all is_decimal pin) (bytes_eq (block_of 2 pin) bytes) parts.1 in
-    let decimal = AllPass-from_list_all is_decimal pin rest.0 in
-    (record {
-      least = leb-true 4 (length pin) ends.0;
-      most = leb-true (length pin) 12 ends.1;
-      decimal = λ k d within. leb-true (get_or pin k d) 9 (decimal k d within);
-    }, (bytes_eq-Decides (block_of 2 pin) bytes).0 rest.1)
+    let decimal = AllPass-from_list_all is_decimal pin rest.0 in (
+      record {
+        least = leb-true 4 (length pin) ends.0;
+        most = leb-true (length pin) 12 ends.1;
+        decimal = λ k d within. leb-true (get_or pin k d) 9 (decimal k d within);
+      },
+      (bytes_eq-Decides (block_of 2 pin) bytes).0 rest.1,
+    )
 
 -- what reads a block exactly where it is one tells the test
 pub told : (bytes : List ℕ) (found : Option (List ℕ)) → IfSome found (λ pin. IsPin pin × (block_of 2 pin ≡ bytes))
@@ -72,7 +74,7 @@ pub told : (bytes : List ℕ) (found : Option (List ℕ)) → IfSome found (λ p
 told bytes (Some pin) is reads =
     let same : spelled_pin bytes ≡ pin = spelled pin bytes is.0 is.1 in
     let test : (has_size 4 12 (spelled_pin bytes) && (list_all is_decimal (spelled_pin bytes) && bytes_eq (block_of 2 (spelled_pin bytes)) bytes)) ≡ true =
-        rw same (passes pin bytes is.0 is.1) in
+    rw same (passes pin bytes is.0 is.1) in
     sym test
 told bytes None is reads = none (is_plain_block bytes) refl
   where

@@ -15,6 +15,7 @@ is_within least most n = nat_le least n && nat_le n most
 abbrev pub has_size : {A : Type 0} → ℕ → ℕ → List A → Bool
 has_size least most xs = is_within least most (length xs)
 
+-- an application's name, which is no shorter than a registered one
 abbrev pub is_name : List ℕ → Bool
 is_name bytes = has_size 5 16 bytes
 
@@ -25,16 +26,21 @@ is_printable c = is_within 32 126 c
 abbrev pub is_label : List ℕ → Bool
 is_label text = has_size 1 16 text && list_all is_printable text
 
+-- 62 entries of four bytes
+abbrev pub most_afl : ℕ
+most_afl = 248
+
 abbrev pub is_afl : List ℕ → Bool
-is_afl bytes = nat_le (length bytes) 248
+is_afl bytes = nat_le (length bytes) most_afl
 
 abbrev pub is_format : ℕ → Bool
 is_format n = n == 1 || n == 2
 
+-- a record's file, its number and its size
 abbrev pub is_record : RecordData → Bool
 is_record r = is_within 1 30 r.sfi && (is_within 1 255 r.number && has_size 1 256 r.bytes)
 
--- the two records have one number in one file
+-- the two records have one number in one file: the pair is there twice
 abbrev pub is_pair : RecordData → RecordData → Bool
 is_pair r s = r.sfi == s.sfi && r.number == s.number
 
@@ -42,8 +48,12 @@ abbrev pub has_twins : List RecordData → Bool
 has_twins [] = false
 has_twins (r ∷ rs) = list_any (is_pair r) rs || has_twins rs
 
+abbrev pub most_records : ℕ
+most_records = 64
+
+-- not too many, each in its limits, and no pair twice
 abbrev pub are_records : List RecordData → Bool
-are_records rs = nat_le (length rs) 64 && (list_all is_record rs && not (has_twins rs))
+are_records rs = nat_le (length rs) most_records && (list_all is_record rs && not (has_twins rs))
 
 -- the PIN that a block of format 2 spells: the second digit is its size, and its digits stand behind
 abbrev pub spelled_pin : List ℕ → List ℕ
@@ -55,14 +65,14 @@ is_plain_block bytes =
     has_size 4 12 (spelled_pin bytes) && (list_all is_decimal (spelled_pin bytes) && bytes_eq (block_of 2 (spelled_pin bytes)) bytes)
 
 -- the block of a PIN, or eight zero bytes where there is none
-abbrev pub is_reference : List ℕ → Bool
-is_reference bytes = bytes_eq bytes (replicate 8 0) || is_plain_block bytes
+abbrev pub is_reference_pin : List ℕ → Bool
+is_reference_pin bytes = bytes_eq bytes (replicate 8 0) || is_plain_block bytes
 
--- 12 decimal digits
+-- at most 12 decimal digits
 abbrev pub is_sum_limit : ℕ → Bool
 is_sum_limit n = nat_le n most_amount
 
--- four bits
+-- a number of four bits
 abbrev pub is_tries : ℕ → Bool
 is_tries n = nat_le n 15
 

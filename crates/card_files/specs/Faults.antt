@@ -6,7 +6,7 @@ use Rattle.std.specs.Str.{bytes_eq}
 use Rattle.emv_dict.specs.Date.{has_digits}
 use Rattle.emv_dict.specs.Pan.{is_pan_length}
 use Rattle.emv_dict.specs.Settings.{is_code}
-use Rattle.card_files.specs.AppRules.{is_within, is_name, is_label, is_afl, is_format, are_records, is_sum_limit, is_reference, is_tries, is_opening}
+use Rattle.card_files.specs.AppRules.{is_within, is_name, is_label, is_afl, is_format, are_records, is_sum_limit, is_reference_pin, is_tries, is_opening}
 use Rattle.card_files.specs.Lists.{is_optional_pdol, is_cdol1, is_cdol2}
 use Rattle.card_files.specs.Views.{AppData}
 
@@ -43,7 +43,7 @@ state_lines app =
     ∷ (codes "last_online", true)
     ∷ (codes "count_limit", true)
     ∷ (codes "sum_limit", is_sum_limit app.opening.sum_limit)
-    ∷ (codes "pin", is_reference app.opening.pin)
+    ∷ (codes "pin", is_reference_pin app.opening.pin)
     ∷ (codes "tries", is_tries app.tries)
     ∷ (codes "blocked", true)
     ∷ (codes "ac_key", true)

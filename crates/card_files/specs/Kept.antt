@@ -3,7 +3,7 @@ use Rattle.std.specs.Prelude.{IsTrue, length}
 use Rattle.emv_dict.specs.Date.{has_digits}
 use Rattle.emv_dict.specs.Pan.{is_pan_length}
 use Rattle.emv_dict.specs.Settings.{is_code}
-use Rattle.card_files.specs.AppRules.{is_name, is_label, is_afl, is_format, are_records, is_sum_limit, is_reference, is_tries, is_opening}
+use Rattle.card_files.specs.AppRules.{is_name, is_label, is_afl, is_format, are_records, is_sum_limit, is_reference_pin, is_tries, is_opening}
 use Rattle.card_files.specs.Lists.{is_optional_pdol, is_cdol1, is_cdol2}
 use Rattle.card_files.specs.Views.{AppData}
 
@@ -21,6 +21,6 @@ pub record KeepsRules (app : AppData) : Type 0 where
   pub sequence : IsTrue (has_digits app.sequence)
   pub currency : IsTrue (is_code app.currency)
   pub sum_limit : IsTrue (is_sum_limit app.opening.sum_limit)
-  pub pin : IsTrue (is_reference app.opening.pin)
+  pub pin : IsTrue (is_reference_pin app.opening.pin)
   pub tries : IsTrue (is_tries app.tries)
   pub opening : IsTrue (is_opening app.tries app.opening)

@@ -8,12 +8,19 @@ use Rattle.object_lists.specs.declared.dol.DolFault.{DolFault}
 abbrev pub most_data : ℕ
 most_data = 252
 
--- the entries want no more than that
+-- the most bytes of a processing options object list, and of an object list of GENERATE AC
+abbrev pub most_pdol : ℕ
+most_pdol = 200
+
+abbrev pub most_cdol : ℕ
+most_cdol = 252
+
+-- the entries want no more data than one command carries
 abbrev pub fitting : Result (List DolEntry) DolFault → Option (List DolEntry)
 fitting (Ok entries) = (if nat_le (total_of entries) most_data then Some entries else None)
 fitting (Err fault) = None
 
--- the entries of a readable object list of at most so many bytes that wants no more than that
+-- the entries of an object list of at most so many bytes, where it can be read and wants no more data
 unfoldable pub entries_within : ℕ → List ℕ → Option (List DolEntry)
 entries_within most bytes = (if nat_le (length bytes) most then fitting (dol_of bytes) else None)
 
@@ -43,13 +50,13 @@ holds_all wanted (Some entries) = has_all wanted entries
 holds_all wanted None = false
 
 abbrev pub is_pdol : List ℕ → Bool
-is_pdol bytes = is_some (entries_within 200 bytes)
+is_pdol bytes = is_some (entries_within most_pdol bytes)
 
 abbrev pub is_cdol1 : List ℕ → Bool
-is_cdol1 bytes = holds_all cdol1_entries (entries_within 252 bytes)
+is_cdol1 bytes = holds_all cdol1_entries (entries_within most_cdol bytes)
 
 abbrev pub is_cdol2 : List ℕ → Bool
-is_cdol2 bytes = holds_all cdol2_entries (entries_within 252 bytes)
+is_cdol2 bytes = holds_all cdol2_entries (entries_within most_cdol bytes)
 
 abbrev pub is_optional_pdol : Option (List ℕ) → Bool
 is_optional_pdol (Some bytes) = is_pdol bytes

@@ -11,7 +11,7 @@ use crate::app::AppImage;
 use crate::lists::{is_cdol1, is_cdol2, is_optional_pdol};
 use crate::rules::{
     are_records, is_afl, is_currency, is_format, is_label, is_name, is_opening, is_pan,
-    is_reference, is_sequence, is_sum_limit, is_tries,
+    is_reference_pin, is_sequence, is_sum_limit, is_tries,
 };
 use arrayvec::ArrayVec;
 
@@ -82,7 +82,7 @@ fn first_state_key(app: &AppImage) -> Option<&'static str>
     if !is_sum_limit(app.opening.sum_limit) {
         return Some("sum_limit");
     }
-    if !is_reference(app.opening.pin) {
+    if !is_reference_pin(app.opening.pin) {
         return Some("pin");
     }
     if !is_tries(app.tries) {

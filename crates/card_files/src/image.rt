@@ -43,7 +43,7 @@ impl Image {
     /// else `Field` with the first key against its rule, application by application, the keys in the
     /// order of the scenario's table `app` and `opening` behind them; else `SameName`.
     pub fn new(apps: Vec<AppImage>) -> Result<Image, ImageFault>
-        ensures { MatchResult result
+        ensures exact { MatchResult result
             (λ image. (image ≡ seen_apps apps.items) × (image_fault (seen_apps apps.items) ≡ None))
             (λ fault. image_fault (seen_apps apps.items) ≡ Some (seen_fault fault)) }
     {
@@ -67,7 +67,8 @@ impl Image {
 
     /// The application of this number, where there is one.
     fn app(&self, app: u8) -> Option<&AppImage>
-        ensures { option_map (λ image. seen_app image.now) result ≡ slice_get self.now app }
+        ensures found { option_map (λ image. seen_app image.now) result ≡ slice_get self.now app }
+        ensures rules { IfSome result (λ image. KeepsRules (seen_app image.now)) }
     {
         self.apps().get(usize::from(app))
     }
@@ -76,7 +77,8 @@ impl Image {
     /// such application, file or number.
     #[tactic(auto, unfolding(crate::specs::SeenApp::seen_app))]
     pub fn record(&self, app: u8, sfi: u8, number: u8) -> Option<&[u8]>
-        ensures { option_map (λ bytes. bytes.now) result ≡ record_of self.now app sfi number }
+        ensures exact { option_map (λ bytes. bytes.now) result ≡ record_of self.now app sfi number }
+        ensures size { IfSome result (λ bytes. (1 ≤ length bytes.now) × (length bytes.now ≤ 256)) }
     {
         match self.app(app) {
             Some(image) => record_in(&image.records, sfi, number),

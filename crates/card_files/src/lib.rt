@@ -15,5 +15,5 @@ pub use app::{AppImage, RecordImage};
 pub use fault::ImageFault;
 pub use image::Image;
 
-//#[cfg(test)]
-//mod tests;
+#[cfg(test)]
+mod tests;

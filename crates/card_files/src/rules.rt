@@ -12,6 +12,12 @@ use card_state::AppState;
 use emv_dict::Digits;
 use pin_block::read_plain;
 
+/// The most bytes of an image's application file locator: 62 entries of four bytes.
+pub const MOST_AFL: usize = 248;
+
+/// The most records of an application.
+pub const MOST_RECORDS: usize = 64;
+
 /// Whether the bytes are an application's name: 5 to 16 of them (EMV 4.3 Book 1 section 12.2.1).
 pub fn is_name(bytes: &[u8]) -> bool
     ensures { result ≡ spec.is_name bytes.now }
@@ -20,7 +26,7 @@ pub fn is_name(bytes: &[u8]) -> bool
 }
 
 /// Whether each byte is a printable character of ASCII, from 20 to 7E.
-pub fn is_printable(text: &[u8]) -> bool
+pub fn is_printable_text(text: &[u8]) -> bool
     ensures { result ≡ list_all spec.is_printable text.now }
 {
     text.iter().all(|c| 32 <= *c && *c <= 126)
@@ -30,14 +36,14 @@ pub fn is_printable(text: &[u8]) -> bool
 pub fn is_label(text: &[u8]) -> bool
     ensures { result ≡ spec.is_label text.now }
 {
-    (!text.is_empty() && text.len() <= 16) && is_printable(text)
+    (!text.is_empty() && text.len() <= 16) && is_printable_text(text)
 }
 
 /// Whether the bytes may be an image's application file locator: at most 248 of them.
 pub fn is_afl(bytes: &[u8]) -> bool
     ensures { result ≡ spec.is_afl bytes.now }
 {
-    bytes.len() <= 248
+    bytes.len() <= MOST_AFL
 }
 
 /// Whether the number names a format of a command's answer: 1 or 2.
@@ -77,7 +83,8 @@ fn any_pair(image: &RecordImage, images: &[RecordImage]) -> bool
     images.iter().any(|other| is_pair(image, other))
 }
 
-fn is_among(image: &RecordImage, images: &[RecordImage]) -> bool
+/// Whether any of these records has the number of this one in its file.
+pub fn is_among(image: &RecordImage, images: &[RecordImage]) -> bool
     ensures { result ≡ list_any (spec.is_pair (seen_record image.now)) (seen_records images.now) }
 {
     any_pair(image, images)
@@ -104,7 +111,7 @@ fn each_record(images: &[RecordImage]) -> bool
 pub fn are_records(images: &[RecordImage]) -> bool
     ensures { result ≡ spec.are_records (seen_records images.now) }
 {
-    images.len() <= 64 && (each_record(images) && !has_twins(images))
+    images.len() <= MOST_RECORDS && (each_record(images) && !has_twins(images))
 }
 
 /// Whether there are 13 to 16 digits, as an account number of this profile has.
@@ -136,8 +143,8 @@ pub fn is_sum_limit(sum: u64) -> bool
 }
 
 /// Whether the bytes are a reference PIN: a plain block of format 2, or eight zero bytes for none.
-pub fn is_reference(block: [u8; 8]) -> bool
-    ensures { result ≡ spec.is_reference block }
+pub fn is_reference_pin(block: [u8; 8]) -> bool
+    ensures { result ≡ spec.is_reference_pin block }
 {
     block == [0; 8] || is_plain_block(block)
 }

@@ -30,5 +30,5 @@ returns c =
     let app : AppImage = c.index-apps-from.result in
     let within : c.from.result < length c.apps.result.now = omega arith in
     let there : slice_get c.args.self.now c.args.app ≡ Some (seen_app app) =
-        rw (c.apps.ensures.apps, c.from.ensures) at (lookup c.apps.result.now c.from.result app within c.index-apps-from.is) in
+    rw (c.apps.ensures.apps, c.from.ensures) at (lookup c.apps.result.now c.from.result app within c.index-apps-from.is) in
     rw there c.write_fci.ensures

@@ -11,5 +11,5 @@ returns c =
     let apps : List AppImage = c.apps-image-items.result.now in
     let whole : take c.loop-image.image-index apps ≡ apps = take_all c.loop-image.image-index apps c.loop-image-test.false in
     rw c.apps-image-items.ensures.apps at
-        (opened c.loop-image.out apps c.loop-image.invariant.free
-        (c.loop-image.invariant.opened ∙ ap (λ (xs : List AppImage). map (λ a. a.opening) xs) whole))
+    (opened c.loop-image.out apps c.loop-image.invariant.free
+    (c.loop-image.invariant.opened ∙ ap (λ (xs : List AppImage). map (λ a. a.opening) xs) whole))
