@@ -211,6 +211,21 @@ fn spoil(rt: &impl Abort, alloc: Global, app: &mut AppImage, key: &str) -> Resul
     Ok(())
 }
 
+/// Whether the answer is this key of the application of this number.
+fn is_field(answer: Result<Image, ImageFault>, number: u8, name: &str) -> bool {
+    match answer {
+        Ok(_image) => false,
+        Err(fault) => is_key(&fault, number, name),
+    }
+}
+
+fn is_key(fault: &ImageFault, number: u8, name: &str) -> bool {
+    match fault {
+        ImageFault::Field { app, key } => { *app == number && key.as_slice() == name.as_bytes() }
+        _ => false,
+    }
+}
+
 #[test]
 fn names_the_first_key(rt: HostRuntime) -> Result<(), Fail> {
     let alloc = rt.alloc();
@@ -219,13 +234,7 @@ fn names_the_first_key(rt: HostRuntime) -> Result<(), Fail> {
         for key in &KEYS[k..] {
             spoil(&rt, alloc, &mut app, key)?;
         }
-        match image_of(alloc, app)? {
-            Err(ImageFault::Field { app, key }) => {
-                assert!(rt; app == 0);
-                assert!(rt; key.as_slice() == KEYS[k].as_bytes());
-            }
-            _ => assert!(rt; false),
-        }
+        assert!(rt; is_field(image_of(alloc, app)?, 0, KEYS[k]), "at {k}");
     }
     Ok(())
 }
@@ -242,12 +251,7 @@ fn tries_the_opening_state(rt: HostRuntime) -> Result<(), Fail> {
             3 => app.opening.tries = 2,
             _ => app.tries = 4,
         }
-        match image_of(alloc, app)? {
-            Err(ImageFault::Field { key, .. }) => assert!(rt;
-                key.as_slice() == b"opening".as_slice()
-            ),
-            _ => assert!(rt; false),
-        }
+        assert!(rt; is_field(image_of(alloc, app)?, 0, "opening"), "at {n}");
     }
     Ok(())
 }
@@ -280,13 +284,9 @@ fn counts_applications_and_compares_names(rt: HostRuntime) -> Result<(), Fail> {
 
     // The key of a later application comes before the second name of an earlier one.
     let mut apps = apps_of(&rt, alloc, &[1, 1, 2])?;
+    assert!(rt; apps.len() == 3);
     apps[2].tries = 99;
-    match Image::new(apps) {
-        Err(ImageFault::Field { app, key }) => {
-            assert!(rt; app == 2 && key.as_slice() == b"tries".as_slice());
-        }
-        _ => assert!(rt; false),
-    }
+    assert!(rt; is_field(Image::new(apps), 2, "tries"));
     Ok(())
 }
 
@@ -294,6 +294,7 @@ fn counts_applications_and_compares_names(rt: HostRuntime) -> Result<(), Fail> {
 fn finds_records_and_opens(rt: HostRuntime) -> Result<(), Fail> {
     let alloc = rt.alloc();
     let mut apps = apps_of(&rt, alloc, &[1, 2])?;
+    assert!(rt; apps.len() == 2);
     apps[1].records = Vec::new(alloc);
     apps[1].opening.counter = 77;
     let image = Image::new(apps).expect(&rt, "an image");
