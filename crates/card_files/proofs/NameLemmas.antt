@@ -1,10 +1,9 @@
 -- Names looked for among the applications before each one.
-use Rattle.std.proofs.Common.{◌≡◌, ℕ, suc, ◌+◌, ◌<◌, Bool, true, false, List, [], ◌∷◌, ◌++◌, length, take, drop, get_or, Option, Some, None, refl, sym, ap, ◌∙◌, arith, add-one, drop-cons}
-use Rattle.std.specs.Prelude.{if◌then◌else◌, map}
+use Rattle.std.proofs.Common.{◌≡◌, ℕ, suc, ◌+◌, ◌<◌, true, false, List, [], ◌∷◌, ◌++◌, length, take, drop, get_or, Some, refl, sym, ap, ◌∙◌, arith, add-one, drop-cons}
 use Rattle.std.specs.List.{list_any}
 use Rattle.std.specs.Str.{bytes_eq}
 use Rattle.std.proofs.lemmas.List.{take_more, map-append, length-map, length-take-le}
-use Rattle.card_files.specs.Faults.{Fault, OfName, name_fault}
+use Rattle.card_files.specs.Faults.{OfName, name_fault}
 use Rattle.card_files.specs.SeenApp.{seen_app, seen_apps}
 use Rattle.card_files.specs.Views.{AppData}
 use Rattle.card_files.specs.declared.app.AppImage.{AppImage}

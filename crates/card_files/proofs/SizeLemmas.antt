@@ -1,12 +1,12 @@
 -- The sizes that the rules of an application allow.
 use Rattle.std.proofs.Common.{◌≡◌, ℕ, ◌<◌, ◌≤◌, Bool, true, false, List, length, get_or, Option, Some, None, is_some, option_map, refl, sym, ap, ◌∙◌}
-use Rattle.std.specs.Prelude.{if◌then◌else◌, IfSome, IsTrue, ◌&&◌, nat_le, slice_get}
+use Rattle.std.specs.Prelude.{if◌then◌else◌, IfSome, IsTrue, nat_le, slice_get}
 use Rattle.std.specs.List.{list_all}
 use Rattle.std.proofs.lemmas.Bool.{true≢false, and_parts, leb-true}
 use Rattle.std.proofs.lemmas.Option.{slice_get-map, slice_get-get_or}
 use Rattle.object_lists.specs.DolEntries.{DolEntry, dol_of}
 use Rattle.card_files.specs.AppRules.{is_label, is_printable, has_size}
-use Rattle.card_files.specs.Lists.{entries_within, fitting, is_pdol, is_optional_pdol}
+use Rattle.card_files.specs.Lists.{entries_within, fitting, is_optional_pdol}
 use Rattle.card_files.specs.SeenApp.{seen_app, seen_apps}
 use Rattle.card_files.specs.declared.app.AppImage.{AppImage}
 

@@ -27,7 +27,7 @@ fn put<const N: usize>(out: &mut ArrayVec<u8, N>, tag: Tag, value: &[u8])
 
 /// Appends the application priority indicator, where there is one.
 fn put_priority(out: &mut ArrayVec<u8, 240>, priority: Option<u8>)
-    requires { array_vec_len out.old ≤ 20 }
+    requires { array_vec_len out.old ≤ 236 }
     ensures items { out.new.items ≡ out.old.items ++ written_some 0x87 (one_byte priority) }
     ensures len { array_vec_len out.new ≤ array_vec_len out.old + 4 }
 {
@@ -39,7 +39,7 @@ fn put_priority(out: &mut ArrayVec<u8, 240>, priority: Option<u8>)
 /// Appends the processing options object list, where there is one.
 #[tactic(auto, unfolding(ber_tlv::specs::Written::written))]
 fn put_pdol(out: &mut ArrayVec<u8, 240>, pdol: &Option<Vec<u8>>)
-    requires room { array_vec_len out.old ≤ 24 }
+    requires room { array_vec_len out.old ≤ 36 }
     requires short { IfSome pdol.now (λ list. length list.items ≤ 200) }
     ensures items { out.new.items ≡ out.old.items ++ written_some 0x9F38 (option_map (λ list. list.items) pdol.now) }
     ensures len { array_vec_len out.new ≤ array_vec_len out.old + 204 }

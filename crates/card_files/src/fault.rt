@@ -24,7 +24,7 @@ pub enum ImageFault {
     Field { app: u8, key: ArrayVec<u8, 16> },
     /// An earlier application has the name of this one, counted from 0.
     SameName { app: u8 },
-    /// No memory is left. No rule of today takes any, so that none is answered with it.
+    /// No memory is left. No rule takes any today, so that `Image::new` does not answer with it.
     OutOfMemory,
 }
 

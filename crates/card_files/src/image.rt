@@ -39,9 +39,11 @@ impl Model for Image {
 }
 
 impl Image {
-    /// The image of these applications, or their first fault: `Count` exactly where they aren't 1 to 4;
-    /// else `Field` with the first key against its rule, application by application, the keys in the
-    /// order of the scenario's table `app` and `opening` behind them; else `SameName`.
+    /// The image of these applications, or their first fault. `Count` comes exactly where they aren't 1
+    /// to 4. Else `Field` comes, application by application, with the first key against its rule, in the
+    /// order `name`, `label`, `pdol`, `afl`, `gpo_format`, `ac_format`, `cdol1`, `cdol2`, `record`,
+    /// `pan`, `sequence`, `currency`, `sum_limit`, `pin`, `tries`, `opening`. Where no application has
+    /// such a key, `SameName` comes for the first one whose name an earlier one has. No memory is taken.
     pub fn new(apps: Vec<AppImage>) -> Result<Image, ImageFault>
         ensures exact { MatchResult result
             (λ image. (image ≡ seen_apps apps.items) × (image_fault (seen_apps apps.items) ≡ None))
@@ -66,7 +68,7 @@ impl Image {
     }
 
     /// The application of this number, where there is one.
-    fn app(&self, app: u8) -> Option<&AppImage>
+    fn find(&self, app: u8) -> Option<&AppImage>
         ensures found { option_map (λ image. seen_app image.now) result ≡ slice_get self.now app }
         ensures rules { IfSome result (λ image. KeepsRules (seen_app image.now)) }
     {
@@ -80,7 +82,7 @@ impl Image {
         ensures exact { option_map (λ bytes. bytes.now) result ≡ record_of self.now app sfi number }
         ensures size { IfSome result (λ bytes. (1 ≤ length bytes.now) × (length bytes.now ≤ 256)) }
     {
-        match self.app(app) {
+        match self.find(app) {
             Some(image) => record_in(&image.records, sfi, number),
             None => None,
         }
@@ -91,7 +93,7 @@ impl Image {
     pub fn has_file(&self, app: u8, sfi: u8) -> bool
         ensures { result ≡ spec.has_file self.now app sfi }
     {
-        match self.app(app) {
+        match self.find(app) {
             Some(image) => is_file(&image.records, sfi),
             None => false,
         }

@@ -408,7 +408,7 @@ fn keeps_to_the_limits_of_lists(rt: HostRuntime) -> Result<(), Fail> {
         ([0x9f, 0x02], false),
     ] {
         assert!(rt; is_pdol(&bytes) == is);
-        assert!(rt; is_cdol2(&bytes) == false);
+        assert!(rt; !is_cdol2(&bytes));
     }
     for (bytes, is) in [
         ([0x8a, 0x02, 0x9a, 250], true),

@@ -1,10 +1,7 @@
-use Rattle.std.proofs.Common.{◌≡◌, ◌<◌, ◌≤◌, ◌∙◌, List, ℕ, length, ap, get_or, sym, arith, refl}
-use Rattle.std.specs.Prelude.{slice_get, Some, None, IfSome, Option, option_map}
-use Rattle.std.proofs.lemmas.List.{length-map}
-use Rattle.card_files.specs.Control.{fci_bytes}
+use Rattle.std.proofs.Common.{◌≡◌, ◌<◌, length, arith}
+use Rattle.std.specs.Prelude.{slice_get, Some}
 use Rattle.card_files.specs.Kept.{KeepsRules}
-use Rattle.card_files.specs.SeenApp.{seen_app, seen_apps}
-use Rattle.card_files.specs.Views.{AppData}
+use Rattle.card_files.specs.SeenApp.{seen_app}
 use Rattle.card_files.specs.declared.app.AppImage.{AppImage}
 use Rattle.card_files.proofs.SizeLemmas.{label_size, pdol_size, lookup}
 use Rattle.card_files.proofs.image.Image.fci.Goals as goal

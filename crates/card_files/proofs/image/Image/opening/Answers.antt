@@ -1,7 +1,5 @@
-use Rattle.std.proofs.Common.{◌≡◌, ◌∙◌, List, map, length, take, ap, arith}
+use Rattle.std.proofs.Common.{◌≡◌, ◌∙◌, List, map, take, ap}
 use Rattle.std.proofs.lemmas.List.{take_all}
-use Rattle.card_state.specs.declared.state.AppState.{AppState}
-use Rattle.card_files.specs.Files.{opening_of}
 use Rattle.card_files.specs.declared.app.AppImage.{AppImage}
 use Rattle.card_files.proofs.OpeningLemmas.{opened}
 use Rattle.card_files.proofs.image.Image.opening.Goals as goal
