@@ -330,7 +330,7 @@ fn finds_records_and_opens(rt: HostRuntime) -> Result<(), Fail> {
 }
 
 #[test]
-fn keeps_to_the_limits_of_texts_and_numbers(rt: HostRuntime) {
+fn keeps_to_the_limits_of_texts(rt: HostRuntime) {
     let bytes = [0x41; 260];
     for (size, name, label, afl) in [
         (0, false, false, true),
@@ -349,6 +349,10 @@ fn keeps_to_the_limits_of_texts_and_numbers(rt: HostRuntime) {
     for (character, is) in [(0x1f, false), (0x20, true), (0x7e, true), (0x7f, false)] {
         assert!(rt; is_label(&[0x41, character]) == is, "at {character}");
     }
+}
+
+#[test]
+fn keeps_to_the_limits_of_numbers(rt: HostRuntime) {
     for (number, format, tries) in [
         (0, false, true),
         (1, true, true),
