@@ -15,7 +15,7 @@ is_within least most n = nat_le least n && nat_le n most
 abbrev pub has_size : {A : Type 0} → ℕ → ℕ → List A → Bool
 has_size least most xs = is_within least most (length xs)
 
--- an application's name, which is no shorter than a registered one
+-- an application's name: the five bytes of a registered provider, and up to eleven of its own
 abbrev pub is_name : List ℕ → Bool
 is_name bytes = has_size 5 16 bytes
 

@@ -1,8 +1,8 @@
 //! The rules of an application's object lists.
-ghost use Rattle.std.specs.Prelude.{◌≡◌, ◌≤◌, option_map, nat_le, if◌then◌else◌, Some, None};
+ghost use Rattle.std.specs.Prelude.{◌≡◌, ◌≤◌, length, option_map, Ok, IfSome, nat_le, if◌then◌else◌, Some, None};
 ghost use Rattle.card_files.specs.Lists as spec;
 ghost use Rattle.card_files.specs.Lists.{entries_within, has_all, cdol1_entries, cdol2_entries, is_optional_pdol as optional_pdol_test, most_data};
-ghost use Rattle.object_lists.specs.DolEntries.{total_of};
+ghost use Rattle.object_lists.specs.DolEntries.{dol_of, total_of};
 
 use ber_tlv::Tag;
 use object_lists::{Dol, place, read_dol, total};
@@ -47,12 +47,15 @@ pub fn has_cdol2_entries(dol: &Dol) -> bool
     has_entry(dol, 0x8a, 2)
 }
 
-/// The object list of these bytes, where they are at most `most`, can be read and want at most 252
-/// bytes of data.
+/// The object list of these bytes, where they are at most `most`, can be read (EMV 4.3 Book 3 section
+/// 5.4) and want at most 252 bytes of data.
 #[tactic(auto, unfolding(crate::specs::Lists::entries_within))]
-fn list_within(bytes: &[u8], most: usize) -> Option<Dol>
+pub fn list_within(bytes: &[u8], most: usize) -> Option<Dol>
     requires { most ≤ 255 }
-    ensures { result ≡ entries_within most bytes.now }
+    ensures exact { result ≡ entries_within most bytes.now }
+    ensures short { IfSome result (λ _. length bytes.now ≤ most) }
+    ensures read { IfSome result (λ dol. dol_of bytes.now ≡ Ok dol) }
+    ensures fits { IfSome result (λ dol. total_of dol ≤ most_data) }
 {
     if bytes.len() > most {
         return None;
@@ -65,7 +68,9 @@ fn list_within(bytes: &[u8], most: usize) -> Option<Dol>
 
 /// The list, where it wants at most 252 bytes of data.
 fn fitting(dol: Dol) -> Option<Dol>
-    ensures { result ≡ (if nat_le (total_of dol) most_data then Some dol else None) }
+    ensures exact { result ≡ (if nat_le (total_of dol) most_data then Some dol else None) }
+    ensures same { IfSome result (λ found. found ≡ dol) }
+    ensures fits { IfSome result (λ found. total_of found ≤ most_data) }
 {
     if total(&dol) <= MOST_DATA {
         Some(dol)
