@@ -1,0 +1,100 @@
+-- Where a card has no fault, every key of its applications keeps to its rule.
+use Rattle.std.proofs.Common.{◌≡◌, ℕ, zero, suc, ◌+◌, ◌≤◌, Bool, true, false, List, [], ◌∷◌, ◌++◌, length, get_or, Option, Some, None, is_some, option_map, refl, ap, arith}
+use Rattle.std.specs.Prelude.{if◌then◌else◌, nat_le}
+use Rattle.std.specs.Option.{option_or}
+use Rattle.std.specs.List.{All}
+use Rattle.std.proofs.lemmas.Bool.{true≢false, and_parts, leb-true}
+use Rattle.std.proofs.lemmas.List.{get_or-map, length-map}
+use Rattle.card_files.specs.AppRules.{is_within}
+use Rattle.card_files.specs.Faults.{Line, Fault, OfField, OfCount, file_lines, state_lines, first_broken, app_fault, field_fault, name_fault, image_fault}
+use Rattle.card_files.specs.Kept.{KeepsRules}
+use Rattle.card_files.specs.SeenApp.{seen_app, seen_apps}
+use Rattle.card_files.specs.Views.{AppData}
+use Rattle.card_files.specs.declared.app.AppImage.{AppImage}
+
+some_is_not_none : {A : Type 0} (x : A) → Some x ≡ None → true ≡ false
+some_is_not_none x e = ap is_some e
+
+-- the head and the rest of lines none of which is broken
+head_holds : (holds : Bool) (key : List ℕ) (rest : Option (List ℕ)) → (if holds then rest else Some key) ≡ None → (holds ≡ true) × (rest ≡ None)
+head_holds true key rest none = (refl, none)
+head_holds false key rest none = absurd (true≢false (some_is_not_none key none))
+
+abbrev blank : Line
+blank = ([], true)
+
+rule : (ls : List Line) → first_broken ls ≡ None → (k : ℕ) → (get_or ls k blank).1 ≡ true
+rule [] none zero = refl
+rule [] none (suc k) = refl
+rule (l ∷ ls) none zero = (head_holds l.1 l.0 (first_broken ls) none).0
+rule (l ∷ ls) none (suc k) = rule ls (head_holds l.1 l.0 (first_broken ls) none).1 k
+
+kept : (app : AppData) → app_fault app ≡ None → KeepsRules app
+unfolding app_fault file_lines state_lines
+kept app none =
+    let at = rule (file_lines app ++ state_lines app) none in
+    record {
+      name = at 0;
+      label = at 1;
+      pdol = at 3;
+      afl = at 5;
+      gpo_format = at 6;
+      ac_format = at 7;
+      cdol1 = at 8;
+      cdol2 = at 9;
+      records = at 10;
+      pan = at 11;
+      sequence = at 12;
+      currency = at 13;
+      sum_limit = at 17;
+      pin = at 18;
+      tries = at 19;
+      opening = at 22;
+    }
+
+first_none : {A : Type 0} (a b : Option A) → option_or a b ≡ None → (a ≡ None) × (b ≡ None)
+first_none None b none = (refl, none)
+first_none (Some x) b none = absurd (true≢false (some_is_not_none x none))
+
+unmapped : {A B : Type 0} (f : A → B) (o : Option A) → option_map f o ≡ None → o ≡ None
+unmapped f None none = refl
+unmapped f (Some x) none = absurd (true≢false (some_is_not_none (f x) none))
+
+each_kept : (number : ℕ) (apps : List AppData) → field_fault number apps ≡ None → All (λ app. KeepsRules app) apps
+each_kept number [] none k d within = absurd (omega arith)
+each_kept number (app ∷ apps) none zero d within =
+    let parts = first_none (option_map (OfField number) (app_fault app)) (field_fault (number + 1) apps) none in
+    kept app (unmapped (OfField number) (app_fault app) parts.0)
+each_kept number (app ∷ apps) none (suc k) d within =
+    let parts = first_none (option_map (OfField number) (app_fault app)) (field_fault (number + 1) apps) none in
+    each_kept (number + 1) apps parts.1 k d (omega arith)
+
+counted : (test : Bool) (count : ℕ) (rest : Option Fault) → (if test then rest else Some (OfCount count)) ≡ None → (test ≡ true) × (rest ≡ None)
+counted true count rest none = (refl, none)
+counted false count rest none = absurd (true≢false (some_is_not_none (OfCount count) none))
+
+all_kept : (apps : List AppData) → image_fault apps ≡ None → All (λ app. KeepsRules app) apps
+unfolding image_fault
+all_kept apps none =
+    let parts = counted (is_within 1 4 (length apps)) (length apps) (option_or (field_fault 0 apps) (name_fault [] apps)) none in
+    each_kept 0 apps (first_none (field_fault 0 apps) (name_fault [] apps) parts.1).0
+
+count_kept : (apps : List AppData) → image_fault apps ≡ None → (1 ≤ length apps) × (length apps ≤ 4)
+unfolding image_fault
+count_kept apps none =
+    let parts = counted (is_within 1 4 (length apps)) (length apps) (option_or (field_fault 0 apps) (name_fault [] apps)) none in
+    let ends = and_parts (nat_le 1 (length apps)) (nat_le (length apps) 4) parts.0 in
+    (leb-true 1 (length apps) ends.0, leb-true (length apps) 4 ends.1)
+
+-- the same of the applications as they are
+pub all_of_images : (apps : List AppImage) → image_fault (seen_apps apps) ≡ None → All (λ app. KeepsRules (seen_app app)) apps
+all_of_images apps none k d within =
+    let long : length (seen_apps apps) ≡ length apps = length-map apps seen_app in
+    let at : KeepsRules (get_or (seen_apps apps) k (seen_app d)) = all_kept (seen_apps apps) none k (seen_app d) (omega arith) in
+    rw (get_or-map seen_app apps k d (seen_app d) within) at at
+
+pub count_of_images : (apps : List AppImage) → image_fault (seen_apps apps) ≡ None → (1 ≤ length apps) × (length apps ≤ 4)
+count_of_images apps none =
+    let long : length (seen_apps apps) ≡ length apps = length-map apps seen_app in
+    let ends = count_kept (seen_apps apps) none in
+    (omega (arith, ends.0), omega (arith, ends.1))

@@ -1,0 +1,7 @@
+mod FaultLemmas
+mod Keeping
+mod Mapped
+mod NameLemmas
+mod OpeningLemmas
+mod PinLemmas
+mod SizeLemmas

@@ -1,0 +1,32 @@
+-- The sizes that the rules of an application allow.
+use Rattle.std.proofs.Common.{◌≡◌, ℕ, ◌<◌, ◌≤◌, Bool, true, false, List, length, get_or, Option, Some, None, is_some, option_map, refl, sym, ap, ◌∙◌}
+use Rattle.std.specs.Prelude.{if◌then◌else◌, IfSome, IsTrue, nat_le, slice_get}
+use Rattle.std.specs.List.{list_all}
+use Rattle.std.proofs.lemmas.Bool.{true≢false, and_parts, leb-true}
+use Rattle.std.proofs.lemmas.Option.{slice_get-map, slice_get-get_or}
+use Rattle.object_lists.specs.DolEntries.{DolEntry, dol_of}
+use Rattle.card_files.specs.AppRules.{is_label, is_printable, has_size}
+use Rattle.card_files.specs.Lists.{entries_within, fitting, is_optional_pdol}
+use Rattle.card_files.specs.SeenApp.{seen_app, seen_apps}
+use Rattle.card_files.specs.declared.app.AppImage.{AppImage}
+
+pub label_size : (text : List ℕ) → IsTrue (is_label text) → length text ≤ 16
+label_size text is =
+    let parts = and_parts (has_size 1 16 text) (list_all is_printable text) is in
+    let ends = and_parts (nat_le 1 (length text)) (nat_le (length text) 16) parts.0 in
+    leb-true (length text) 16 ends.1
+
+short_if : (test : Bool) (rest : Option (List DolEntry)) → is_some (if test then rest else None) ≡ true → test ≡ true
+short_if true rest some = refl
+short_if false rest some = absurd (true≢false (sym some))
+
+pub pdol_size : {V : Type 0} (bytes_of : V → List ℕ) (pdol : Option V) → IsTrue (is_optional_pdol (option_map bytes_of pdol))
+    → IfSome pdol (λ v. length (bytes_of v) ≤ 200)
+unfolding entries_within
+pdol_size bytes_of None is = tt
+pdol_size bytes_of (Some v) is =
+    leb-true (length (bytes_of v)) 200 (short_if (nat_le (length (bytes_of v)) 200) (fitting (dol_of (bytes_of v))) is)
+
+pub lookup : (apps : List AppImage) (k : ℕ) (x : AppImage) → k < length apps → x ≡ get_or apps k x → slice_get (seen_apps apps) k ≡ Some (seen_app x)
+lookup apps k x within is =
+    slice_get-map seen_app apps k ∙ ap (λ (o : Option AppImage). option_map seen_app o) (slice_get-get_or apps k x within ∙ ap (λ (y : AppImage). Some y) (sym is))

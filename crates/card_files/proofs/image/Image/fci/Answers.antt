@@ -1,0 +1,31 @@
+use Rattle.std.proofs.Common.{◌≡◌, ◌<◌, length, arith}
+use Rattle.std.specs.Prelude.{slice_get, Some}
+use Rattle.card_files.specs.Kept.{KeepsRules}
+use Rattle.card_files.specs.SeenApp.{seen_app}
+use Rattle.card_files.specs.declared.app.AppImage.{AppImage}
+use Rattle.card_files.proofs.SizeLemmas.{label_size, pdol_size, lookup}
+use Rattle.card_files.proofs.image.Image.fci.Goals as goal
+
+pub write_fci-requires-clause-label : goal.write_fci-requires-clause-label
+unfolding seen_app
+write_fci-requires-clause-label c =
+    let app : AppImage = c.index-apps-from.result in
+    let within : c.from.result < length c.apps.result.now = omega arith in
+    let kept : KeepsRules (seen_app app) = rw (← c.index-apps-from.is) at (c.apps.ensures.rules c.from.result app within) in
+    label_size app.label.items kept.label
+
+pub write_fci-requires-clause-pdol : goal.write_fci-requires-clause-pdol
+unfolding seen_app
+write_fci-requires-clause-pdol c =
+    let app : AppImage = c.index-apps-from.result in
+    let within : c.from.result < length c.apps.result.now = omega arith in
+    let kept : KeepsRules (seen_app app) = rw (← c.index-apps-from.is) at (c.apps.ensures.rules c.from.result app within) in
+    pdol_size (λ list. list.items) app.pdol kept.pdol
+
+pub returns : goal.returns
+returns c =
+    let app : AppImage = c.index-apps-from.result in
+    let within : c.from.result < length c.apps.result.now = omega arith in
+    let there : slice_get c.args.self.now c.args.app ≡ Some (seen_app app) =
+    rw (c.apps.ensures.apps, c.from.ensures) at (lookup c.apps.result.now c.from.result app within c.index-apps-from.is) in
+    rw there c.write_fci.ensures

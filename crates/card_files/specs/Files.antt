@@ -1,0 +1,30 @@
+-- The files of a card's applications and their opening states.
+use Rattle.std.specs.Prelude.{ℕ, Bool, false, ◌==◌, ◌&&◌, if◌then◌else◌, List, [], ◌∷◌, map, slice_get, Option, Some, None, option_and_then}
+use Rattle.std.specs.List.{list_any}
+use Rattle.card_state.specs.declared.state.CardState.{CardState}
+use Rattle.card_files.specs.Views.{RecordData, AppData}
+
+-- the bytes of the first record of a file with this number
+abbrev pub record_in : ℕ → ℕ → List RecordData → Option (List ℕ)
+record_in sfi number [] = None
+record_in sfi number (r ∷ rs) = (if r.sfi == sfi && r.number == number then Some r.bytes else record_in sfi number rs)
+
+-- any record of the file is there
+abbrev pub has_record_of : ℕ → List RecordData → Bool
+has_record_of sfi rs = list_any (λ r. r.sfi == sfi) rs
+
+-- a record of an application: none where there is no such application, file or number
+abbrev pub record_of : List AppData → ℕ → ℕ → ℕ → Option (List ℕ)
+record_of apps app sfi number = option_and_then (λ a. record_in sfi number a.records) (slice_get apps app)
+
+abbrev pub file_in : ℕ → Option AppData → Bool
+file_in sfi (Some a) = has_record_of sfi a.records
+file_in sfi None = false
+
+-- an application has a file of this identifier
+abbrev pub has_file : List AppData → ℕ → ℕ → Bool
+has_file apps app sfi = file_in sfi (slice_get apps app)
+
+-- the state of a card before its first decision
+abbrev pub opening_of : List AppData → CardState
+opening_of apps = record { blocked = false; apps = record { items = map (λ a. a.opening) apps } }

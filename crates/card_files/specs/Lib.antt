@@ -1,0 +1,10 @@
+pub mod AppRules
+pub mod Control
+pub mod Faults
+pub mod Files
+pub mod Kept
+pub mod Lists
+pub mod Seen
+pub mod SeenApp
+pub mod Views
+pub mod SeenFault

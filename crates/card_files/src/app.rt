@@ -1,0 +1,58 @@
+use card_state::AppState;
+use emv_dict::{Digits, Name};
+use triple_des::Key16;
+
+/// A record of a file of a card (EMV 4.3 Book 3 section 5.3).
+#[derive(Drop)]
+pub struct RecordImage {
+    /// The short file identifier, from 1 to 30.
+    pub sfi: u8,
+    /// The record number, from 1 to 255.
+    pub number: u8,
+    /// The record's bytes, from 1 to 256.
+    pub bytes: Vec<u8>,
+}
+
+/// An application as it stands on a card before its first transaction.
+#[derive(Drop)]
+pub struct AppImage {
+    /// The application's name on the card, the DF name, object 84: 5 to 16 bytes.
+    pub name: Name,
+    /// The application label, object 50: 1 to 16 printable characters of ASCII.
+    pub label: Vec<u8>,
+    /// The application priority indicator, object 87.
+    pub priority: Option<u8>,
+    /// The processing options data object list, object 9F38: at most 200 bytes that want at most 252.
+    pub pdol: Option<Vec<u8>>,
+    /// The application interchange profile, object 82 (EMV 4.3 Book 3 Annex C1).
+    pub aip: [u8; 2],
+    /// The application file locator, object 94: at most 248 bytes.
+    pub afl: Vec<u8>,
+    /// The format of the answer to GET PROCESSING OPTIONS, 1 or 2 (EMV 4.3 Book 3 section 6.5.8.4).
+    pub gpo_format: u8,
+    /// The format of the answer to GENERATE AC, 1 or 2 (EMV 4.3 Book 3 section 6.5.5.4).
+    pub ac_format: u8,
+    /// The object list of the first GENERATE AC, object 8C: at most 252 bytes that want at most 252.
+    pub cdol1: Vec<u8>,
+    /// The object list of the second GENERATE AC, object 8D: at most 252 bytes that want at most 252.
+    pub cdol2: Vec<u8>,
+    /// At most 64 records, no two of one number in one file.
+    pub records: Vec<RecordImage>,
+    /// The primary account number: 13 to 16 digits.
+    pub pan: Digits,
+    /// The account number's sequence number, object 5F34: the byte of its two decimal digits.
+    pub sequence: u8,
+    /// The currency in which the card counts offline amounts: a zero and three decimal digits.
+    pub currency: [u8; 2],
+    /// The state before the first decision. Its count and sum are 0, no issuer authentication has
+    /// failed, and its tries are `tries`.
+    pub opening: AppState,
+    /// The PIN try limit, at most 15.
+    pub tries: u8,
+    /// The master key for application cryptograms (EMV 4.3 Book 2 section 8.1).
+    pub ac_key: Key16,
+    /// The master key for the codes of script commands (EMV 4.3 Book 2 section 9.2).
+    pub mac_key: Key16,
+    /// The master key for enciphered data of script commands (EMV 4.3 Book 2 section 9.3).
+    pub enc_key: Key16,
+}

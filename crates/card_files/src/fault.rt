@@ -1,0 +1,200 @@
+//! The first fault of a card's applications.
+ghost use Rattle.std.specs.Prelude.{◌≡◌, ◌+◌, ◌≤◌, List, ℕ, [], length, map, Some, None, IfSome, option_map, option_copied};
+ghost use Rattle.std.specs.List.{list_any};
+ghost use Rattle.std.specs.Str.{bytes_eq};
+ghost use Rattle.card_files.specs.Faults as spec;
+ghost use Rattle.card_files.specs.Faults.{first_broken, file_lines, state_lines, app_fault, field_fault, name_fault, image_fault, OfField};
+ghost use Rattle.card_files.specs.SeenApp.{seen_app, seen_apps};
+ghost use Rattle.card_files.specs.SeenFault.{seen_fault};
+
+use crate::app::AppImage;
+use crate::lists::{is_cdol1, is_cdol2, is_optional_pdol};
+use crate::rules::{
+    are_records, is_afl, is_currency, is_format, is_label, is_name, is_opening, is_pan,
+    is_reference_pin, is_sequence, is_sum_limit, is_tries,
+};
+use arrayvec::ArrayVec;
+
+/// Why applications are no card's.
+#[derive(Drop, PartialEq, Eq, Debug)]
+pub enum ImageFault {
+    /// So many applications, and not 1 to 4.
+    Count(usize),
+    /// The value of this application, counted from 0, at this key is against the key's rule.
+    Field { app: u8, key: ArrayVec<u8, 16> },
+    /// An earlier application has the name of this one, counted from 0.
+    SameName { app: u8 },
+    /// No memory is left. No rule takes any today, so that `Image::new` does not answer with it.
+    OutOfMemory,
+}
+
+/// The first key of the application's files that is against its rule.
+#[tactic(auto, unfolding(crate::specs::Faults::file_lines, crate::specs::SeenApp::seen_app))]
+fn first_file_key(app: &AppImage) -> Option<&'static str>
+    ensures key { option_copied result ≡ first_broken (file_lines (seen_app app.now)) }
+    ensures short { IfSome result (λ key. length key.now ≤ 16) }
+{
+    if !is_name(app.name.as_slice()) {
+        return Some("name");
+    }
+    if !is_label(&app.label) {
+        return Some("label");
+    }
+    if !is_optional_pdol(&app.pdol) {
+        return Some("pdol");
+    }
+    if !is_afl(&app.afl) {
+        return Some("afl");
+    }
+    if !is_format(app.gpo_format) {
+        return Some("gpo_format");
+    }
+    if !is_format(app.ac_format) {
+        return Some("ac_format");
+    }
+    if !is_cdol1(&app.cdol1) {
+        return Some("cdol1");
+    }
+    if !is_cdol2(&app.cdol2) {
+        return Some("cdol2");
+    }
+    if !are_records(&app.records) {
+        return Some("record");
+    }
+    None
+}
+
+/// The first key of the application's account and state that is against its rule.
+#[tactic(auto, unfolding(crate::specs::Faults::state_lines, crate::specs::SeenApp::seen_app))]
+fn first_state_key(app: &AppImage) -> Option<&'static str>
+    ensures key { option_copied result ≡ first_broken (state_lines (seen_app app.now)) }
+    ensures short { IfSome result (λ key. length key.now ≤ 16) }
+{
+    if !is_pan(&app.pan) {
+        return Some("pan");
+    }
+    if !is_sequence(app.sequence) {
+        return Some("sequence");
+    }
+    if !is_currency(app.currency) {
+        return Some("currency");
+    }
+    if !is_sum_limit(app.opening.sum_limit) {
+        return Some("sum_limit");
+    }
+    if !is_reference_pin(app.opening.pin) {
+        return Some("pin");
+    }
+    if !is_tries(app.tries) {
+        return Some("tries");
+    }
+    if !is_opening(&app.opening, app.tries) {
+        return Some("opening");
+    }
+    None
+}
+
+/// The first key of the application that is against its rule.
+#[tactic(auto, unfolding(crate::specs::Faults::app_fault), using(crate::proofs::FaultLemmas::first_broken_append))]
+fn first_key(app: &AppImage) -> Option<&'static str>
+    ensures key { option_copied result ≡ app_fault (seen_app app.now) }
+    ensures short { IfSome result (λ key. length key.now ≤ 16) }
+{
+    match first_file_key(app) {
+        Some(key) => Some(key),
+        None => first_state_key(app),
+    }
+}
+
+/// The bytes of a key's name.
+fn key_bytes(key: &str) -> ArrayVec<u8, 16>
+    requires { length key.now ≤ 16 }
+    ensures { result.items ≡ key.now }
+{
+    let mut bytes = ArrayVec::new();
+    if bytes.try_extend_from_slice(key.as_bytes()).is_err() {
+        unreachable!();
+    }
+    bytes
+}
+
+/// The application's first key that is against its rule, as a fault of the application of this number.
+fn field_of(number: u8, app: &AppImage) -> Option<ImageFault>
+    ensures { option_map seen_fault result ≡ option_map (OfField number) (app_fault (seen_app app.now)) }
+{
+    match first_key(app) {
+        Some(key) => Some(ImageFault::Field {
+            app: number,
+            key: key_bytes(key),
+        }),
+        None => None,
+    }
+}
+
+/// The first key of any application, the applications counted from this number on.
+fn first_field(number: u8, apps: &[AppImage]) -> Option<ImageFault>
+    requires { number + length apps.now ≤ 4 }
+    ensures { option_map seen_fault result ≡ field_fault number (seen_apps apps.now) }
+{
+    match apps {
+        [] => None,
+        [first, rest @ ..] => match field_of(number, first) {
+            Some(fault) => Some(fault),
+            None => first_field(number + 1, rest),
+        },
+    }
+}
+
+#[tactic(auto, unfolding(crate::specs::SeenApp::seen_app))]
+fn has_name(app: &AppImage, name: &[u8]) -> bool
+    ensures { result ≡ bytes_eq (seen_app app.now).name name.now }
+{
+    app.name.as_slice() == name
+}
+
+fn any_named(apps: &[AppImage], name: &[u8]) -> bool
+    ensures { result ≡ list_any (λ other. bytes_eq (seen_app other).name name.now) apps.now }
+{
+    apps.iter().any(|other| has_name(other, name))
+}
+
+fn is_named(apps: &[AppImage], name: &[u8]) -> bool
+    ensures { result ≡ list_any (λ other. bytes_eq other.name name.now) (seen_apps apps.now) }
+{
+    any_named(apps, name)
+}
+
+#[tactic(auto, unfolding(crate::specs::SeenApp::seen_app))]
+fn is_repeated(apps: &[AppImage], app: &AppImage) -> bool
+    ensures { result ≡ list_any (λ other. bytes_eq other.name (seen_app app.now).name) (seen_apps apps.now) }
+{
+    is_named(apps, app.name.as_slice())
+}
+
+/// The first application whose name an earlier one has.
+fn first_same_name(apps: &[AppImage]) -> Option<ImageFault>
+    requires { length apps.now ≤ 4 }
+    ensures { option_map seen_fault result ≡ name_fault [] (seen_apps apps.now) }
+{
+    for i in 0..apps.len() {
+        if is_repeated(&apps[..i], &apps[i]) {
+            return Some(ImageFault::SameName { app: i as u8 });
+        }
+    }
+    None
+}
+
+/// The first fault of a card's applications: their number; else the first key of any application, the
+/// applications in order; else the first name that an earlier application has.
+#[tactic(auto, unfolding(crate::specs::Faults::image_fault))]
+pub(crate) fn first_fault(apps: &[AppImage]) -> Option<ImageFault>
+    ensures { option_map seen_fault result ≡ image_fault (seen_apps apps.now) }
+{
+    if apps.is_empty() || apps.len() > 4 {
+        return Some(ImageFault::Count(apps.len()));
+    }
+    match first_field(0, apps) {
+        Some(fault) => Some(fault),
+        None => first_same_name(apps),
+    }
+}

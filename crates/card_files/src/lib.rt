@@ -1,0 +1,19 @@
+//! The images of a card's applications: what stands on a card before its first transaction, the rules
+//! that an image keeps to, and its files (EMV 4.3 Book 3 section 5.3) with the file control
+//! information (EMV 4.3 Book 1 section 11.3.4).
+#![tactic(auto)]
+
+pub mod app;
+mod control;
+pub mod fault;
+mod files;
+pub mod image;
+pub mod lists;
+pub mod rules;
+
+pub use app::{AppImage, RecordImage};
+pub use fault::ImageFault;
+pub use image::Image;
+
+#[cfg(test)]
+mod tests;

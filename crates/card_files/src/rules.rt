@@ -1,0 +1,172 @@
+//! The rules of an application's keys.
+ghost use Rattle.std.specs.Prelude.{◌≡◌, ◌==◌, ◌&&◌, length};
+ghost use Rattle.std.specs.List.{list_all, list_any};
+ghost use Rattle.emv_dict.specs.Date as date;
+ghost use Rattle.emv_dict.specs.Pan as pan_spec;
+ghost use Rattle.emv_dict.specs.Settings as settings;
+ghost use Rattle.card_files.specs.AppRules as spec;
+ghost use Rattle.card_files.specs.Seen.{seen_record, seen_records};
+
+use crate::app::RecordImage;
+use card_state::AppState;
+use emv_dict::Digits;
+use pin_block::read_plain;
+
+/// The most bytes of an image's application file locator: 62 entries of four bytes.
+pub const MOST_AFL: usize = 248;
+
+/// The most records of an application.
+pub const MOST_RECORDS: usize = 64;
+
+/// Whether the bytes are an application's name: 5 to 16 of them (EMV 4.3 Book 1 section 12.2.1).
+pub fn is_name(bytes: &[u8]) -> bool
+    ensures { result ≡ spec.is_name bytes.now }
+{
+    5 <= bytes.len() && bytes.len() <= 16
+}
+
+/// Whether each byte is a printable character of ASCII, from 20 to 7E.
+pub fn is_printable_text(text: &[u8]) -> bool
+    ensures { result ≡ list_all spec.is_printable text.now }
+{
+    text.iter().all(|c| 32 <= *c && *c <= 126)
+}
+
+/// Whether the bytes are an application label: 1 to 16 printable characters of ASCII.
+pub fn is_label(text: &[u8]) -> bool
+    ensures { result ≡ spec.is_label text.now }
+{
+    (!text.is_empty() && text.len() <= 16) && is_printable_text(text)
+}
+
+/// Whether the bytes may be an image's application file locator: at most 248 of them.
+pub fn is_afl(bytes: &[u8]) -> bool
+    ensures { result ≡ spec.is_afl bytes.now }
+{
+    bytes.len() <= MOST_AFL
+}
+
+/// Whether the number names a format of a command's answer: 1 or 2.
+pub fn is_format(number: u8) -> bool
+    ensures { result ≡ spec.is_format number }
+{
+    number == 1 || number == 2
+}
+
+/// Whether a file's identifier is 1 to 30, the record's number 1 to 255, and its size 1 to 256 bytes.
+#[tactic(auto, unfolding(crate::specs::Seen::seen_record))]
+pub fn is_record(image: &RecordImage) -> bool
+    ensures { result ≡ spec.is_record (seen_record image.now) }
+{
+    (1 <= image.sfi && image.sfi <= 30)
+        && 1 <= image.number
+        && (!image.bytes.is_empty() && image.bytes.len() <= 256)
+}
+
+fn all_records(images: &[RecordImage]) -> bool
+    ensures { result ≡ list_all (λ r. spec.is_record (seen_record r)) images.now }
+{
+    images.iter().all(is_record)
+}
+
+/// Whether the two records have one number in one file.
+#[tactic(auto, unfolding(crate::specs::Seen::seen_record))]
+pub fn is_pair(first: &RecordImage, second: &RecordImage) -> bool
+    ensures { result ≡ spec.is_pair (seen_record first.now) (seen_record second.now) }
+{
+    first.sfi == second.sfi && first.number == second.number
+}
+
+fn any_pair(image: &RecordImage, images: &[RecordImage]) -> bool
+    ensures { result ≡ list_any (λ other. spec.is_pair (seen_record image.now) (seen_record other)) images.now }
+{
+    images.iter().any(|other| is_pair(image, other))
+}
+
+/// Whether any of these records has the number of this one in its file.
+pub fn is_among(image: &RecordImage, images: &[RecordImage]) -> bool
+    ensures { result ≡ list_any (spec.is_pair (seen_record image.now)) (seen_records images.now) }
+{
+    any_pair(image, images)
+}
+
+/// Whether any two records have one number in one file.
+pub fn has_twins(images: &[RecordImage]) -> bool
+    ensures { result ≡ spec.has_twins (seen_records images.now) }
+{
+    match images {
+        [] => false,
+        [first, rest @ ..] => is_among(first, rest) || has_twins(rest),
+    }
+}
+
+fn each_record(images: &[RecordImage]) -> bool
+    ensures { result ≡ list_all spec.is_record (seen_records images.now) }
+{
+    all_records(images)
+}
+
+/// Whether these may be an application's records: at most 64, each in its limits, and no two of one
+/// number in one file.
+pub fn are_records(images: &[RecordImage]) -> bool
+    ensures { result ≡ spec.are_records (seen_records images.now) }
+{
+    images.len() <= MOST_RECORDS && (each_record(images) && !has_twins(images))
+}
+
+/// Whether there are 13 to 16 digits, as an account number of this profile has.
+pub fn is_pan(digits: &Digits) -> bool
+    ensures { result ≡ pan_spec.is_pan_length (length digits.now) }
+{
+    13 <= digits.len() && digits.len() <= 16
+}
+
+/// Whether the byte has two decimal digits, as an account number's sequence number.
+pub fn is_sequence(byte: u8) -> bool
+    ensures { result ≡ date.has_digits byte }
+{
+    byte / 16 <= 9 && byte % 16 <= 9
+}
+
+/// Whether the two bytes are a currency's code: a zero and three decimal digits.
+pub fn is_currency(bytes: [u8; 2]) -> bool
+    ensures { result ≡ settings.is_code bytes }
+{
+    bytes[0] <= 9 && is_sequence(bytes[1])
+}
+
+/// Whether the sum has at most 12 decimal digits.
+pub fn is_sum_limit(sum: u64) -> bool
+    ensures { result ≡ spec.is_sum_limit sum }
+{
+    sum <= 999_999_999_999
+}
+
+/// Whether the bytes are a reference PIN: a plain block of format 2, or eight zero bytes for none.
+pub fn is_reference_pin(block: [u8; 8]) -> bool
+    ensures { result ≡ spec.is_reference_pin block }
+{
+    block == [0; 8] || is_plain_block(block)
+}
+
+/// Whether the bytes are a plain PIN block of format 2 with 4 to 12 digits.
+pub fn is_plain_block(block: [u8; 8]) -> bool
+    ensures { result ≡ spec.is_plain_block block }
+{
+    read_plain(block).is_some()
+}
+
+/// Whether this may be a PIN try limit: at most 15.
+pub fn is_tries(limit: u8) -> bool
+    ensures { result ≡ spec.is_tries limit }
+{
+    limit <= 15
+}
+
+/// Whether nothing is counted in the state yet, no issuer authentication has failed, and its PIN tries
+/// are the limit.
+pub fn is_opening(state: &AppState, tries: u8) -> bool
+    ensures { result ≡ spec.is_opening tries state.now }
+{
+    (state.count == 0 && state.sum == 0) && (!state.auth_failed && state.tries == tries)
+}

@@ -1,0 +1,467 @@
+use super::*;
+use crate::lists::{is_cdol1, is_cdol2, is_pdol};
+use crate::rules::{
+    are_records, is_afl, is_among, is_currency, is_format, is_label, is_name, is_pan,
+    is_reference_pin, is_sequence, is_sum_limit, is_tries,
+};
+use arrayvec::ArrayVec;
+use card_state::{AppState, CardState};
+use emv_dict::{Digits, Name};
+use std::alloc::Global;
+use std::process::Abort;
+use std::test::Fail;
+use triple_des::Key16;
+
+const NAME: [u8; 7] = [0xa0, 0x00, 0x00, 0x00, 0x03, 0x10, 0x10];
+
+const LABEL: [u8; 6] = [0x43, 0x52, 0x45, 0x44, 0x49, 0x54];
+
+/// 9F02 06, 9F03 06, 9F1A 02, 95 05, 5F2A 02, 9A 03, 9C 01, 9F37 04.
+const CDOL1: [u8; 21] = [
+    0x9f, 0x02, 0x06, 0x9f, 0x03, 0x06, 0x9f, 0x1a, 0x02, 0x95, 0x05, 0x5f, 0x2a, 0x02, 0x9a, 0x03,
+    0x9c, 0x01, 0x9f, 0x37, 0x04,
+];
+
+const PAN: [u8; 16] = [4, 7, 6, 1, 7, 3, 9, 0, 0, 1, 0, 1, 0, 0, 1, 0];
+
+const PIN_1234: [u8; 8] = [0x24, 0x12, 0x34, 0xff, 0xff, 0xff, 0xff, 0xff];
+
+fn name_of(rt: &impl Abort, bytes: &[u8]) -> Name {
+    Name::new(bytes).expect(rt, "a name")
+}
+
+fn digits_of(rt: &impl Abort, digits: &[u8]) -> Digits {
+    Digits::new(digits).expect(rt, "digits")
+}
+
+fn record_of(alloc: Global, sfi: u8, number: u8, size: usize) -> Result<RecordImage, Fail> {
+    Ok(RecordImage {
+        sfi,
+        number,
+        bytes: vec![in alloc; 0x70; size]?,
+    })
+}
+
+fn opening() -> AppState {
+    AppState {
+        counter: 10,
+        last_online: 9,
+        count_limit: 5,
+        sum_limit: 20000,
+        tries: 3,
+        pin: PIN_1234,
+        ..AppState::default()
+    }
+}
+
+/// An application with records 1 and 2 of file 1 and record 1 of file 2.
+fn app_of(rt: &impl Abort, alloc: Global) -> Result<AppImage, Fail> {
+    let mut records = Vec::new(alloc);
+    records.push(record_of(alloc, 1, 1, 1)?)?;
+    records.push(record_of(alloc, 1, 2, 2)?)?;
+    records.push(record_of(alloc, 2, 1, 256)?)?;
+    Ok(AppImage {
+        name: name_of(rt, &NAME),
+        label: LABEL.to_vec(alloc)?,
+        priority: Some(1),
+        pdol: None,
+        aip: [0x1c, 0x00],
+        afl: [0x08, 0x01, 0x03, 0x00].to_vec(alloc)?,
+        gpo_format: 1,
+        ac_format: 1,
+        cdol1: CDOL1.to_vec(alloc)?,
+        cdol2: [0x8a, 0x02].to_vec(alloc)?,
+        records,
+        pan: digits_of(rt, &PAN),
+        sequence: 0x01,
+        currency: [0x08, 0x40],
+        opening: opening(),
+        tries: 3,
+        ac_key: Key16::new([0x01; 16]),
+        mac_key: Key16::new([0x23; 16]),
+        enc_key: Key16::new([0x45; 16]),
+    })
+}
+
+fn image_of(alloc: Global, app: AppImage) -> Result<Result<Image, ImageFault>, Fail> {
+    let mut apps = Vec::new(alloc);
+    apps.push(app)?;
+    Ok(Image::new(apps))
+}
+
+/// The control information of the only application.
+fn control_of(
+    rt: &impl Abort,
+    alloc: Global,
+    app: AppImage,
+    out: &mut ArrayVec<u8, 256>,
+) -> Result<(), Fail> {
+    let image = image_of(alloc, app)?.expect(rt, "an image");
+    assert!(rt; image.apps().len() == 1);
+    image.fci(0, out);
+    Ok(())
+}
+
+#[test]
+fn gives_control_information(rt: HostRuntime) -> Result<(), Fail> {
+    let alloc = rt.alloc();
+    let mut out = ArrayVec::new();
+    control_of(&rt, alloc, app_of(&rt, alloc)?, &mut out)?;
+    assert!(rt;
+        out.as_slice()
+            == [
+                0x6f, 0x16, 0x84, 0x07, 0xa0, 0x00, 0x00, 0x00, 0x03, 0x10, 0x10, 0xa5, 0x0b, 0x50,
+                0x06, 0x43, 0x52, 0x45, 0x44, 0x49, 0x54, 0x87, 0x01, 0x01,
+            ]
+            .as_slice()
+    );
+
+    let mut app = app_of(&rt, alloc)?;
+    app.pdol = Some(Vec::new(alloc));
+    control_of(&rt, alloc, app, &mut out)?;
+    assert!(rt;
+        out.as_slice()
+            == [
+                0x6f, 0x19, 0x84, 0x07, 0xa0, 0x00, 0x00, 0x00, 0x03, 0x10, 0x10, 0xa5, 0x0e, 0x50,
+                0x06, 0x43, 0x52, 0x45, 0x44, 0x49, 0x54, 0x87, 0x01, 0x01, 0x9f, 0x38, 0x00,
+            ]
+            .as_slice()
+    );
+
+    let mut app = app_of(&rt, alloc)?;
+    app.priority = None;
+    control_of(&rt, alloc, app, &mut out)?;
+    assert!(rt;
+        out.as_slice()
+            == [
+                0x6f, 0x13, 0x84, 0x07, 0xa0, 0x00, 0x00, 0x00, 0x03, 0x10, 0x10, 0xa5, 0x08, 0x50,
+                0x06, 0x43, 0x52, 0x45, 0x44, 0x49, 0x54,
+            ]
+            .as_slice()
+    );
+    Ok(())
+}
+
+/// A hundred entries 9A 02 in 200 bytes.
+fn long_list(alloc: Global) -> Result<Vec<u8>, Fail> {
+    let mut list = Vec::new(alloc);
+    for _ in 0..100 {
+        list.extend_from_slice(&[0x9a, 0x02])?;
+    }
+    Ok(list)
+}
+
+#[test]
+fn gives_the_longest_control_information(rt: HostRuntime) -> Result<(), Fail> {
+    let alloc = rt.alloc();
+    let mut app = app_of(&rt, alloc)?;
+    app.name = name_of(&rt, &[0xa0; 16]);
+    app.label = vec![in alloc; 0x41; 16]?;
+    app.pdol = Some(long_list(alloc)?);
+    let mut out = ArrayVec::new();
+    control_of(&rt, alloc, app, &mut out)?;
+    assert!(rt; out.len() == 249);
+    let head = [0x6f, 0x81, 0xf6, 0x84, 0x10];
+    assert!(rt; out.as_slice().starts_with(&head));
+    let tail = [0x9a, 0x02];
+    assert!(rt; out.as_slice().ends_with(&tail));
+    Ok(())
+}
+
+/// The keys that have a rule, in their order.
+const KEYS: [&str; 16] = [
+    "name",
+    "label",
+    "pdol",
+    "afl",
+    "gpo_format",
+    "ac_format",
+    "cdol1",
+    "cdol2",
+    "record",
+    "pan",
+    "sequence",
+    "currency",
+    "sum_limit",
+    "pin",
+    "tries",
+    "opening",
+];
+
+/// Puts a value against its rule at the key.
+fn spoil(rt: &impl Abort, alloc: Global, app: &mut AppImage, key: &str) -> Result<(), Fail> {
+    match key {
+        "name" => app.name = name_of(rt, &[0xa0; 4]),
+        "label" => app.label = Vec::new(alloc),
+        "pdol" => app.pdol = Some([0x9f].to_vec(alloc)?),
+        "afl" => app.afl = vec![in alloc; 0; 249]?,
+        "gpo_format" => app.gpo_format = 0,
+        "ac_format" => app.ac_format = 3,
+        "cdol1" => app.cdol1 = [0x8a, 0x02].to_vec(alloc)?,
+        "cdol2" => app.cdol2 = CDOL1.to_vec(alloc)?,
+        "record" => app.records.push(record_of(alloc, 1, 2, 1)?)?,
+        "pan" => app.pan = digits_of(rt, &PAN[..12]),
+        "sequence" => app.sequence = 0x1a,
+        "currency" => app.currency = [0x18, 0x40],
+        "sum_limit" => app.opening.sum_limit = 1_000_000_000_000,
+        "pin" => app.opening.pin = [0x00, 0, 0, 0, 0, 0, 0, 1],
+        "tries" => app.tries = 16,
+        _ => app.opening.count = 1,
+    }
+    Ok(())
+}
+
+/// Whether the answer is this key of the application of this number.
+fn is_field(answer: Result<Image, ImageFault>, number: u8, name: &str) -> bool {
+    match answer {
+        Ok(_image) => false,
+        Err(fault) => is_key(&fault, number, name),
+    }
+}
+
+fn is_key(fault: &ImageFault, number: u8, name: &str) -> bool {
+    match fault {
+        ImageFault::Field { app, key } => { *app == number && key.as_slice() == name.as_bytes() }
+        _ => false,
+    }
+}
+
+#[test]
+fn names_the_first_key(rt: HostRuntime) -> Result<(), Fail> {
+    let alloc = rt.alloc();
+    for k in 0..KEYS.len() {
+        let mut app = app_of(&rt, alloc)?;
+        for key in &KEYS[k..] {
+            spoil(&rt, alloc, &mut app, key)?;
+        }
+        assert!(rt; is_field(image_of(alloc, app)?, 0, KEYS[k]), "at {k}");
+    }
+    Ok(())
+}
+
+#[test]
+fn tries_the_opening_state(rt: HostRuntime) -> Result<(), Fail> {
+    let alloc = rt.alloc();
+    for n in 0..5 {
+        let mut app = app_of(&rt, alloc)?;
+        match n {
+            0 => app.opening.count = 1,
+            1 => app.opening.sum = 1,
+            2 => app.opening.auth_failed = true,
+            3 => app.opening.tries = 2,
+            _ => app.tries = 4,
+        }
+        assert!(rt; is_field(image_of(alloc, app)?, 0, "opening"), "at {n}");
+    }
+    Ok(())
+}
+
+/// Applications with these names' last bytes.
+fn apps_of(rt: &impl Abort, alloc: Global, ends: &[u8]) -> Result<Vec<AppImage>, Fail> {
+    let mut apps = Vec::new(alloc);
+    for end in ends {
+        let mut app = app_of(rt, alloc)?;
+        app.name = name_of(rt, &[0xa0, 0x00, 0x00, 0x00, *end]);
+        apps.push(app)?;
+    }
+    Ok(apps)
+}
+
+#[test]
+fn counts_applications_and_compares_names(rt: HostRuntime) -> Result<(), Fail> {
+    let alloc = rt.alloc();
+    let rows: [(&[u8], Option<ImageFault>); 6] = [
+        (&[], Some(ImageFault::Count(0))),
+        (&[1, 2, 3, 4], None),
+        (&[1, 2, 3, 4, 5], Some(ImageFault::Count(5))),
+        (&[1, 1], Some(ImageFault::SameName { app: 1 })),
+        (&[1, 2, 3, 2], Some(ImageFault::SameName { app: 3 })),
+        (&[1, 2, 2, 1], Some(ImageFault::SameName { app: 2 })),
+    ];
+    for (ends, fault) in rows {
+        assert!(rt; Image::new(apps_of(&rt, alloc, ends)?).err() == fault);
+    }
+
+    // The key of a later application comes before the second name of an earlier one.
+    let mut apps = apps_of(&rt, alloc, &[1, 1, 2])?;
+    assert!(rt; apps.len() == 3);
+    apps[2].tries = 99;
+    assert!(rt; is_field(Image::new(apps), 2, "tries"));
+    Ok(())
+}
+
+#[test]
+fn finds_records_and_opens(rt: HostRuntime) -> Result<(), Fail> {
+    let alloc = rt.alloc();
+    let mut apps = apps_of(&rt, alloc, &[1, 2])?;
+    assert!(rt; apps.len() == 2);
+    apps[1].records = Vec::new(alloc);
+    apps[1].opening.counter = 77;
+    let image = Image::new(apps).expect(&rt, "an image");
+    let rows = [
+        (0, 1, 1, Some(1)),
+        (0, 1, 2, Some(2)),
+        (0, 2, 1, Some(256)),
+        (0, 2, 2, None),
+        (0, 3, 1, None),
+        (1, 1, 1, None),
+        (2, 1, 1, None),
+    ];
+    for (app, sfi, number, size) in rows {
+        assert!(rt; image.record(app, sfi, number).map(|bytes| bytes.len()) == size);
+    }
+    for (app, sfi, is_there) in [
+        (0, 1, true),
+        (0, 2, true),
+        (0, 3, false),
+        (1, 1, false),
+        (9, 1, false),
+    ] {
+        assert!(rt; image.has_file(app, sfi) == is_there);
+    }
+    let mut state = CardState::default();
+    state.blocked = true;
+    state.apps.push(AppState::default());
+    image.opening(&mut state);
+    assert!(rt; !state.blocked && state.apps.len() == 2);
+    assert!(rt; state.apps[0] == opening());
+    assert!(rt; state.apps[1].counter == 77);
+    Ok(())
+}
+
+#[test]
+fn keeps_to_the_limits_of_texts(rt: HostRuntime) {
+    let bytes = [0x41; 260];
+    for (size, name, label, afl) in [
+        (0, false, false, true),
+        (1, false, true, true),
+        (4, false, true, true),
+        (5, true, true, true),
+        (16, true, true, true),
+        (17, false, false, true),
+        (248, false, false, true),
+        (249, false, false, false),
+    ] {
+        assert!(rt; is_name(&bytes[..size]) == name, "at {size}");
+        assert!(rt; is_label(&bytes[..size]) == label, "at {size}");
+        assert!(rt; is_afl(&bytes[..size]) == afl, "at {size}");
+    }
+    for (character, is) in [(0x1f, false), (0x20, true), (0x7e, true), (0x7f, false)] {
+        assert!(rt; is_label(&[0x41, character]) == is, "at {character}");
+    }
+}
+
+#[test]
+fn keeps_to_the_limits_of_numbers(rt: HostRuntime) {
+    for (number, format, tries) in [
+        (0, false, true),
+        (1, true, true),
+        (2, true, true),
+        (3, false, true),
+        (15, false, true),
+        (16, false, false),
+    ] {
+        assert!(rt;
+            is_format(number) == format && is_tries(number) == tries,
+            "at {number}"
+        );
+    }
+    for (count, is) in [(12, false), (13, true), (16, true), (17, false)] {
+        assert!(rt;
+            is_pan(&digits_of(&rt, &[9; 19][..count])) == is,
+            "at {count}"
+        );
+    }
+    for (byte, is) in [(0x00, true), (0x99, true), (0x9a, false), (0xa0, false)] {
+        assert!(rt;
+            is_sequence(byte) == is && is_currency([0x09, byte]) == is,
+            "at {byte}"
+        );
+    }
+    assert!(rt; !is_currency([0x10, 0x00]));
+    assert!(rt; is_sum_limit(999_999_999_999) && !is_sum_limit(1_000_000_000_000));
+}
+
+#[test]
+fn tells_a_reference_pin(rt: HostRuntime) -> Result<(), Fail> {
+    for (block, is) in [
+        ([0; 8], true),
+        (PIN_1234, true),
+        ([0x2c, 0x12, 0x34, 0x56, 0x78, 0x90, 0x12, 0xff], true),
+        ([0x23, 0x12, 0x3f, 0xff, 0xff, 0xff, 0xff, 0xff], false),
+        ([0x2d, 0x12, 0x34, 0x56, 0x78, 0x90, 0x12, 0x3f], false),
+        ([0x04, 0x12, 0x34, 0xff, 0xff, 0xff, 0xff, 0xff], false),
+        ([0x24, 0x12, 0x3a, 0xff, 0xff, 0xff, 0xff, 0xff], false),
+        ([0x24, 0x12, 0x34, 0xff, 0xff, 0xff, 0xff, 0xf0], false),
+    ] {
+        assert!(rt; is_reference_pin(block) == is, "at {block:?}");
+    }
+    Ok(())
+}
+
+#[test]
+fn keeps_to_the_limits_of_lists(rt: HostRuntime) -> Result<(), Fail> {
+    let alloc = rt.alloc();
+    let mut list = long_list(alloc)?;
+    assert!(rt; is_pdol(&[]) && is_pdol(&list));
+    list.extend_from_slice(&[0x9a, 0x00])?;
+    assert!(rt; !is_pdol(&list));
+    for (bytes, is) in [
+        ([0x9a, 252], true),
+        ([0x9a, 253], false),
+        ([0x9f, 0x02], false),
+    ] {
+        assert!(rt; is_pdol(&bytes) == is);
+        assert!(rt; !is_cdol2(&bytes));
+    }
+    for (bytes, is) in [
+        ([0x8a, 0x02, 0x9a, 250], true),
+        ([0x8a, 0x02, 0x9a, 251], false),
+        ([0x8a, 0x03, 0x9a, 0x03], false),
+        ([0x9a, 0x03, 0x8a, 0x02], true),
+    ] {
+        assert!(rt; is_cdol2(&bytes) == is);
+    }
+    assert!(rt; is_cdol1(&CDOL1));
+    for place in [1, 2, 4, 5, 7, 8, 9, 10, 12, 13, 14, 15, 16, 17, 19, 20] {
+        let mut other = CDOL1;
+        other[place] += 1;
+        assert!(rt; !is_cdol1(&other), "at {place}");
+    }
+    let mut long = CDOL1.to_vec(alloc)?;
+    for _ in 0..231 / 3 {
+        long.extend_from_slice(&[0x9f, 0x7e, 0x00])?;
+    }
+    assert!(rt; long.len() == 252 && is_cdol1(&long));
+    long.push(0x9a)?;
+    long.push(0x00)?;
+    assert!(rt; !is_cdol1(&long));
+    Ok(())
+}
+
+#[test]
+fn keeps_to_the_limits_of_records(rt: HostRuntime) -> Result<(), Fail> {
+    let alloc = rt.alloc();
+    for (sfi, number, size, is) in [
+        (0, 1, 1, false),
+        (1, 1, 1, true),
+        (30, 255, 256, true),
+        (31, 1, 1, false),
+        (1, 0, 1, false),
+        (1, 1, 0, false),
+        (1, 1, 257, false),
+    ] {
+        let image = record_of(alloc, sfi, number, size)?;
+        assert!(rt; are_records(&[image]) == is, "at {sfi} {number} {size}");
+    }
+    let mut images = Vec::new(alloc);
+    for number in 1..=64 {
+        images.push(record_of(alloc, 1, number, 1)?)?;
+    }
+    assert!(rt; are_records(&images));
+    assert!(rt; is_among(&record_of(alloc, 1, 64, 9)?, &images));
+    assert!(rt; !is_among(&record_of(alloc, 2, 64, 9)?, &images));
+    images.push(record_of(alloc, 2, 1, 1)?)?;
+    assert!(rt; !are_records(&images));
+    Ok(())
+}
