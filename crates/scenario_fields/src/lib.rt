@@ -1,0 +1,14 @@
+//! The keys of a scenario's tables: readers of one key or value of a TOML document by its type and
+//! limits, and the faults that name the first place that breaks a rule.
+#![tactic(auto)]
+
+pub mod fault;
+pub mod place;
+pub mod spot;
+
+pub use fault::{Path, ScenarioFault};
+pub use place::Place;
+pub use spot::{Characters, Spot};
+
+#[cfg(test)]
+mod tests;
