@@ -3,10 +3,12 @@
 #![tactic(auto)]
 
 pub mod fault;
+pub mod fields;
 pub mod place;
 pub mod spot;
 
 pub use fault::{Path, ScenarioFault};
+pub use fields::Fields;
 pub use place::Place;
 pub use spot::{Characters, Spot};
 

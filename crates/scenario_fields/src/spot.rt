@@ -6,7 +6,7 @@ ghost use Rattle.emv_dict.specs.Settings.{is_code};
 ghost use Rattle.scenario_fields.specs.declared.spot.Characters.TheVariants.{Digit};
 ghost use Rattle.arrayvec.specs.ArrayVec.{array_vec_len};
 ghost use Rattle.toml.specs.Data.{Items};
-ghost use Rattle.toml.specs.View.{view, table_view, array_view};
+ghost use Rattle.toml.specs.View.{view, table_view, array_view, items_view};
 ghost use Rattle.scenario_fields.specs.Fault.{Tells, Fails, Gives};
 ghost use Rattle.scenario_fields.specs.Place.{path, spot_path};
 ghost use Rattle.scenario_fields.specs.Value.{number_of, listed_of, flag_of, str_of, text_of, digits_of, code_of, six_digits_of, day_of, hex_of, bytes_of, array_of, table_of, count, is_one_of, is_listed};
@@ -292,9 +292,9 @@ impl<'a> Spot<'a> {
         value: &'b Value,
         least: usize,
         most: usize,
-    ) -> Result<&'b Array, ScenarioFault>
-        ensures exact { Gives (λ a. array_view a.now) result (array_of (spot_path self.now.place self.now.key.now self.now.index) least most (view value.now)) }
-        ensures within { IfOk result (λ a. (least ≤ length a.now.items) × (length a.now.items ≤ most)) }
+    ) -> Result<&'b [Value], ScenarioFault>
+        ensures exact { Gives (λ s. items_view s.now) result (array_of (spot_path self.now.place self.now.key.now self.now.index) least most (view value.now)) }
+        ensures within { IfOk result (λ s. (least ≤ length s.now) × (length s.now ≤ most)) }
     {
         let Some(array) = value.as_array() else {
             return Err(self.bad());
@@ -303,7 +303,7 @@ impl<'a> Spot<'a> {
         if found < least || found > most {
             return Err(self.far());
         }
-        Ok(array)
+        Ok(array.as_slice())
     }
 
     /// A table.
