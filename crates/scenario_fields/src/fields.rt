@@ -10,7 +10,7 @@ ghost use Rattle.toml.specs.View.{view, table_view, items_view};
 ghost use Rattle.scenario_fields.specs.Fault.{Tells, Fails, Gives};
 ghost use Rattle.scenario_fields.specs.Place.{path, spot_path};
 ghost use Rattle.scenario_fields.specs.Value.{is_one_of, is_listed};
-ghost use Rattle.scenario_fields.specs.Fields.{required, number_at, number_or, optional_number, listed_or, flag_or, text_at, digits_at, optional_digits, code_at, six_digits_or, day_at, bytes_at, optional_bytes, array_at, array_or_none, table_at, optional_table, digits_item, digits_list, only, other_key};
+ghost use Rattle.scenario_fields.specs.Fields.{required, number_at, number_or, optional_number, listed_or, flag_or, text_at, digits_at, optional_digits, code_at, six_digits_or, day_at, bytes_at, optional_bytes, array_at, array_or_none, table_at, optional_table, digits_item, digits_list, each, only, other_key};
 ghost use Rattle.scenario_fields.specs.declared.fault.ScenarioFault.TheVariants.{MissingKey, UnknownKey};
 
 use crate::fault::{Path, ScenarioFault};
@@ -372,4 +372,96 @@ impl<'a> Fields<'a> {
             None => Ok(None),
         }
     }
+
+    /// At most `count` texts of `least` to `most` decimal digits each, at most 19; none where the key
+    /// is absent.
+    #[tactic(auto, unfolding(crate::specs::Fields::digits_list))]
+    pub fn digits_list(
+        &self,
+        key: &str,
+        count: usize,
+        least: usize,
+        most: usize,
+    ) -> Result<Vec<Digits>, ScenarioFault>
+        requires { most ≤ 19 }
+        ensures exact { Gives (λ v. v.items) result (digits_list (path self.now.place) key.now count least most (table_view self.now.table.now)) }
+        ensures count { IfOk result (λ v. vec_len v ≤ count) }
+    {
+        self.all_digits(key, self.array_or_none(key, count)?, least, most)
+    }
+
+    /// The digits of each text of an array.
+    fn all_digits(
+        &self,
+        key: &str,
+        values: &[Value],
+        least: usize,
+        most: usize,
+    ) -> Result<Vec<Digits>, ScenarioFault>
+        requires { most ≤ 19 }
+        ensures exact { Gives (λ v. v.items) result (each (digits_item (path self.now.place) key.now least most) 0 (items_view values.now)) }
+        ensures count { IfOk result (λ v. vec_len v ≡ length values.now) }
+    {
+        let mut all = Vec::new(self.alloc);
+        for value in values {
+            all.push(self.digits_item(key, all.len(), value, least, most)?)?;
+        }
+        Ok(all)
+    }
+
+    /// The digits of an item of the array at a key.
+    #[tactic(auto, unfolding(crate::specs::Fields::digits_item))]
+    fn digits_item(
+        &self,
+        key: &str,
+        index: usize,
+        value: &Value,
+        least: usize,
+        most: usize,
+    ) -> Result<Digits, ScenarioFault>
+        requires { most ≤ 19 }
+        ensures exact { Gives (λ ds. ds) result (digits_item (path self.now.place) key.now least most index (view value.now)) }
+        ensures within { IfOk result (λ ds. (least ≤ length ds) × (length ds ≤ most)) }
+    {
+        self.item(key, index).digits(value, least, most)
+    }
+
+    /// Where an item of the array at a key stands.
+    pub fn item<'k>(&self, key: &'k str, index: usize) -> Spot<'k>
+        ensures place { result.place ≡ self.now.place }
+        ensures key { result.key.now ≡ key.now }
+        ensures index { result.index ≡ Some index }
+    {
+        Spot {
+            alloc: self.alloc,
+            place: self.place,
+            key,
+            index: Some(index),
+        }
+    }
+
+    /// That the table has no other keys than these: else the least other key is the fault.
+    #[tactic(auto, unfolding(crate::specs::Fields::only))]
+    pub fn only(&self, keys: &[&str]) -> Result<(), ScenarioFault>
+        ensures { Gives (λ u. u) result (only (path self.now.place) (map (λ k. k.now) keys.now) (table_view self.now.table.now)) }
+    {
+        match other_key(self.table, keys) {
+            Some(key) => Err(self.unknown(key.as_str())),
+            None => Ok(()),
+        }
+    }
+}
+
+/// Whether the key is one of these.
+fn is_among(key: &str, keys: &[&str]) -> bool
+    ensures { result ≡ list_any (λ k. bytes_eq key.now k.now) keys.now }
+{
+    keys.iter().any(|known| key == *known)
+}
+
+/// The first key that is none of these.
+fn other_key<'t>(table: &'t Table, keys: &[&str]) -> Option<&'t String>
+    ensures { option_map (λ k. string_bytes k.now) result ≡ other_key (map (λ k. k.now) keys.now) (table_view table.now) }
+{
+    table.keys().find(|key| !is_among(key.as_str(), keys))
 }
