@@ -1,5 +1,5 @@
 -- Three and six digits, two a byte.
-use Rattle.std.proofs.Common.{◌≡◌, ℕ, ◌+◌, ◌*◌, List, [], ◌∷◌, length, get_or, refl, sym, ap, arith}
+use Rattle.std.proofs.Common.{◌≡◌, ℕ, ◌+◌, ◌*◌, List, [], ◌∷◌, length, get_or, refl, ap, arith}
 use Rattle.emv_dict.specs.Nibbles.{packed}
 
 pub packed_three : (ds : List ℕ) → length ds ≡ 3 → ◌≡◌ {A = List ℕ} (get_or ds 0 0 ∷ (get_or ds 1 0 * 16 + get_or ds 2 0) ∷ []) (packed (0 ∷ ds))

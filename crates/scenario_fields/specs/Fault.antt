@@ -1,6 +1,6 @@
 -- How the answers of a reader of a scenario stand to what the definitions find: the value, or the
 -- first fault with its path. Want of memory may come in place of either, and is told as itself.
-use Rattle.std.specs.Prelude.{◌≡◌, ℕ, List, Bool, ⊤, Option, Some, None, Result, Ok, Err, if◌then◌else◌}
+use Rattle.std.specs.Prelude.{◌≡◌, Bool, ⊤, Option, Some, None, Result, Ok, Err, if◌then◌else◌}
 use Rattle.scenario_fields.specs.declared.fault.ScenarioFault.{ScenarioFault}
 use Rattle.scenario_fields.specs.declared.fault.ScenarioFault.TheVariants.{OutOfMemory}
 

@@ -1,6 +1,7 @@
-ghost use Rattle.std.specs.Prelude.{◌≡◌, ◌≤◌, ◌+◌, ◌-◌, ℕ, List, [], ◌∷◌, length, map, IfOk, IfSome, IsTrue, IsSome, string_bytes, vec_len, option_copied};
+ghost use Rattle.std.specs.Prelude.{◌≡◌, ◌≤◌, ◌+◌, ◌-◌, ℕ, List, [], ◌∷◌, length, map, IfOk, IfSome, IsTrue, IsSome, string_bytes, vec_len, option_copied, not};
 ghost use Rattle.std.specs.Option.{option_map};
-ghost use Rattle.std.specs.List.{All, list_all, list_any};
+ghost use Rattle.std.specs.List.{All, list_all, list_any, find};
+ghost use Rattle.std.specs.BTreeMap.{keys};
 ghost use Rattle.std.specs.Str.{bytes_eq};
 ghost use Rattle.arrayvec.specs.ArrayVec.{array_vec_len};
 ghost use Rattle.emv_dict.specs.Date.{date_of, has_digits};
@@ -133,12 +134,7 @@ impl<'a> Fields<'a> {
 
     /// One of the numbers, or the default where the key is absent.
     #[tactic(auto, unfolding(crate::specs::Fields::listed_or))]
-    pub fn listed_or(
-        &self,
-        default: u64,
-        key: &str,
-        numbers: &[u64],
-    ) -> Result<u64, ScenarioFault>
+    pub fn listed_or(&self, default: u64, key: &str, numbers: &[u64]) -> Result<u64, ScenarioFault>
         requires { IsTrue (is_listed default numbers.now) }
         ensures exact { Gives (λ n. n) result (listed_or default (path self.now.place) key.now numbers.now (table_view self.now.table.now)) }
         ensures among { IfOk result (λ n. IsTrue (is_listed n numbers.now)) }
@@ -330,12 +326,7 @@ impl<'a> Fields<'a> {
 
     /// An array of `least` to `most` elements.
     #[tactic(auto, unfolding(crate::specs::Fields::array_at))]
-    pub fn array(
-        &self,
-        key: &str,
-        least: usize,
-        most: usize,
-    ) -> Result<&'a [Value], ScenarioFault>
+    pub fn array(&self, key: &str, least: usize, most: usize) -> Result<&'a [Value], ScenarioFault>
         ensures exact { Gives (λ s. items_view s.now) result (array_at (path self.now.place) key.now least most (table_view self.now.table.now)) }
         ensures within { IfOk result (λ s. (least ≤ length s.now) × (length s.now ≤ most)) }
     {
@@ -460,8 +451,15 @@ fn is_among(key: &str, keys: &[&str]) -> bool
 }
 
 /// The first key that is none of these.
-fn other_key<'t>(table: &'t Table, keys: &[&str]) -> Option<&'t String>
-    ensures { option_map (λ k. string_bytes k.now) result ≡ other_key (map (λ k. k.now) keys.now) (table_view table.now) }
+fn first_other<'t>(table: &'t Table, known: &[&str]) -> Option<&'t String>
+    ensures { option_copied result ≡ find (λ k. not (list_any (λ s. bytes_eq (string_bytes k) s.now) known.now)) (keys table.now) }
 {
-    table.keys().find(|key| !is_among(key.as_str(), keys))
+    table.keys().find(|key| !is_among(key.as_str(), known))
+}
+
+/// The first key that is none of these.
+fn other_key<'t>(table: &'t Table, known: &[&str]) -> Option<&'t String>
+    ensures { option_map (λ k. string_bytes k.now) result ≡ other_key (map (λ k. k.now) known.now) (table_view table.now) }
+{
+    first_other(table, known)
 }
