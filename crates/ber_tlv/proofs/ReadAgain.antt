@@ -1,5 +1,5 @@
 -- A data object as it is written is read again, wherever it stands.
-use Rattle.std.proofs.Common.{◌≡◌, ℕ, suc, Bool, true, false, ◌&&◌, not, IsTrue, ◌+◌, ◌-◌, ◌*◌, ◌/◌, ◌%◌, ◌==◌, nat_lt, nat_le, List, [], ◌∷◌, ◌++◌, length, take, Some, Ok, slice_get, refl, arith, ap, ◌∙◌, append_assoc, length-append}
+use Rattle.std.proofs.Common.{◌≡◌, ℕ, suc, Bool, true, false, ◌&&◌, not, IsTrue, ◌+◌, ◌-◌, ◌*◌, ◌/◌, ◌%◌, ◌==◌, ◌<◌, nat_lt, nat_le, List, [], ◌∷◌, ◌++◌, length, take, Some, Ok, slice_get, refl, arith, ap, ◌∙◌, append_assoc, length-append}
 use Rattle.std.proofs.lemmas.Bool.{le-leb}
 use Rattle.std.proofs.Math.Seq.{drop-append_seam}
 use Rattle.ber_tlv.specs.Item.{ItemData, byte_at, tag_at, second_tag_byte, third_tag_byte, length_at, long_length, one_byte_length, two_byte_length, value_at, item_at}
@@ -56,6 +56,9 @@ is_not false e = refl
 not_below : (n : ℕ) → nat_le 128 n ≡ true → nat_lt n 128 ≡ false
 not_below n e = grind arith
 
+three_bytes : (tag : ℕ) → nat_lt tag 16777216 ≡ true → tag / 65536 % 256 ≡ tag / 65536
+three_bytes tag below = let small : tag < 16777216 = grind (arith, below) in omega arith
+
 tag_read : (front rest : List ℕ) (tag : ℕ) (p q : Bool) → nat_lt tag 256 ≡ p → nat_lt tag 65536 ≡ q → IsTrue (is_readable tag) → tag_at (front ++ (tag_bytes tag ++ rest)) (length front) ≡ Ok (tag, length front + length (tag_bytes tag))
 tag_read front rest tag true q one two readable =
     let facts = both (nat_lt 0 tag) _ (rw one at readable) in
@@ -68,7 +71,8 @@ tag_read front rest tag false false one two readable =
     let third = both _ (nat_le 128 (tag / 256 % 256)) facts.0 in
     let first = both (nat_lt tag 16777216) (tag / 65536 % 32 == 31) third.0 in
     let two_and_more : nat_lt (tag / 256 % 256) 128 ≡ false = not_below _ third.1 in
-    rw (one, two) (tag_of_three front rest (tag / 65536) (tag / 256 % 256) (tag % 256) tag (omega arith) first.1 two_and_more facts.1)
+    let one_byte : tag / 65536 % 256 ≡ tag / 65536 = three_bytes tag first.0 in
+    rw (one, two, one_byte) (tag_of_three front rest (tag / 65536) (tag / 256 % 256) (tag % 256) tag (omega arith) first.1 two_and_more facts.1)
 
 length_read : (front rest : List ℕ) (start count : ℕ) (p q : Bool) → nat_lt count 128 ≡ p → nat_lt count 256 ≡ q → length_at (front ++ (length_bytes count ++ rest)) start (length front) ≡ Ok (count, length front + length (length_bytes count))
 length_read front rest start count true q one two = rw one (length_of_one front rest start count one)

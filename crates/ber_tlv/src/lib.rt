@@ -12,7 +12,7 @@ pub use cursor::{Cursor, first_fault};
 pub use item::{Item, TlvFault, read_tag};
 pub use tag::{Tag, is_constructed, is_readable};
 pub use walk::deep_fault;
-pub use write::{Full, write_item};
+pub use write::{Full, tag_bytes, write_item, written_length};
 
 #[cfg(test)]
 mod tests;

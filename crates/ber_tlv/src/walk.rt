@@ -23,16 +23,15 @@ fn fault_behind(cursor: &mut Cursor) -> Option<TlvFault>
     ensures { result ≡ walk_fault (walk_behind cursor.old.bytes cursor.old.place) }
 {
     loop {
-        match cursor.next() {
-            Ok(Some(item)) => {
-                if is_constructed(item.tag) {
-                    if let Some(fault) = fault_behind(&mut cursor.inside(&item)) {
-                        return Some(fault);
-                    }
-                }
-            }
+        let item = match cursor.next() {
+            Ok(Some(item)) => item,
             Ok(None) => return None,
             Err(fault) => return Some(fault),
+        };
+        if is_constructed(item.tag) {
+            if let Some(fault) = fault_behind(&mut cursor.inside(&item)) {
+                return Some(fault);
+            }
         }
     }
 }

@@ -34,23 +34,32 @@ pub fn write_item<const N: usize>(
     ensures read_again { OnOk result ((rest : List ℕ) → item_at (out.new.items ++ rest) (length out.old.items)
         ≡ Ok (record { tag = tag.0; value = value.now; start = length out.old.items }, length out.new.items)) }
 {
-    let tag_bytes = tag_bytes(tag.0);
-    let length_bytes = length_bytes(value.len());
-    let needed = tag_bytes.len() + length_bytes.len() + value.len();
+    let needed = written_length(tag, value.len());
     let free = out.remaining_capacity();
     if needed > free {
         return Err(Full { needed, free });
     }
-    append(out, &tag_bytes);
-    append(out, &length_bytes);
+    append(out, &tag_bytes(tag));
+    append(out, &length_bytes(value.len()));
     append(out, value);
     Ok(())
 }
 
-fn tag_bytes(tag: u32) -> ArrayVec<u8, 3>
-    requires { tag < 2 ^ 24 }
-    ensures { result.items ≡ spec.tag_bytes tag }
+/// How many bytes `write_item` appends for this tag and a value of so many bytes, at most 65,535
+/// (EMV 4.3 Book 3 Annex B1 and B2).
+pub fn written_length(tag: Tag, count: usize) -> usize
+    requires { count ≤ 65535 }
+    ensures { result ≡ spec.written_length tag.0 count }
 {
+    tag_bytes(tag).len() + length_bytes(count).len() + count
+}
+
+/// The bytes of a tag of one to three bytes, in the order in which they stand in a byte string
+/// (EMV 4.3 Book 3 Annex B1). A number above three bytes gives its lowest three.
+pub fn tag_bytes(tag: Tag) -> ArrayVec<u8, 3>
+    ensures { result.items ≡ spec.tag_bytes tag.0 }
+{
+    let tag = tag.0;
     let mut bytes = ArrayVec::new();
     if tag < 256 {
         append(&mut bytes, &[tag as u8]);
@@ -60,7 +69,7 @@ fn tag_bytes(tag: u32) -> ArrayVec<u8, 3>
         append(
             &mut bytes,
             &[
-                (tag / 65536) as u8,
+                (tag / 65536 % 256) as u8,
                 (tag / 256 % 256) as u8,
                 (tag % 256) as u8,
             ],

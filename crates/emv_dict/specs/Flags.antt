@@ -1,6 +1,7 @@
 -- The bits of the terminal verification results (EMV 4.3 Book 3 Annex C5) and of the transaction status
 -- information (Annex C6). Bytes are counted from 1 at the left, and the bits of a byte from 8 at the left to 1.
-use Rattle.std.specs.Prelude.{ℕ, ◌+◌, ◌-◌, ◌*◌, ◌^◌, ◌==◌, Bool, not, List, [], ◌∷◌, codes, bit_and}
+use Rattle.std.specs.Prelude.{ℕ, ◌+◌, ◌-◌, ◌*◌, ◌^◌, ◌==◌, Bool, not, List, [], ◌∷◌, codes, drop, bit_and}
+use Rattle.std.specs.Int.{to_be_bytes, w64}
 
 -- the place of a bit, counted from 0 at the right, among so many bytes
 abbrev pub place_among : ℕ → ℕ → ℕ → ℕ
@@ -21,6 +22,10 @@ tvr_bit byte bit = 2 ^ tvr_place byte bit
 -- the two bytes of the transaction status information as one number in which this bit alone stands
 abbrev pub tsi_bit : ℕ → ℕ → ℕ
 tsi_bit byte bit = 2 ^ tsi_place byte bit
+
+-- the five bytes of the terminal verification results that a number's low 40 bits are
+abbrev pub tvr_bytes : ℕ → List ℕ
+tvr_bytes tvr = drop 3 (to_be_bytes w64 tvr)
 
 -- the named bits of the terminal verification results
 abbrev pub tvr_bits : List (List ℕ × ℕ)

@@ -1,6 +1,6 @@
 -- The primary account number as the object 5A holds it: 13 to 16 digits of this profile, filled on the
 -- right with F (EMV 4.3 Book 3 Annex A).
-use Rattle.std.specs.Prelude.{ℕ, ◌==◌, Bool, not, nat_le, ◌&&◌, if◌then◌else◌, List, length, take, drop, find, Option, Some, None, Result, Ok, Err}
+use Rattle.std.specs.Prelude.{ℕ, ◌==◌, Bool, not, nat_le, ◌&&◌, if◌then◌else◌, IsTrue, List, length, take, drop, find, Option, Some, None, Result, Ok, Err}
 use Rattle.std.specs.List.{position_or_len}
 use Rattle.std.specs.Option.{option_or}
 use Rattle.emv_dict.specs.Nibbles.{nibbles, is_decimal}
@@ -30,6 +30,9 @@ stray_nibble ns = option_or (find (λ n. not (is_decimal n)) (before_filler ns))
 -- so many digits as an account number of this profile has
 abbrev pub is_pan_length : ℕ → Bool
 is_pan_length count = nat_le 13 count && nat_le count 16
+
+abbrev pub HasPanLength : List ℕ → Type 0
+HasPanLength digits = IsTrue (is_pan_length (length digits))
 
 abbrev pub sized_pan : List ℕ → Result (List ℕ) PanFault
 sized_pan digits = (if is_pan_length (length digits) then Ok digits else Err (Length (length digits)))

@@ -2,6 +2,8 @@
 use Rattle.std.specs.Prelude.{ℕ, ◌≤◌, ◌==◌, Bool, nat_le, ◌&&◌, ◌||◌, IsTrue, IsSome, List, length, slice_index, vec_len}
 use Rattle.std.specs.List.{All}
 use Rattle.emv_dict.specs.Date.{has_digits, date_of}
+use Rattle.emv_dict.specs.Digits.{HasPinLength}
+use Rattle.emv_dict.specs.Pan.{HasPanLength}
 use Rattle.emv_dict.specs.declared.purchase.AidRow.{AidRow}
 use Rattle.emv_dict.specs.declared.purchase.Settings.{Settings}
 use Rattle.emv_dict.specs.declared.purchase.Purchase.{Purchase}
@@ -13,14 +15,6 @@ most_amount = 999999999999
 -- the code of a country or of a currency: a zero and three decimal digits in two bytes (ISO 3166, ISO 4217)
 abbrev pub is_code : List ℕ → Bool
 is_code bytes = nat_le (slice_index bytes 0) 9 && has_digits (slice_index bytes 1)
-
--- an account number of this profile has 13 to 16 digits
-abbrev pub HasPanLength : List ℕ → Type 0
-HasPanLength digits = (13 ≤ length digits) × (length digits ≤ 16)
-
--- a PIN has 4 to 12 digits (ISO 9564-1)
-abbrev pub HasPinLength : List ℕ → Type 0
-HasPinLength digits = (4 ≤ length digits) × (length digits ≤ 12)
 
 -- a letter or a decimal digit of ASCII
 abbrev pub is_letter_or_digit : ℕ → Bool

@@ -137,56 +137,46 @@ fn account_numbers_are_read_up_to_their_filler(rt: HostRuntime) {
     }
 }
 
+/// Three bytes and the year, the month and the day that they are.
+const DATES: [([u8; 3], u16, u8, u8); 5] = [
+    ([0x24, 0x06, 0x15], 2024, 6, 15),
+    ([0x00, 0x01, 0x31], 2000, 1, 31),
+    ([0x49, 0x12, 0x31], 2049, 12, 31),
+    ([0x50, 0x01, 0x01], 1950, 1, 1),
+    ([0x99, 0x10, 0x09], 1999, 10, 9),
+];
+
+const NO_DATES: [[u8; 3]; 7] = [
+    [0x24, 0x13, 0x01],
+    [0x24, 0x00, 0x01],
+    [0x24, 0x06, 0x32],
+    [0x24, 0x06, 0x00],
+    [0x2A, 0x06, 0x15],
+    [0xA2, 0x06, 0x15],
+    [0x24, 0x0A, 0x15],
+];
+
 #[test]
 fn dates_have_their_century(rt: HostRuntime) {
-    let day = Date {
-        year: 2024,
-        month: 6,
-        day: 15,
-    };
-    assert_eq!(rt; Date::read([0x24, 0x06, 0x15]), Some(day));
-    assert_eq!(rt;
-        Date::read([0x49, 0x12, 0x31]),
-        Some(Date {
-            year: 2049,
-            month: 12,
-            day: 31
-        })
-    );
-    assert_eq!(rt;
-        Date::read([0x50, 0x01, 0x01]),
-        Some(Date {
-            year: 1950,
-            month: 1,
-            day: 1
-        })
-    );
-    for bytes in [
-        [0x24, 0x13, 0x01],
-        [0x24, 0x00, 0x01],
-        [0x24, 0x06, 0x32],
-        [0x24, 0x06, 0x00],
-        [0x2A, 0x06, 0x15],
-    ] {
+    for (bytes, year, month, day) in DATES {
+        assert_eq!(rt; Date::read(bytes), Some(Date { year, month, day }));
+    }
+    for bytes in NO_DATES {
         assert_eq!(rt; Date::read(bytes), None);
     }
-    assert!(rt;
-        Date {
-            year: 1999,
-            month: 12,
-            day: 31
-        }
-        .is_before(&day)
-    );
-    assert!(rt;
-        Date {
-            year: 2024,
-            month: 5,
-            day: 31
-        }
-        .is_before(&day)
-    );
+}
+
+#[test]
+fn dates_are_in_order(rt: HostRuntime) {
+    let day = date(2024, 6, 15);
+    for earlier in [date(1999, 12, 31), date(2024, 5, 31), date(2024, 6, 14)] {
+        assert!(rt; earlier.is_before(&day) && !day.is_before(&earlier));
+    }
     assert!(rt; !day.is_before(&day));
+}
+
+fn date(year: u16, month: u8, day: u8) -> Date {
+    Date { year, month, day }
 }
 
 #[test]

@@ -1,6 +1,5 @@
-ghost use Rattle.std.specs.Prelude.{⊤, ◌≡◌, ◌<◌, ◌^◌, drop};
-ghost use Rattle.std.specs.Int.{to_be_bytes, w64};
-ghost use Rattle.emv_dict.specs.Flags.{tvr_bits, have_common_bit};
+ghost use Rattle.std.specs.Prelude.{⊤, ◌≡◌, ◌<◌, ◌^◌};
+ghost use Rattle.emv_dict.specs.Flags.{tvr_bits, tvr_bytes, have_common_bit};
 
 use bitflags::{Flag, Flags, bitflag_items};
 
@@ -62,7 +61,7 @@ impl Flags for Tvr {
 impl Tvr {
     /// The five bytes of the data object 95, its first byte first.
     pub fn bytes(&self) -> [u8; 5]
-        ensures { result ≡ drop 3 (to_be_bytes w64 self.now.0) }
+        ensures { result ≡ tvr_bytes self.now.0 }
     {
         let all = self.0.to_be_bytes();
         [all[3], all[4], all[5], all[6], all[7]]
@@ -71,7 +70,7 @@ impl Tvr {
     /// The results that these five bytes say, or the action code that they are (EMV 4.3 Book 3
     /// section 10.7: an action code has a bit for each bit of the results).
     pub fn from_bytes(bytes: [u8; 5]) -> Tvr
-        ensures bytes { drop 3 (to_be_bytes w64 result.0) ≡ bytes }
+        ensures bytes { tvr_bytes result.0 ≡ bytes }
         ensures small { result.0 < 2 ^ 40 }
     {
         let [a, b, c, d, e] = bytes;

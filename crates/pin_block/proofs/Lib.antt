@@ -1,5 +1,4 @@
 mod Blocks
-mod Ciphered
 mod OnlineLemmas
 mod Packing
 mod Reading

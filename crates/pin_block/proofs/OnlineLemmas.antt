@@ -6,7 +6,7 @@ use Rattle.triple_des.proofs.Undone.{IsBlock}
 use Rattle.pin_block.specs.Block.{IsPin, block_of}
 use Rattle.pin_block.specs.Online.{account_field, online_of}
 use Rattle.pin_block.proofs.Blocks.{xor_bytes-xor_bytes, added, pin_block}
-use Rattle.pin_block.proofs.Ciphered.{untdes-tdes}
+use Rattle.triple_des.proofs.Ciphered.{untdes-tdes}
 
 -- a PIN whose block was found in the deciphered one is that of the enciphered one
 pub online_found : (key bytes pan pin deciphered account sum : List ℕ)

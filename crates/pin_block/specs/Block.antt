@@ -1,12 +1,12 @@
 -- PIN blocks of ISO 9564-1: eight bytes, sixteen hexadecimal digits.
 use Rattle.std.specs.Prelude.{ℕ, ◌-◌, ◌≤◌, List, ◌∷◌, ◌++◌, length, replicate}
-use Rattle.emv_dict.specs.Digits.{AllDecimal}
+use Rattle.emv_dict.specs.Digits.{AllDecimal, least_pin, most_pin}
 use Rattle.emv_dict.specs.Nibbles.{packed}
 
 -- a PIN has 4 to 12 decimal digits
 pub record IsPin (pin : List ℕ) : Type 0 where
-  pub least : 4 ≤ length pin
-  pub most : length pin ≤ 12
+  pub least : least_pin ≤ length pin
+  pub most : length pin ≤ most_pin
   pub decimal : AllDecimal pin
 
 -- the digits of a block: its format's number, the number of PIN digits, these digits, and the filler F

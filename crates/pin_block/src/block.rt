@@ -1,6 +1,6 @@
 ghost use Rattle.std.specs.Prelude.{◌≡◌, ◌+◌, ◌*◌, ◌<◌, ◌≤◌, ◌↔◌, List, ℕ, length, take, drop, IsSome, IsTrue, IfSome, Some};
 ghost use Rattle.std.specs.List.{All};
-ghost use Rattle.emv_dict.specs.Digits.{AllDecimal};
+ghost use Rattle.emv_dict.specs.Digits.{AllDecimal, least_pin, most_pin};
 ghost use Rattle.emv_dict.specs.Nibbles.{nibbles, packed};
 ghost use Rattle.pin_block.specs.Block.{IsPin, block_digits, block_of};
 
@@ -10,8 +10,8 @@ use emv_dict::{Digits, nibble_at};
 #[tactic(auto, unfolding(crate::specs::Block::block_of))]
 pub(crate) fn block(format: u8, pin: &Digits) -> [u8; 8]
     requires format { format < 16 }
-    requires least { 4 ≤ length pin.now }
-    requires most { length pin.now ≤ 12 }
+    requires least { least_pin ≤ length pin.now }
+    requires most { length pin.now ≤ most_pin }
     ensures value { result ≡ block_of format pin.now }
     ensures pin { IsPin pin.now }
 {
@@ -21,7 +21,7 @@ pub(crate) fn block(format: u8, pin: &Digits) -> [u8; 8]
 /// The sixteen digits of a block.
 fn digits_of(format: u8, pin: &[u8]) -> [u8; 16]
     requires format { format < 16 }
-    requires most { length pin.now ≤ 12 }
+    requires most { length pin.now ≤ most_pin }
     requires decimal { AllDecimal pin.now }
     ensures value { result ≡ block_digits format pin.now }
     ensures small { All (λ d. d < 16) result }
@@ -63,7 +63,7 @@ pub(crate) fn read_block(format: u8, bytes: [u8; 8]) -> Option<Digits>
 
 /// Whether a PIN has so many digits.
 fn is_pin_length(count: usize) -> bool
-    ensures { IsTrue result ↔ ((4 ≤ count) × (count ≤ 12)) }
+    ensures { IsTrue result ↔ ((least_pin ≤ count) × (count ≤ most_pin)) }
 {
     4 <= count && count <= 12
 }
@@ -71,8 +71,8 @@ fn is_pin_length(count: usize) -> bool
 /// The PIN, where the bytes are its block in the format of this number.
 fn of_block(format: u8, pin: Digits, bytes: [u8; 8]) -> Option<Digits>
     requires format { format < 16 }
-    requires least { 4 ≤ length pin }
-    requires most { length pin ≤ 12 }
+    requires least { least_pin ≤ length pin }
+    requires most { length pin ≤ most_pin }
     ensures found { IfSome result (λ found. IsPin found × (block_of format found ≡ bytes)) }
     ensures same { block_of format pin ≡ bytes → result ≡ Some pin }
 {

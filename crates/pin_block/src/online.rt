@@ -1,6 +1,6 @@
 ghost use Rattle.std.specs.Prelude.{◌≡◌, ◌<◌, ◌≤◌, List, ℕ, length, IfSome, Some};
 ghost use Rattle.std.specs.List.{All};
-ghost use Rattle.emv_dict.specs.Digits.{AllDecimal};
+ghost use Rattle.emv_dict.specs.Digits.{AllDecimal, least_pin, most_pin};
 ghost use Rattle.pin_block.specs.Block.{IsPin};
 ghost use Rattle.pin_block.specs.Online.{account_digits, account_field, online_of};
 
@@ -12,8 +12,8 @@ use triple_des::{Key16, xor_blocks};
 /// of 4 to 12 digits and an account number of at least 13.
 #[tactic(auto, unfolding(crate::specs::Online::online_of))]
 pub fn online_block(key: &Key16, pin: &Digits, pan: &Digits) -> [u8; 8]
-    requires least { 4 ≤ length pin.now }
-    requires most { length pin.now ≤ 12 }
+    requires least { least_pin ≤ length pin.now }
+    requires most { length pin.now ≤ most_pin }
     requires pan { 13 ≤ length pan.now }
     ensures value { result ≡ online_of key.now pin.now pan.now }
     ensures pin { IsPin pin.now }

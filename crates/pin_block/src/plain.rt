@@ -1,4 +1,5 @@
 ghost use Rattle.std.specs.Prelude.{◌≡◌, ◌≤◌, List, ℕ, length, IfSome, Some};
+ghost use Rattle.emv_dict.specs.Digits.{least_pin, most_pin};
 ghost use Rattle.pin_block.specs.Block.{IsPin, block_of};
 
 use crate::block::{block, read_block};
@@ -7,8 +8,8 @@ use emv_dict::Digits;
 /// The plain PIN block of VERIFY: format 2 of ISO 9564-1 (EMV 4.3 Book 3 section 6.5.12). The PIN has
 /// 4 to 12 digits.
 pub fn plain_block(pin: &Digits) -> [u8; 8]
-    requires least { 4 ≤ length pin.now }
-    requires most { length pin.now ≤ 12 }
+    requires least { least_pin ≤ length pin.now }
+    requires most { length pin.now ≤ most_pin }
     ensures value { result ≡ block_of 2 pin.now }
     ensures pin { IsPin pin.now }
 {

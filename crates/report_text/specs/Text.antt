@@ -3,7 +3,9 @@ use Rattle.std.specs.Prelude.{ℕ, List, ◌++◌, codes, decimal, Option, Some,
 use Rattle.std.specs.List.{flat_map}
 use Rattle.std.specs.Fmt.{signed_decimal}
 use Rattle.hex.specs.Hex.{encode_lower}
-use Rattle.report_text.specs.Pieces.{newline, hex_or_dash, digits_text, tag_bytes, tvr_bytes, two_bytes}
+use Rattle.ber_tlv.specs.Written.{tag_bytes}
+use Rattle.emv_dict.specs.Flags.{tvr_bytes}
+use Rattle.report_text.specs.Pieces.{newline, hex_or_dash, digits_text, two_bytes}
 use Rattle.report_text.specs.Words.{ending_text}
 use Rattle.report_text.specs.declared.line.Line.{Line}
 use Rattle.report_text.specs.declared.line.Line.TheVariants.{Power, PowerTorn, ToCard, FromCard, Torn, ToHost, FromHost, NoReply, End, SettleCall, SettleReply, AuditPower, AuditAsk, AuditAnswer, Balance, Done, Object, ReadOk, ReadEnded}

@@ -7,7 +7,8 @@ use Rattle.emv_dict.specs.declared.ending.Cause.{Cause}
 use Rattle.emv_dict.specs.declared.ending.Cause.TheVariants as cause
 use Rattle.emv_dict.specs.declared.ending.Ending.{Ending}
 use Rattle.emv_dict.specs.declared.ending.Ending.TheVariants as ending
-use Rattle.report_text.specs.Pieces.{tag_bytes, two_bytes}
+use Rattle.ber_tlv.specs.Written.{tag_bytes}
+use Rattle.report_text.specs.Pieces.{two_bytes}
 
 unfoldable pub step_word : Step → List ℕ
 step_word step.Power = codes "power"

@@ -4,7 +4,8 @@ ghost use Rattle.std.specs.Prelude.{◌≡◌, ◌+◌, ◌*◌, ◌≤◌, ◌+
 ghost use Rattle.std.specs.Fmt.{signed_decimal};
 ghost use Rattle.arrayvec.specs.ArrayVec.{array_vec_len};
 ghost use Rattle.hex.specs.Hex.{encode_lower};
-ghost use Rattle.report_text.specs.Pieces.{hex_or_dash, digits_text, tag_bytes, two_bytes};
+ghost use Rattle.ber_tlv.specs.Written.{tag_bytes};
+ghost use Rattle.report_text.specs.Pieces.{hex_or_dash, digits_text, two_bytes};
 
 use crate::Text;
 use ber_tlv::Tag;
@@ -76,14 +77,7 @@ pub(crate) fn tag(out: &mut Text, tag: Tag)
     ensures text { out.new.items ≡ out.old.items ++ encode_lower (tag_bytes tag.0) }
     ensures len { array_vec_len out.new ≤ array_vec_len out.old + 6 }
 {
-    let [_, high, middle, low] = tag.0.to_be_bytes();
-    if tag.0 < 256 {
-        return hex(out, &[low]);
-    }
-    if tag.0 < 65536 {
-        return hex(out, &[middle, low]);
-    }
-    hex(out, &[high, middle, low]);
+    hex(out, &tag_bytes(tag));
 }
 
 /// The two bytes of a number in hexadecimal.

@@ -2,7 +2,7 @@
 ghost use Rattle.std.specs.Prelude.{◌≡◌, ◌+◌, ◌≤◌, ◌++◌, length, decimal};
 ghost use Rattle.arrayvec.specs.ArrayVec.{array_vec_len};
 ghost use Rattle.hex.specs.Hex.{encode_lower};
-ghost use Rattle.report_text.specs.Pieces.{tag_bytes};
+ghost use Rattle.ber_tlv.specs.Written.{tag_bytes};
 ghost use Rattle.report_text.specs.Words.{step_word, cause_text, ending_text, side_word};
 
 use crate::Text;

@@ -3,7 +3,8 @@ ghost use Rattle.std.specs.List.{flat_map};
 ghost use Rattle.std.specs.Fmt.{signed_decimal};
 ghost use Rattle.arrayvec.specs.ArrayVec.{array_vec_len};
 ghost use Rattle.hex.specs.Hex.{encode_lower};
-ghost use Rattle.report_text.specs.Pieces.{newline, hex_or_dash, digits_text, tag_bytes};
+ghost use Rattle.ber_tlv.specs.Written.{tag_bytes};
+ghost use Rattle.report_text.specs.Pieces.{newline, hex_or_dash, digits_text};
 ghost use Rattle.report_text.specs.Words.{ending_text};
 ghost use Rattle.report_text.specs.Text.{line_text, shown_text, all_shown, arc_text, cryptogram_text, scripts_text, parts_text};
 

@@ -13,7 +13,7 @@ returns-clause-read_again g c =
       c.append.ensures,
       c.deref-2.ensures.0,
       c.deref.ensures.0,
-      c.length_bytes-length_bytes.ensures,
-      c.tag_bytes-tag_bytes.ensures,
+      c.length_bytes.ensures,
+      c.tag_bytes.ensures,
     ) (simp append_assoc) in
     appended_read _ _ c.args.tag.0 c.args.value.now appended c.requires.readable

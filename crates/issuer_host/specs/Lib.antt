@@ -1,0 +1,2 @@
+pub mod MadeLength
+pub mod Seen

@@ -1,0 +1,14 @@
+//! The issuer's side of a payment: its keys, its accounts, and the scripts that it sends to a card
+//! (EMV 4.3 Book 3 section 10.10).
+#![tactic(auto)]
+
+pub mod account;
+pub mod keys;
+pub mod script;
+
+pub use account::Account;
+pub use keys::HostKeys;
+pub use script::{Ordered, Script, Word};
+
+#[cfg(test)]
+mod tests;

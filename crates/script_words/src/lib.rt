@@ -1,0 +1,13 @@
+//! The words that order an issuer's script commands, and how long a script gets
+//! (EMV 4.3 Book 3 sections 6.5 and 10.10).
+#![tactic(auto)]
+
+pub mod length;
+pub mod numeral;
+pub mod order;
+
+pub use length::made_length;
+pub use order::read_order;
+
+#[cfg(test)]
+mod tests;
