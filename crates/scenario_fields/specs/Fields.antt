@@ -5,7 +5,7 @@ use Rattle.std.specs.Str.{bytes_eq}
 use Rattle.toml.specs.Data.{Data, Items, no_items, item, Members, no_members, member, get_member}
 use Rattle.scenario_fields.specs.Fault.{◌>>=◌, or_fault}
 use Rattle.scenario_fields.specs.Place.{item_path}
-use Rattle.scenario_fields.specs.Value.{number_of, listed_of, flag_of, text_of, digits_of, code_of, six_digits_of, day_of, bytes_of, array_of, table_of}
+use Rattle.scenario_fields.specs.Value.{number_of, listed_of, flag_of, str_of, text_of, digits_of, code_of, six_digits_of, day_of, bytes_of, array_of, table_of}
 use Rattle.scenario_fields.specs.declared.fault.ScenarioFault.{ScenarioFault}
 use Rattle.scenario_fields.specs.declared.fault.ScenarioFault.TheVariants.{MissingKey, UnknownKey}
 use Rattle.scenario_fields.specs.declared.spot.Characters.{Characters}
@@ -40,6 +40,9 @@ listed_or default path key numbers ms = or_default default (listed_of (path key)
 
 unfoldable pub flag_or : Bool → (List ℕ → List ℕ) → List ℕ → Members → Result Bool ScenarioFault
 flag_or default path key ms = or_default default (flag_of (path key)) (get_member key ms)
+
+unfoldable pub str_at : (List ℕ → List ℕ) → List ℕ → Members → Result (List ℕ) ScenarioFault
+str_at path key ms = required path key ms >>= str_of (path key)
 
 unfoldable pub text_at : (List ℕ → List ℕ) → List ℕ → Characters → ℕ → ℕ → Members → Result (List ℕ) ScenarioFault
 text_at path key kind least most ms = required path key ms >>= text_of (path key) kind least most

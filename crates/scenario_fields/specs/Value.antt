@@ -4,6 +4,7 @@ use Rattle.std.specs.Prelude.{ℕ, ◌+◌, ◌-◌, ℤ, pos, negsuc, List, ◌
 use Rattle.std.specs.List.{list_all, list_any}
 use Rattle.emv_dict.specs.Date.{date_of}
 use Rattle.emv_dict.specs.Nibbles.{packed}
+use Rattle.emv_dict.specs.Settings.{is_letter_or_digit}
 use Rattle.hex.specs.Hex.{decode_of}
 use Rattle.hex.specs.declared.error.FromHexError.{FromHexError}
 use Rattle.toml.specs.Data.{Data, Items, Members, no_items, item, as_str, as_integer, as_bool, as_array, as_table}
@@ -42,16 +43,13 @@ str_of path d = or_fault (BadValue path) (as_str d)
 abbrev pub is_digit : ℕ → Bool
 is_digit c = nat_le 48 c && nat_le c 57
 
-abbrev pub is_uppercase : ℕ → Bool
-is_uppercase c = nat_le 65 c && nat_le c 90
-
 abbrev pub is_lowercase : ℕ → Bool
 is_lowercase c = nat_le 97 c && nat_le c 122
 
 -- a character of ASCII of one of these kinds
 abbrev pub is_one_of : Characters → ℕ → Bool
 is_one_of Digit c = is_digit c
-is_one_of LetterOrDigit c = is_digit c || (is_uppercase c || is_lowercase c)
+is_one_of LetterOrDigit c = is_letter_or_digit c
 is_one_of LowercaseOrDigit c = is_digit c || is_lowercase c
 is_one_of Printable c = nat_le 32 c && nat_le c 126
 

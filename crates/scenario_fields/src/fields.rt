@@ -11,7 +11,7 @@ ghost use Rattle.toml.specs.View.{view, table_view, items_view};
 ghost use Rattle.scenario_fields.specs.Fault.{Tells, Fails, Gives};
 ghost use Rattle.scenario_fields.specs.Place.{path, spot_path};
 ghost use Rattle.scenario_fields.specs.Value.{is_one_of, is_listed};
-ghost use Rattle.scenario_fields.specs.Fields.{required, number_at, number_or, optional_number, listed_or, flag_or, text_at, digits_at, optional_digits, code_at, six_digits_or, day_at, bytes_at, optional_bytes, array_at, array_or_none, table_at, optional_table, digits_item, digits_list, each, only, other_key};
+ghost use Rattle.scenario_fields.specs.Fields.{required, number_at, number_or, optional_number, listed_or, flag_or, str_at, text_at, digits_at, optional_digits, code_at, six_digits_or, day_at, bytes_at, optional_bytes, array_at, array_or_none, table_at, optional_table, digits_item, digits_list, each, only, other_key};
 ghost use Rattle.scenario_fields.specs.declared.fault.ScenarioFault.TheVariants.{MissingKey, UnknownKey};
 
 use crate::fault::{Path, ScenarioFault};
@@ -87,6 +87,13 @@ impl<'a> Fields<'a> {
         }
     }
 
+    /// The value at a key, where it is there.
+    pub fn optional(&self, key: &str) -> Option<&'a Value>
+        ensures { option_map (λ v. view v.now) result ≡ get_member key.now (table_view self.now.table.now) }
+    {
+        member(self.table, key)
+    }
+
     /// A whole number from `least` to `most`.
     #[tactic(auto, unfolding(crate::specs::Fields::number_at))]
     pub fn number(&self, key: &str, least: u64, most: u64) -> Result<u64, ScenarioFault>
@@ -154,6 +161,14 @@ impl<'a> Fields<'a> {
             Some(value) => self.spot(key).flag(value),
             None => Ok(default),
         }
+    }
+
+    /// A text of any characters.
+    #[tactic(auto, unfolding(crate::specs::Fields::str_at))]
+    pub fn str_at(&self, key: &str) -> Result<&'a str, ScenarioFault>
+        ensures { Gives (λ s. s.now) result (str_at (path self.now.place) key.now (table_view self.now.table.now)) }
+    {
+        self.spot(key).str_of(self.required(key)?)
     }
 
     /// A text of `least` to `most` characters of this kind.

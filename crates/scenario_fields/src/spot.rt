@@ -10,7 +10,7 @@ ghost use Rattle.toml.specs.View.{view, table_view, array_view, items_view};
 ghost use Rattle.scenario_fields.specs.Fault.{Tells, Fails, Gives};
 ghost use Rattle.scenario_fields.specs.Place.{path, spot_path};
 ghost use Rattle.scenario_fields.specs.Value.{number_of, listed_of, flag_of, str_of, text_of, digits_of, code_of, six_digits_of, day_of, hex_of, bytes_of, array_of, table_of, count, is_one_of, is_listed};
-ghost use Rattle.scenario_fields.specs.declared.fault.ScenarioFault.TheVariants.{BadValue, OutOfLimit};
+ghost use Rattle.scenario_fields.specs.declared.fault.ScenarioFault.TheVariants.{BadValue, OutOfLimit, UnknownName};
 
 use crate::fault::{Path, ScenarioFault};
 use crate::place::{Place, item_text, path_text};
@@ -98,6 +98,16 @@ impl<'a> Spot<'a> {
     {
         match self.path() {
             Ok(path) => ScenarioFault::OutOfLimit { path },
+            Err(AllocError) => ScenarioFault::OutOfMemory,
+        }
+    }
+
+    /// The fault of a name that nothing has.
+    pub fn unknown_name(&self) -> ScenarioFault
+        ensures { Tells result (UnknownName (spot_path self.now.place self.now.key.now self.now.index)) }
+    {
+        match self.path() {
+            Ok(path) => ScenarioFault::UnknownName { path },
             Err(AllocError) => ScenarioFault::OutOfMemory,
         }
     }
