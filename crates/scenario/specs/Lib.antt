@@ -1,0 +1,4 @@
+pub mod Data
+pub mod Issuer
+pub mod Purchases
+pub mod Seen
