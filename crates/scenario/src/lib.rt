@@ -3,8 +3,10 @@
 #![tactic(auto)]
 
 pub mod issuer;
+pub mod lane;
 pub mod plan;
 pub mod purchase;
+pub mod script;
 
 pub use plan::{Lane, Link, NamedImage, Planned, Scenario};
 pub use scenario_fields::{Path, ScenarioFault};
