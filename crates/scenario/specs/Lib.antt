@@ -2,5 +2,7 @@ pub mod Accounts
 pub mod Data
 pub mod Issuer
 pub mod Lanes
+pub mod Names
 pub mod Purchases
+pub mod Scenario
 pub mod Seen
