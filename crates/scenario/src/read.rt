@@ -29,7 +29,7 @@ fn only_top_keys(fields: &Fields) -> Result<(), ScenarioFault>
 
 /// The scenario of a document with these cards.
 #[tactic(auto, unfolding(crate::specs::Scenario::scenario_of, crate::specs::Seen::seen_scenario))]
-fn read_document(
+pub(crate) fn read_document(
     alloc: Global,
     cards: &[NamedImage],
     document: &Table,
