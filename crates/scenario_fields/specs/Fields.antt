@@ -1,6 +1,8 @@
 -- What a reader finds at one key of a table.
 use Rattle.std.specs.Prelude.{ℕ, ◌+◌, List, [], ◌∷◌, ◌++◌, Bool, Option, Some, None, Result, Ok, Err, if◌then◌else◌}
 use Rattle.std.specs.List.{list_any}
+use Rattle.std.specs.Cmp.Lexicographic.{slice_cmp}
+use Rattle.std.specs.Ordering.{nat_cmp, is_lt}
 use Rattle.std.specs.Str.{bytes_eq}
 use Rattle.toml.specs.Data.{Data, Items, no_items, item, Members, no_members, member, get_member}
 use Rattle.scenario_fields.specs.Fault.{◌>>=◌, or_fault}
@@ -102,10 +104,15 @@ digits_list path key count least most ms = do
   items ← array_or_none path key count ms
   each (digits_item path key least most) 0 items
 
--- the first key that is none of these; the keys of a table ascend by their bytes, so it is the least
-abbrev pub other_key : List (List ℕ) → Members → Option (List ℕ)
-other_key keys no_members = None
-other_key keys (member k d ms) = (if list_any (bytes_eq k) keys then other_key keys ms else Some k)
+-- the lesser of a key and another, where there is one, by their bytes
+abbrev pub lesser : List ℕ → Option (List ℕ) → List ℕ
+lesser key None = key
+lesser key (Some other) = (if is_lt (slice_cmp nat_cmp other key) then other else key)
+
+-- the least key that is none of these
+abbrev pub least_other : List (List ℕ) → Members → Option (List ℕ)
+least_other known no_members = None
+least_other known (member k d ms) = (if list_any (bytes_eq k) known then least_other known ms else Some (lesser k (least_other known ms)))
 
 abbrev pub none_of : (List ℕ → List ℕ) → Option (List ℕ) → Result (Unit {0}) ScenarioFault
 none_of path None = Ok tt
@@ -113,4 +120,4 @@ none_of path (Some key) = Err (UnknownKey (path key))
 
 -- a table has no other keys than these
 unfoldable pub only : (List ℕ → List ℕ) → List (List ℕ) → Members → Result (Unit {0}) ScenarioFault
-only path keys ms = none_of path (other_key keys ms)
+only path known ms = none_of path (least_other known ms)

@@ -1,7 +1,8 @@
 ghost use Rattle.std.specs.Prelude.{◌≡◌, ◌≤◌, ◌+◌, ◌-◌, ℕ, List, [], ◌∷◌, length, map, IfOk, IfSome, IsTrue, IsSome, string_bytes, vec_len, option_copied, not};
 ghost use Rattle.std.specs.Option.{option_map};
 ghost use Rattle.std.specs.List.{All, list_all, list_any, find};
-ghost use Rattle.std.specs.BTreeMap.{keys};
+ghost use Rattle.std.specs.BTreeMap.{keys, IsOrdered};
+ghost use Rattle.std.specs.String.{string_cmp};
 ghost use Rattle.std.specs.Str.{bytes_eq};
 ghost use Rattle.arrayvec.specs.ArrayVec.{array_vec_len};
 ghost use Rattle.emv_dict.specs.Date.{date_of, has_digits};
@@ -11,7 +12,7 @@ ghost use Rattle.toml.specs.View.{view, table_view, items_view};
 ghost use Rattle.scenario_fields.specs.Fault.{Tells, Fails, Gives};
 ghost use Rattle.scenario_fields.specs.Place.{path, spot_path};
 ghost use Rattle.scenario_fields.specs.Value.{is_one_of, is_listed};
-ghost use Rattle.scenario_fields.specs.Fields.{required, number_at, number_or, optional_number, listed_or, flag_or, str_at, text_at, digits_at, optional_digits, code_at, six_digits_or, day_at, bytes_at, optional_bytes, array_at, array_or_none, table_at, optional_table, digits_item, digits_list, each, only, other_key};
+ghost use Rattle.scenario_fields.specs.Fields.{required, number_at, number_or, optional_number, listed_or, flag_or, str_at, text_at, digits_at, optional_digits, code_at, six_digits_or, day_at, bytes_at, optional_bytes, array_at, array_or_none, table_at, optional_table, digits_item, digits_list, each, only, least_other};
 ghost use Rattle.scenario_fields.specs.declared.fault.ScenarioFault.TheVariants.{MissingKey, UnknownKey};
 
 use crate::fault::{Path, ScenarioFault};
@@ -182,7 +183,7 @@ impl<'a> Fields<'a> {
     ) -> Result<&'a [u8], ScenarioFault>
         ensures exact { Gives (λ s. s.now) result (text_at (path self.now.place) key.now kind least most (table_view self.now.table.now)) }
         ensures within { IfOk result (λ s. (least ≤ length s.now) × (length s.now ≤ most)) }
-        ensures all { IfOk result (λ s. IsTrue (list_all (is_one_of kind) s.now)) }
+        ensures all { IfOk result (λ s. All (λ c. IsTrue (is_one_of kind c)) s.now) }
     {
         self.spot(key).text(self.required(key)?, kind, least, most)
     }
@@ -194,7 +195,7 @@ impl<'a> Fields<'a> {
         kind: Characters,
     ) -> Result<[u8; N], ScenarioFault>
         ensures exact { Gives (λ bytes. bytes) result (text_at (path self.now.place) key.now kind N N (table_view self.now.table.now)) }
-        ensures all { IfOk result (λ bytes. IsTrue (list_all (is_one_of kind) bytes)) }
+        ensures all { IfOk result (λ bytes. All (λ c. IsTrue (is_one_of kind c)) bytes) }
     {
         let text = self.text(key, kind, N, N)?;
         let mut array = [0u8; N];
@@ -392,6 +393,7 @@ impl<'a> Fields<'a> {
         requires { most ≤ 19 }
         ensures exact { Gives (λ v. v.items) result (digits_list (path self.now.place) key.now count least most (table_view self.now.table.now)) }
         ensures count { IfOk result (λ v. vec_len v ≤ count) }
+        ensures lengths { IfOk result (λ v. All (λ ds. (least ≤ length ds) × (length ds ≤ most)) v.items) }
     {
         self.all_digits(key, self.array_or_none(key, count)?, least, most)
     }
@@ -407,6 +409,7 @@ impl<'a> Fields<'a> {
         requires { most ≤ 19 }
         ensures exact { Gives (λ v. v.items) result (each (digits_item (path self.now.place) key.now least most) 0 (items_view values.now)) }
         ensures count { IfOk result (λ v. vec_len v ≡ length values.now) }
+        ensures lengths { IfOk result (λ v. All (λ ds. (least ≤ length ds) × (length ds ≤ most)) v.items) }
     {
         let mut all = Vec::new(self.alloc);
         for value in values {
@@ -448,10 +451,10 @@ impl<'a> Fields<'a> {
 
     /// That the table has no other keys than these: else the least other key is the fault.
     #[tactic(auto, unfolding(crate::specs::Fields::only))]
-    pub fn only(&self, keys: &[&str]) -> Result<(), ScenarioFault>
-        ensures { Gives (λ u. u) result (only (path self.now.place) (map (λ k. k.now) keys.now) (table_view self.now.table.now)) }
+    pub fn only(&self, known: &[&str]) -> Result<(), ScenarioFault>
+        ensures { Gives (λ u. u) result (only (path self.now.place) (map (λ k. k.now) known.now) (table_view self.now.table.now)) }
     {
-        match other_key(self.table, keys) {
+        match least_other(self.table, known) {
             Some(key) => Err(self.unknown(key.as_str())),
             None => Ok(()),
         }
@@ -465,16 +468,17 @@ fn is_among(key: &str, keys: &[&str]) -> bool
     keys.iter().any(|known| key == *known)
 }
 
-/// The first key that is none of these.
+/// The first key that is none of these; the keys of a table ascend.
 fn first_other<'t>(table: &'t Table, known: &[&str]) -> Option<&'t String>
-    ensures { option_copied result ≡ find (λ k. not (list_any (λ s. bytes_eq (string_bytes k) s.now) known.now)) (keys table.now) }
+    ensures found { option_copied result ≡ find (λ k. not (list_any (λ s. bytes_eq (string_bytes k) s.now) known.now)) (keys table.now) }
+    ensures ordered { IsOrdered string_cmp table.now }
 {
     table.keys().find(|key| !is_among(key.as_str(), known))
 }
 
-/// The first key that is none of these.
-fn other_key<'t>(table: &'t Table, known: &[&str]) -> Option<&'t String>
-    ensures { option_map (λ k. string_bytes k.now) result ≡ other_key (map (λ k. k.now) known.now) (table_view table.now) }
+/// The least key that is none of these.
+fn least_other<'t>(table: &'t Table, known: &[&str]) -> Option<&'t String>
+    ensures { option_map (λ k. string_bytes k.now) result ≡ least_other (map (λ k. k.now) known.now) (table_view table.now) }
 {
     first_other(table, known)
 }

@@ -52,7 +52,8 @@ impl Characters {
 
 /// Whether each character of the text is of this kind.
 fn all_have(kind: Characters, text: &[u8]) -> bool
-    ensures { result ≡ list_all (is_one_of kind) text.now }
+    ensures exact { result ≡ list_all (is_one_of kind) text.now }
+    ensures all { IsTrue result → All (λ c. IsTrue (is_one_of kind c)) text.now }
 {
     text.iter().all(|character| kind.has(*character))
 }
@@ -184,7 +185,7 @@ impl<'a> Spot<'a> {
     ) -> Result<&'b [u8], ScenarioFault>
         ensures exact { Gives (λ s. s.now) result (text_of (spot_path self.now.place self.now.key.now self.now.index) kind least most (view value.now)) }
         ensures within { IfOk result (λ s. (least ≤ length s.now) × (length s.now ≤ most)) }
-        ensures all { IfOk result (λ s. IsTrue (list_all (is_one_of kind) s.now)) }
+        ensures all { IfOk result (λ s. All (λ c. IsTrue (is_one_of kind c)) s.now) }
     {
         let text = self.str_of(value)?.as_bytes();
         if !all_have(kind, text) {
@@ -339,7 +340,7 @@ fn is_listed(number: u64, numbers: &[u64]) -> bool
 /// The digits of a text of digits.
 fn digits_in(text: &[u8]) -> Digits
     requires few { length text.now ≤ 19 }
-    requires digits { IsTrue (list_all (is_one_of Digit) text.now) }
+    requires digits { All (λ c. IsTrue (is_one_of Digit c)) text.now }
     ensures { result ≡ map (λ c. c - 48) text.now }
 {
     let mut digits = Digits::empty();
