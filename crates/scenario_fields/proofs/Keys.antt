@@ -1,5 +1,5 @@
 -- The keys of a table ascend, so the first that is none of some known ones is the least.
-use Rattle.std.proofs.Common.{◌≡◌, ℕ, List, [], ◌∷◌, Bool, true, false, not, ◌||◌, map, Option, Some, None, refl, ap, ◌∙◌, string_bytes, Bor, String, Ordering, Less, nat_cmp}
+use Rattle.std.proofs.Common.{◌≡◌, ℕ, List, [], ◌∷◌, Bool, true, false, not, ◌||◌, map, Option, Some, None, refl, ap, ◌∙◌, string_bytes, Bor, String, Less, nat_cmp}
 use Rattle.std.specs.Prelude.{option_copied, if◌then◌else◌}
 use Rattle.std.specs.Option.{option_map}
 use Rattle.std.specs.List.{list_any, find, AllByRecursion}
@@ -69,7 +69,7 @@ found_key known [] sorted = refl
 found_key known (e ∷ es) sorted =
     rw (any_known (string_bytes e.0) known)
     (chosen (list_any (bytes_eq (string_bytes e.0)) (map (λ s. s.now) known)) e.0 _ _ (found_key known es sorted.1)
-      (lesser_first (string_bytes e.0) _ (none_before (map (λ s. s.now) known) e.0 es sorted.0)))
+    (lesser_first (string_bytes e.0) _ (none_before (map (λ s. s.now) known) e.0 es sorted.0)))
 
 pub least_other_view : (found : Option (Bor (String Global))) (known : List (Bor (List ℕ))) (es : List (String Global × Value)) → IsStrictlySortedBy string_cmp (keys_of es) →
     option_copied found ≡ find (λ k. not (list_any (λ s. bytes_eq (string_bytes k) s.now) known)) (keys_of es) →
