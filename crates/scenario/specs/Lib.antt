@@ -5,4 +5,5 @@ pub mod Lanes
 pub mod Names
 pub mod Purchases
 pub mod Scenario
+pub mod Rules
 pub mod Seen

@@ -8,6 +8,7 @@ ghost use Rattle.scenario_fields.specs.Fields.{only, each};
 ghost use Rattle.scenario_fields.specs.Place.{path};
 ghost use Rattle.scenario_fields.specs.declared.place.Place.TheVariants.{Lane as LanePlace};
 ghost use Rattle.scenario.specs.Lanes.{aid_keys, aid_of, aid_item, aids_at, lane_keys, settings_of, lane_of, lane_item, lanes_from, lanes_at};
+ghost use Rattle.scenario.specs.Rules.{IsLane};
 ghost use Rattle.scenario.specs.Seen.{seen_settings, seen_lane, seen_lanes, names_of};
 
 use crate::plan::{Lane, NamedImage};
@@ -146,6 +147,7 @@ fn read_settings(
     table: &Table,
 ) -> Result<Settings, ScenarioFault>
     ensures exact { Gives seen_settings result (settings_of lane pin_key (table_view table.now)) }
+    ensures rules { IfOk result IsSettings }
 {
     let fields = Fields {
         alloc,
@@ -183,6 +185,7 @@ fn read_lane(
     ensures exact { Gives seen_lane result (lane_of lane earlier (names_of cards.now) pin_key (table_view table.now)) }
     ensures count { IfOk result (λ l. earlier + vec_len l.purchases ≤ 10000) }
     ensures size { IfOk result (λ l. length (seen_lane l).purchases ≡ vec_len l.purchases) }
+    ensures rules { IfOk result IsLane }
 {
     let fields = Fields {
         alloc,
@@ -212,6 +215,7 @@ fn lane_item(
     ensures exact { Gives seen_lane result (lane_item lane earlier (names_of cards.now) pin_key (view value.now)) }
     ensures count { IfOk result (λ l. earlier + vec_len l.purchases ≤ 10000) }
     ensures size { IfOk result (λ l. length (seen_lane l).purchases ≡ vec_len l.purchases) }
+    ensures rules { IfOk result IsLane }
 {
     let spot = Spot {
         alloc,
@@ -232,6 +236,7 @@ fn read_lanes(
 ) -> Result<Vec<Lane>, ScenarioFault>
     ensures exact { Gives (λ lanes. seen_lanes lanes.items) result (lanes_from 0 0 (names_of cards.now) pin_key (items_view values.now)) }
     ensures count { IfOk result (λ lanes. vec_len lanes ≡ length values.now) }
+    ensures rules { IfOk result (λ lanes. All IsLane lanes.items) }
 {
     let mut lanes: Vec<Lane> = Vec::new(alloc);
     let mut earlier = 0;
@@ -252,7 +257,9 @@ pub fn lanes_at(
     document: &Table,
 ) -> Result<Vec<Lane>, ScenarioFault>
     ensures exact { Gives (λ lanes. seen_lanes lanes.items) result (lanes_at (names_of cards.now) pin_key (table_view document.now)) }
-    ensures count { IfOk result (λ lanes. vec_len lanes ≤ 16) }
+    ensures some { IfOk result (λ lanes. 1 ≤ vec_len lanes) }
+    ensures few { IfOk result (λ lanes. vec_len lanes ≤ 16) }
+    ensures rules { IfOk result (λ lanes. All IsLane lanes.items) }
 {
     let fields = Fields {
         alloc,

@@ -1,6 +1,7 @@
 //! The tables of a purchase and of its tear.
 ghost use Rattle.std.specs.Prelude.{◌≡◌, ◌≤◌, ◌+◌, ◌==◌, ◌||◌, [], ◌∷◌, length, IfOk, IsTrue, vec_len, codes};
 ghost use Rattle.std.specs.List.{All};
+ghost use Rattle.emv_dict.specs.Settings.{IsPurchase};
 ghost use Rattle.toml.specs.Data.{get_member};
 ghost use Rattle.toml.specs.View.{view, table_view, items_view};
 ghost use Rattle.scenario_fields.specs.Fault.{Gives};
@@ -180,6 +181,7 @@ fn read_purchase(
     table: &Table,
 ) -> Result<Purchase, ScenarioFault>
     ensures exact { Gives seen_purchase result (purchase_of lane index (table_view table.now)) }
+    ensures rules { IfOk result IsPurchase }
 {
     let fields = Fields {
         alloc,
@@ -234,6 +236,7 @@ fn read_planned(
     table: &Table,
 ) -> Result<Planned, ScenarioFault>
     ensures exact { Gives seen_planned result (planned_of lane index (names_of cards.now) (table_view table.now)) }
+    ensures rules { IfOk result (λ p. IsPurchase p.purchase) }
 {
     let fields = Fields {
         alloc,
@@ -264,6 +267,7 @@ fn planned_item(
 ) -> Result<Planned, ScenarioFault>
     requires { fields.now.place ≡ Lane lane }
     ensures exact { Gives seen_planned result (planned_item lane (names_of cards.now) index (view value.now)) }
+    ensures rules { IfOk result (λ p. IsPurchase p.purchase) }
 {
     let table = fields.item("purchase", index).table(value)?;
     read_planned(fields.alloc, lane, index, cards, table)
@@ -279,6 +283,7 @@ fn read_purchases(
     requires { fields.now.place ≡ Lane lane }
     ensures exact { Gives (λ ps. seen_purchases ps.items) result (each (planned_item lane (names_of cards.now)) 0 (items_view values.now)) }
     ensures count { IfOk result (λ ps. vec_len ps ≡ length values.now) }
+    ensures rules { IfOk result (λ ps. All (λ p. IsPurchase p.purchase) ps.items) }
 {
     let mut purchases = Vec::new(fields.alloc);
     for value in values {
@@ -299,6 +304,7 @@ pub fn purchases_at(
     requires { earlier ≤ 10000 }
     ensures exact { Gives (λ ps. seen_purchases ps.items) result (purchases_at lane earlier (names_of cards.now) (table_view table.now)) }
     ensures count { IfOk result (λ ps. earlier + vec_len ps ≤ 10000) }
+    ensures rules { IfOk result (λ ps. All (λ p. IsPurchase p.purchase) ps.items) }
 {
     let fields = Fields {
         alloc,
