@@ -26,5 +26,5 @@ pub each_pushed : {A B : Type 0} (seen : A → B) (read : ℕ → Data → Resul
 each_pushed seen read i j vs v old new x whole inside item_is at pushed is before =
     rw (pushed, map-append)
     (each_step read (map seen old) i (view (get_or vs i v)) (items_view (drop (i + 1) vs)) (seen x)
-        (subst (λ (k : ℕ). read k (view (get_or vs i v)) ≡ Ok (seen x)) at (subst (λ (w : Value). read j (view w) ≡ Ok (seen x)) item_is is))
-      ∙ (ap (λ (ds : Items). with_front (map seen old) (each read i ds)) (sym (items_view-drop vs i v inside)) ∙ before))
+    (subst (λ (k : ℕ). read k (view (get_or vs i v)) ≡ Ok (seen x)) at (subst (λ (w : Value). read j (view w) ≡ Ok (seen x)) item_is is))
+    ∙ (ap (λ (ds : Items). with_front (map seen old) (each read i ds)) (sym (items_view-drop vs i v inside)) ∙ before))

@@ -31,8 +31,17 @@ aid_of i j ms = do
   max_target ← number_at (in_aid i j) (codes "max_target") target 99 ms
   _ ← only (in_aid i j) aid_keys ms
   Ok (record {
-    name = name; partial = partial; version = version; denial = denial; online = online; fallback = fallback; floor = floor;
-    threshold = threshold; target = target; max_target = max_target })
+    name = name;
+    partial = partial;
+    version = version;
+    denial = denial;
+    online = online;
+    fallback = fallback;
+    floor = floor;
+    threshold = threshold;
+    target = target;
+    max_target = max_target;
+  })
 
 unfoldable pub aid_item : ℕ → ℕ → Data → Result AidRow ScenarioFault
 aid_item i j d = table_of (in_lane i (item_path (codes "aid") j [])) d >>= aid_of i j

@@ -95,8 +95,19 @@ purchase_of i j ms = do
   forced ← flag_or false (in_purchase i j) (codes "forced") ms
   confirm ← flag_or true (in_purchase i j) (codes "confirm") ms
   Ok (record {
-    amount = amount; other = other; currency = currency; trade = trade; services = services; date = date; time = time;
-    number = to_be_bytes w32 number; word = word; pins = pins; forced = forced; confirm = confirm })
+    amount = amount;
+    other = other;
+    currency = currency;
+    trade = trade;
+    services = services;
+    date = date;
+    time = time;
+    number = to_be_bytes w32 number;
+    word = word;
+    pins = pins;
+    forced = forced;
+    confirm = confirm;
+  })
 
 unfoldable pub planned_keys : List (List ℕ)
 planned_keys =

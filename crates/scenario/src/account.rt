@@ -21,9 +21,7 @@ use toml::{Table, Value};
 fn any_has(pan: &[u8], accounts: &[Account]) -> bool
     ensures { result ≡ list_any (λ a. bytes_eq a.pan pan.now) accounts.now }
 {
-    accounts
-        .iter()
-        .any(|account| account.pan.as_slice() == pan)
+    accounts.iter().any(|account| account.pan.as_slice() == pan)
 }
 
 /// Whether an account has this PAN.

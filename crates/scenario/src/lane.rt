@@ -94,11 +94,7 @@ fn aid_item(
 }
 
 /// Each application of a lane.
-fn read_aids(
-    fields: &Fields,
-    lane: usize,
-    values: &[Value],
-) -> Result<Vec<AidRow>, ScenarioFault>
+fn read_aids(fields: &Fields, lane: usize, values: &[Value]) -> Result<Vec<AidRow>, ScenarioFault>
     requires { fields.now.place ≡ LanePlace lane }
     ensures exact { Gives (λ rows. rows.items) result (each (aid_item lane) 0 (items_view values.now)) }
     ensures count { IfOk result (λ rows. vec_len rows ≡ length values.now) }

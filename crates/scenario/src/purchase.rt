@@ -59,12 +59,7 @@ fn only_tear_keys(fields: &Fields) -> Result<(), ScenarioFault>
 
 /// The tear of a lane's purchase.
 #[tactic(auto, unfolding(crate::specs::Purchases::tear_of))]
-fn read_tear(
-    alloc: Global,
-    lane: usize,
-    index: usize,
-    table: &Table,
-) -> Result<Tear, ScenarioFault>
+fn read_tear(alloc: Global, lane: usize, index: usize, table: &Table) -> Result<Tear, ScenarioFault>
     ensures { Gives (λ tear. tear) result (tear_of lane index (table_view table.now)) }
 {
     let fields = Fields {

@@ -1,10 +1,11 @@
 //! The document of a scenario, from its bytes.
-ghost use Rattle.std.specs.Prelude.{◌≡◌, [], length, codes};
+ghost use Rattle.std.specs.Prelude.{◌≡◌, [], length, codes, IfOk};
 ghost use Rattle.toml.specs.View.{table_view};
 ghost use Rattle.scenario_fields.specs.Fault.{Gives, Tells};
 ghost use Rattle.scenario_fields.specs.Fields.{only};
 ghost use Rattle.scenario_fields.specs.Place.{path};
 ghost use Rattle.scenario_fields.specs.declared.fault.ScenarioFault.TheVariants.{OutOfLimit};
+ghost use Rattle.scenario.specs.Rules.{IsScenario};
 ghost use Rattle.scenario.specs.Scenario.{top_keys, scenario_of, IsReading};
 ghost use Rattle.scenario.specs.Seen.{seen_scenario, names_of};
 
@@ -34,7 +35,8 @@ pub(crate) fn read_document(
     cards: &[NamedImage],
     document: &Table,
 ) -> Result<Scenario, ScenarioFault>
-    ensures { Gives seen_scenario result (scenario_of (names_of cards.now) (table_view document.now)) }
+    ensures exact { Gives seen_scenario result (scenario_of (names_of cards.now) (table_view document.now)) }
+    ensures rules { IfOk result IsScenario }
 {
     let fields = Fields {
         alloc,
@@ -75,7 +77,8 @@ fn too_long(alloc: Global) -> ScenarioFault
 /// bytes, bytes that are no TOML document, then the document's tables in their order, key by key, and
 /// behind all the names that it uses. Want of memory is an error of its own.
 pub fn read_scenario(alloc: Global, bytes: &[u8]) -> Result<Scenario, ScenarioFault>
-    ensures { IsReading seen_scenario bytes.now result }
+    ensures exact { IsReading seen_scenario bytes.now result }
+    ensures rules { IfOk result IsScenario }
 {
     if bytes.len() > MOST_BYTES {
         return Err(too_long(alloc));

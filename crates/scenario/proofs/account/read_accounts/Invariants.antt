@@ -9,5 +9,6 @@ abbrev pub invariant-loop-value : goal.invariant-loop-value
 invariant-loop-value l = record {
   count : length l.accounts.items ≡ l.value-index;
   read :
-    with_front (seen_accounts l.accounts.items) (accounts_from l.value-index (seen_accounts l.accounts.items) (items_view (drop l.value-index l.values)))
-    ≡ accounts_from 0 [] (items_view l.values) }
+      with_front (seen_accounts l.accounts.items) (accounts_from l.value-index (seen_accounts l.accounts.items) (items_view (drop l.value-index l.values)))
+      ≡ accounts_from 0 [] (items_view l.values);
+}

@@ -11,5 +11,6 @@ invariant-loop-value l = record {
   count : length l.rows.items ≡ l.value-index;
   rules : All IsAidRow l.rows.items;
   read :
-    with_front l.rows.items (each (aid_item l.lane) l.value-index (items_view (drop l.value-index l.values)))
-    ≡ each (aid_item l.lane) 0 (items_view l.values) }
+      with_front l.rows.items (each (aid_item l.lane) l.value-index (items_view (drop l.value-index l.values)))
+      ≡ each (aid_item l.lane) 0 (items_view l.values);
+}

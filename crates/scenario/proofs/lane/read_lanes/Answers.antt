@@ -28,18 +28,18 @@ lanes_pushed : (names : List (List ℕ)) (pin : List ℕ) (i j earlier size : �
 lanes_pushed names pin i j earlier size vs v old new x whole inside item_is at pushed sized is before =
     rw (pushed, map-append, ← sized)
     (lanes_step names pin (seen_lanes old) i earlier (view (get_or vs i v)) (items_view (drop (i + 1) vs)) (seen_lane x)
-        (subst (λ (k : ℕ). lane_item k earlier names pin (view (get_or vs i v)) ≡ Ok (seen_lane x)) at
-          (subst (λ (w : Value). lane_item j earlier names pin (view w) ≡ Ok (seen_lane x)) item_is is))
-      ∙ (ap (λ (ds : Items). with_front (seen_lanes old) (lanes_from i earlier names pin ds)) (sym (items_view-drop vs i v inside)) ∙ before))
+    (subst (λ (k : ℕ). lane_item k earlier names pin (view (get_or vs i v)) ≡ Ok (seen_lane x)) at
+    (subst (λ (w : Value). lane_item j earlier names pin (view w) ≡ Ok (seen_lane x)) item_is is))
+    ∙ (ap (λ (ds : Items). with_front (seen_lanes old) (lanes_from i earlier names pin ds)) (sym (items_view-drop vs i v inside)) ∙ before))
 
 pub loop-value-preserved : goal.loop-value-preserved
 loop-value-preserved c = record {
-    count = search rules;
-    room = search rules;
-    rules = rw c.in_ok-push.ensures.items (All-push IsLane _ _ c.loop-value.invariant.rules c.in_ok-lane.ensures.rules);
-    read =
+  count = search rules;
+  room = search rules;
+  rules = rw c.in_ok-push.ensures.items (All-push IsLane _ _ c.loop-value.invariant.rules c.in_ok-lane.ensures.rules);
+  read =
       lanes_pushed (names_of c.args.cards.now) c.args.pin_key c.loop-value.value-index c.len.result c.loop-value.earlier c.len-earlier.result c.args.values.now
-        c.value-item.result c.loop-value.lanes.items c.push.new.self.items c.in_ok-lane.lane _
-        c.loop-value-test.true c.value-item.is (omega (arith, c.len.ensures)) c.in_ok-push.ensures.items (c.in_ok-lane.ensures.size ∙ sym c.len-earlier.ensures)
-        c.in_ok-lane.ensures.exact c.loop-value.invariant.read;
-  }
+      c.value-item.result c.loop-value.lanes.items c.push.new.self.items c.in_ok-lane.lane _
+      c.loop-value-test.true c.value-item.is (omega (arith, c.len.ensures)) c.in_ok-push.ensures.items (c.in_ok-lane.ensures.size ∙ sym c.len-earlier.ensures)
+      c.in_ok-lane.ensures.exact c.loop-value.invariant.read;
+}

@@ -13,5 +13,6 @@ invariant-loop-value l = record {
   room : l.earlier ≤ 10000;
   rules : All IsLane l.lanes.items;
   read :
-    with_front (seen_lanes l.lanes.items) (lanes_from l.value-index l.earlier (names_of l.cards) l.pin_key (items_view (drop l.value-index l.values)))
-    ≡ lanes_from 0 0 (names_of l.cards) l.pin_key (items_view l.values) }
+      with_front (seen_lanes l.lanes.items) (lanes_from l.value-index l.earlier (names_of l.cards) l.pin_key (items_view (drop l.value-index l.values)))
+      ≡ lanes_from 0 0 (names_of l.cards) l.pin_key (items_view l.values);
+}

@@ -8,5 +8,6 @@ abbrev pub invariant-loop-value : goal.invariant-loop-value
 invariant-loop-value l = record {
   count : length l.schedule.items ≡ l.value-index;
   read :
-    with_front l.schedule.items (each schedule_item l.value-index (items_view (drop l.value-index l.values)))
-    ≡ each schedule_item 0 (items_view l.values) }
+      with_front l.schedule.items (each schedule_item l.value-index (items_view (drop l.value-index l.values)))
+      ≡ each schedule_item 0 (items_view l.values);
+}

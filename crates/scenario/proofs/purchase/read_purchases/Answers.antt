@@ -8,10 +8,10 @@ use Rattle.scenario.proofs.purchase.read_purchases.Goals as goal
 
 pub loop-value-preserved : goal.loop-value-preserved
 loop-value-preserved c = record {
-    count = search rules;
-    rules = rw c.in_ok-push.ensures.items (All-push (λ p. IsPurchase p.purchase) _ _ c.loop-value.invariant.rules c.in_ok-planned_item.ensures.rules);
-    read =
+  count = search rules;
+  rules = rw c.in_ok-push.ensures.items (All-push (λ p. IsPurchase p.purchase) _ _ c.loop-value.invariant.rules c.in_ok-planned_item.ensures.rules);
+  read =
       each_pushed seen_planned (planned_item c.args.lane (names_of c.args.cards.now)) c.loop-value.value-index c.len.result c.args.values.now c.value-item.result
-        c.loop-value.purchases.items c.push.new.self.items c.in_ok-planned_item.field-0 _
-        c.loop-value-test.true c.value-item.is (omega (arith, c.len.ensures)) c.in_ok-push.ensures.items c.in_ok-planned_item.ensures.exact c.loop-value.invariant.read;
-  }
+      c.loop-value.purchases.items c.push.new.self.items c.in_ok-planned_item.field-0 _
+      c.loop-value-test.true c.value-item.is (omega (arith, c.len.ensures)) c.in_ok-push.ensures.items c.in_ok-planned_item.ensures.exact c.loop-value.invariant.read;
+}

@@ -12,5 +12,6 @@ invariant-loop-value l = record {
   count : length l.purchases.items ≡ l.value-index;
   rules : All (λ p. IsPurchase p.purchase) l.purchases.items;
   read :
-    with_front (seen_purchases l.purchases.items) (each (planned_item l.lane (names_of l.cards)) l.value-index (items_view (drop l.value-index l.values)))
-    ≡ each (planned_item l.lane (names_of l.cards)) 0 (items_view l.values) }
+      with_front (seen_purchases l.purchases.items) (each (planned_item l.lane (names_of l.cards)) l.value-index (items_view (drop l.value-index l.values)))
+      ≡ each (planned_item l.lane (names_of l.cards)) 0 (items_view l.values);
+}

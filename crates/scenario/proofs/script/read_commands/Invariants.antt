@@ -8,5 +8,6 @@ abbrev pub invariant-loop-value : goal.invariant-loop-value
 invariant-loop-value l = record {
   count : length l.commands.items ≡ l.value-index;
   read :
-    with_front l.commands.items (each (command_item l.account l.script) l.value-index (items_view (drop l.value-index l.values)))
-    ≡ each (command_item l.account l.script) 0 (items_view l.values) }
+      with_front l.commands.items (each (command_item l.account l.script) l.value-index (items_view (drop l.value-index l.values)))
+      ≡ each (command_item l.account l.script) 0 (items_view l.values);
+}

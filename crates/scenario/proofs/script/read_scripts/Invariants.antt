@@ -11,5 +11,6 @@ invariant-loop-value l = record {
   count : length l.scripts.items ≡ l.value-index;
   few : All (λ script. vec_len script.commands ≤ 16) l.scripts.items;
   read :
-    with_front (seen_scripts l.scripts.items) (each (script_item l.account) l.value-index (items_view (drop l.value-index l.values)))
-    ≡ each (script_item l.account) 0 (items_view l.values) }
+      with_front (seen_scripts l.scripts.items) (each (script_item l.account) l.value-index (items_view (drop l.value-index l.values)))
+      ≡ each (script_item l.account) 0 (items_view l.values);
+}
