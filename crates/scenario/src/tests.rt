@@ -367,21 +367,33 @@ const MORE: [(&str, &str); 3] = [
 ];
 
 #[test]
-fn the_document_is_read(rt: HostRuntime) {
+fn the_issuer_and_its_account_are_read(rt: HostRuntime) {
     let scenario = read(rt.alloc(), DOCUMENT).ok().expect(&rt, "a scenario");
     assert!(rt; scenario.issuer.pin.bytes()[0] == 0x67 && scenario.issuer.ac.bytes()[15] == 0x10);
     assert!(rt; scenario.copies == 1 && scenario.schedule.is_empty());
-    assert!(rt; scenario.accounts.len() == 1 && scenario.accounts[0].balance == 100_000);
-    assert!(rt; scenario.accounts[0].pan.len() == 16 && !scenario.accounts[0].blocked);
-    assert!(rt; scenario.accounts[0].currency == [0x08, 0x40]);
-    let lane = &scenario.lanes[0];
+    let account = scenario.accounts.first().expect(&rt, "an account");
+    assert!(rt; account.balance == 100_000 && account.currency == [0x08, 0x40]);
+    assert!(rt; account.pan.len() == 16 && !account.blocked && account.pin.is_some());
+    assert!(rt; account.scripts.is_empty());
+}
+
+#[test]
+fn the_lane_is_read(rt: HostRuntime) {
+    let scenario = read(rt.alloc(), DOCUMENT).ok().expect(&rt, "a scenario");
+    let lane = scenario.lanes.first().expect(&rt, "a lane");
     assert!(rt; lane.settings.kind == 22 && lane.settings.id == *b"TERM0001");
     assert!(rt; lane.settings.pin_key == scenario.issuer.pin.bytes());
-    assert!(rt; lane.settings.exceptions.is_empty() && lane.settings.aids.len() == 1);
-    let row = &lane.settings.aids[0];
+    assert!(rt; lane.settings.exceptions.is_empty());
+    let row = lane.settings.aids.first().expect(&rt, "an application");
     assert!(rt; row.name.as_slice() == [0xA0, 0, 0, 0, 0x03, 0x10, 0x10].as_slice());
     assert!(rt; !row.partial && row.floor == 10_000 && row.max_target == 50);
-    let planned = &lane.purchases[0];
+}
+
+#[test]
+fn the_purchase_is_read(rt: HostRuntime) {
+    let scenario = read(rt.alloc(), DOCUMENT).ok().expect(&rt, "a scenario");
+    let lane = scenario.lanes.first().expect(&rt, "a lane");
+    let planned = lane.purchases.first().expect(&rt, "a purchase");
     assert!(rt; planned.card == 0 && planned.link == Link::Sound && planned.tear.is_none());
     let purchase = &planned.purchase;
     assert!(rt; purchase.amount == 2500 && purchase.other == 0 && purchase.trade == 0);
@@ -390,22 +402,39 @@ fn the_document_is_read(rt: HostRuntime) {
     assert!(rt; purchase.pins.len() == 1 && !purchase.forced && purchase.confirm);
 }
 
-#[test]
-fn scripts_tears_and_links_are_read(rt: HostRuntime) {
-    let mut text = format!(in rt.alloc(); "{DOCUMENT}").expect(&rt, "room");
+/// The document with all its changes.
+fn more(alloc: Global) -> Option<String> {
+    let mut text = format!(in alloc; "{DOCUMENT}").ok()?;
     for (old, new) in MORE {
-        let next = replaced(rt.alloc(), text.as_str(), old, new).expect(&rt, "the place");
-        text = next;
+        text = replaced(alloc, text.as_str(), old, new)?;
     }
+    Some(text)
+}
+
+#[test]
+fn scripts_are_read(rt: HostRuntime) {
+    let text = more(rt.alloc()).expect(&rt, "a document");
     let scenario = read(rt.alloc(), text.as_str())
         .ok()
         .expect(&rt, "a scenario");
     assert!(rt; scenario.copies == 3 && scenario.schedule.as_slice() == [0, 0].as_slice());
-    let script = &scenario.accounts[0].scripts[0];
-    assert!(rt; script.before && script.id == Some([0, 0, 0, 1]));
-    assert!(rt; script.commands.len() == 2 && script.commands[0].word == Word::Count(9));
-    assert!(rt; !script.commands[0].bad && script.commands[1].bad);
-    let planned = &scenario.lanes[0].purchases[0];
+    let account = scenario.accounts.first().expect(&rt, "an account");
+    let script = account.scripts.first().expect(&rt, "a script");
+    assert!(rt; script.before && script.id == Some([0, 0, 0, 1]) && script.commands.len() == 2);
+    let first = script.commands.first().expect(&rt, "a command");
+    assert!(rt; first.word == Word::Count(9) && !first.bad);
+    let last = script.commands.last().expect(&rt, "a command");
+    assert!(rt; last.word == Word::Block && last.bad);
+}
+
+#[test]
+fn tears_and_links_are_read(rt: HostRuntime) {
+    let text = more(rt.alloc()).expect(&rt, "a document");
+    let scenario = read(rt.alloc(), text.as_str())
+        .ok()
+        .expect(&rt, "a scenario");
+    let lane = scenario.lanes.first().expect(&rt, "a lane");
+    let planned = lane.purchases.first().expect(&rt, "a purchase");
     let cut = Tear {
         commit: 4,
         at: TearAt::Within(2),
