@@ -1,0 +1,96 @@
+//! The document of a scenario, from its bytes.
+ghost use Rattle.std.specs.Prelude.{◌≡◌, [], length, codes, IfOk};
+ghost use Rattle.toml.specs.View.{table_view};
+ghost use Rattle.scenario_fields.specs.Fault.{Gives, Tells};
+ghost use Rattle.scenario_fields.specs.Fields.{only};
+ghost use Rattle.scenario_fields.specs.Place.{path};
+ghost use Rattle.scenario_fields.specs.declared.fault.ScenarioFault.TheVariants.{OutOfLimit};
+ghost use Rattle.scenario.specs.Rules.{IsScenario};
+ghost use Rattle.scenario.specs.Scenario.{top_keys, scenario_of, IsReading};
+ghost use Rattle.scenario.specs.Seen.{seen_scenario, names_of};
+
+use crate::account::accounts_at;
+use crate::issuer::issuer_at;
+use crate::lane::lanes_at;
+use crate::names::{all_known_cards, known_lanes, schedule_at};
+use crate::plan::{NamedImage, Scenario};
+use scenario_fields::{Fields, Place, ScenarioFault, Spot};
+use std::alloc::Global;
+use toml::Table;
+
+/// A document has at most so many bytes.
+pub const MOST_BYTES: usize = 4_194_304;
+
+#[tactic(auto, unfolding(crate::specs::Scenario::top_keys))]
+fn only_top_keys(fields: &Fields) -> Result<(), ScenarioFault>
+    ensures { Gives (λ u. u) result (only (path fields.now.place) top_keys (table_view fields.now.table.now)) }
+{
+    fields.only(&["issuer", "account", "card", "lane", "schedule", "copies"])
+}
+
+/// The scenario of a document with these cards.
+#[tactic(auto, unfolding(crate::specs::Scenario::scenario_of, crate::specs::Seen::seen_scenario))]
+pub(crate) fn read_document(
+    alloc: Global,
+    cards: &[NamedImage],
+    document: &Table,
+) -> Result<Scenario, ScenarioFault>
+    ensures exact { Gives seen_scenario result (scenario_of (names_of cards.now) (table_view document.now)) }
+    ensures rules { IfOk result IsScenario }
+{
+    let fields = Fields {
+        alloc,
+        place: Place::Top,
+        table: document,
+    };
+    let issuer = issuer_at(alloc, document)?;
+    let accounts = accounts_at(alloc, document)?;
+    let lanes = lanes_at(alloc, cards, issuer.pin.bytes(), document)?;
+    let schedule = schedule_at(alloc, document)?;
+    let copies = fields.number_or(1, "copies", 1, 3)? as u8;
+    only_top_keys(&fields)?;
+    all_known_cards(alloc, cards.len(), lanes.as_slice())?;
+    known_lanes(alloc, lanes.len(), schedule.as_slice())?;
+    Ok(Scenario {
+        issuer,
+        accounts,
+        lanes,
+        schedule,
+        copies,
+    })
+}
+
+/// The fault of a document that is too long.
+fn too_long(alloc: Global) -> ScenarioFault
+    ensures { Tells result (OutOfLimit (codes "file")) }
+{
+    let file = Spot {
+        alloc,
+        place: Place::Top,
+        key: "file",
+        index: None,
+    };
+    file.far()
+}
+
+/// Reads a scenario of its document's bytes, or gives the document's first fault: more than 4,194,304
+/// bytes, bytes that are no TOML document, then the document's tables in their order, key by key, and
+/// behind all the names that it uses. Want of memory is an error of its own.
+pub fn read_scenario(alloc: Global, bytes: &[u8]) -> Result<Scenario, ScenarioFault>
+    ensures exact { IsReading seen_scenario bytes.now result }
+    ensures rules { IfOk result IsScenario }
+{
+    if bytes.len() > MOST_BYTES {
+        return Err(too_long(alloc));
+    }
+    match toml::table_from_slice(alloc, bytes) {
+        Ok(document) => read_document(alloc, &[], &document),
+        Err(fault) => {
+            if fault.is_memory() {
+                Err(ScenarioFault::OutOfMemory)
+            } else {
+                Err(ScenarioFault::Toml)
+            }
+        }
+    }
+}

@@ -1,0 +1,187 @@
+//! The table of an account's script.
+ghost use Rattle.std.specs.Prelude.{◌≡◌, ◌≤◌, length, nat_le, IfOk, vec_len};
+ghost use Rattle.std.specs.List.{All};
+ghost use Rattle.issuer_host.specs.MadeLength.{all_made_length};
+ghost use Rattle.issuer_host.specs.Seen.{seen_script, seen_scripts};
+ghost use Rattle.toml.specs.View.{view, table_view, items_view};
+ghost use Rattle.scenario_fields.specs.Fault.{Gives};
+ghost use Rattle.scenario_fields.specs.Fields.{only, each};
+ghost use Rattle.scenario_fields.specs.Place.{path};
+ghost use Rattle.scenario_fields.specs.declared.place.Place.TheVariants.{Account as AccountPlace, Scripts as ScriptsPlace};
+ghost use Rattle.scenario.specs.Accounts.{is_before, command_item, commands_at, script_keys, script_of, script_item, scripts_at};
+
+use issuer_host::{Ordered, Script};
+use scenario_fields::{Fields, Place, ScenarioFault};
+use script_words::{made_length, read_order};
+use std::alloc::Global;
+use toml::{Table, Value};
+
+/// The scripts of an account get at most so many bytes in the issuer's reply.
+pub const MOST_SCRIPT_BYTES: usize = 1_024;
+
+/// Whether a script runs before the final GENERATE AC, by the word for it.
+#[tactic(auto, unfolding(crate::specs::Accounts::is_before))]
+fn is_before(fields: &Fields, word: &str) -> Result<bool, ScenarioFault>
+    ensures { Gives (λ before. before) result (is_before (path fields.now.place) word.now) }
+{
+    if word == "before" {
+        Ok(true)
+    } else if word == "after" {
+        Ok(false)
+    } else {
+        Err(fields.spot("when").bad())
+    }
+}
+
+/// A command among those of a script.
+#[tactic(auto, unfolding(crate::specs::Accounts::command_item))]
+fn command_item(
+    fields: &Fields,
+    account: usize,
+    script: usize,
+    index: usize,
+    value: &Value,
+) -> Result<Ordered, ScenarioFault>
+    requires { fields.now.place ≡ ScriptsPlace account script }
+    ensures { Gives (λ order. order) result (command_item account script index (view value.now)) }
+{
+    let spot = fields.item("commands", index);
+    match read_order(spot.str_of(value)?.as_bytes()) {
+        Some(order) => Ok(order),
+        None => Err(spot.bad()),
+    }
+}
+
+/// Each command of a script.
+fn read_commands(
+    fields: &Fields,
+    account: usize,
+    script: usize,
+    values: &[Value],
+) -> Result<Vec<Ordered>, ScenarioFault>
+    requires { fields.now.place ≡ ScriptsPlace account script }
+    ensures exact { Gives (λ orders. orders.items) result (each (command_item account script) 0 (items_view values.now)) }
+    ensures count { IfOk result (λ orders. vec_len orders ≡ length values.now) }
+{
+    let mut commands = Vec::new(fields.alloc);
+    for value in values {
+        commands.push(command_item(fields, account, script, commands.len(), value)?)?;
+    }
+    Ok(commands)
+}
+
+/// The commands of a script.
+#[tactic(auto, unfolding(crate::specs::Accounts::commands_at))]
+fn commands_at(
+    fields: &Fields,
+    account: usize,
+    script: usize,
+) -> Result<Vec<Ordered>, ScenarioFault>
+    requires { fields.now.place ≡ ScriptsPlace account script }
+    ensures exact { Gives (λ orders. orders.items) result (commands_at account script (table_view fields.now.table.now)) }
+    ensures few { IfOk result (λ orders. vec_len orders ≤ 16) }
+{
+    read_commands(fields, account, script, fields.array("commands", 1, 16)?)
+}
+
+#[tactic(auto, unfolding(crate::specs::Accounts::script_keys))]
+fn only_script_keys(fields: &Fields) -> Result<(), ScenarioFault>
+    ensures { Gives (λ u. u) result (only (path fields.now.place) script_keys (table_view fields.now.table.now)) }
+{
+    fields.only(&["when", "id", "commands"])
+}
+
+/// A script of an account.
+#[tactic(auto, unfolding(crate::specs::Accounts::script_of, issuer_host::specs::Seen::seen_script))]
+fn read_script(
+    alloc: Global,
+    account: usize,
+    index: usize,
+    table: &Table,
+) -> Result<Script, ScenarioFault>
+    ensures exact { Gives seen_script result (script_of account index (table_view table.now)) }
+    ensures few { IfOk result (λ script. vec_len script.commands ≤ 16) }
+{
+    let fields = Fields {
+        alloc,
+        place: Place::Scripts(account, index),
+        table,
+    };
+    let before = is_before(&fields, fields.str_at("when")?)?;
+    let id = fields.optional_byte_array("id")?;
+    let commands = commands_at(&fields, account, index)?;
+    only_script_keys(&fields)?;
+    Ok(Script {
+        before,
+        id,
+        commands,
+    })
+}
+
+/// A script among those of an account.
+#[tactic(auto, unfolding(crate::specs::Accounts::script_item))]
+fn script_item(
+    fields: &Fields,
+    account: usize,
+    index: usize,
+    value: &Value,
+) -> Result<Script, ScenarioFault>
+    requires { fields.now.place ≡ AccountPlace account }
+    ensures exact { Gives seen_script result (script_item account index (view value.now)) }
+    ensures few { IfOk result (λ script. vec_len script.commands ≤ 16) }
+{
+    let table = fields.item("scripts", index).table(value)?;
+    read_script(fields.alloc, account, index, table)
+}
+
+/// Each script of an account.
+fn read_scripts(
+    fields: &Fields,
+    account: usize,
+    values: &[Value],
+) -> Result<Vec<Script>, ScenarioFault>
+    requires { fields.now.place ≡ AccountPlace account }
+    ensures exact { Gives (λ scripts. seen_scripts scripts.items) result (each (script_item account) 0 (items_view values.now)) }
+    ensures few { IfOk result (λ scripts. All (λ script. vec_len script.commands ≤ 16) scripts.items) }
+{
+    let mut scripts = Vec::new(fields.alloc);
+    for value in values {
+        scripts.push(script_item(fields, account, scripts.len(), value)?)?;
+    }
+    Ok(scripts)
+}
+
+/// Whether the scripts get at most `room` bytes.
+fn fit(scripts: &[Script], room: usize) -> bool
+    requires { All (λ script. vec_len script.commands ≤ 16) scripts.now }
+    ensures { result ≡ nat_le (all_made_length (seen_scripts scripts.now)) room }
+{
+    match scripts {
+        [] => true,
+        [first, rest @ ..] => {
+            let length = made_length(first);
+            length <= room && fit(rest, room - length)
+        }
+    }
+}
+
+/// The scripts of an account.
+#[tactic(auto, unfolding(crate::specs::Accounts::scripts_at))]
+pub fn scripts_at(
+    alloc: Global,
+    account: usize,
+    table: &Table,
+) -> Result<Vec<Script>, ScenarioFault>
+    ensures { Gives (λ scripts. seen_scripts scripts.items) result (scripts_at account (table_view table.now)) }
+{
+    let fields = Fields {
+        alloc,
+        place: Place::Account(account),
+        table,
+    };
+    let scripts = read_scripts(&fields, account, fields.array_or_none("scripts", 8)?)?;
+    if !fit(&scripts, MOST_SCRIPT_BYTES) {
+        return Err(fields.spot("scripts").far());
+    }
+    Ok(scripts)
+}

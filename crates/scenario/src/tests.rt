@@ -1,0 +1,465 @@
+use crate::plan::{Link, NamedImage, Scenario};
+use crate::read::read_document;
+use crate::{ScenarioFault, read_scenario};
+use emv_ports::{Tear, TearAt};
+use issuer_host::Word;
+use std::alloc::Global;
+
+/// A payment of 25.00 by a card with one application.
+const DOCUMENT: &str =
+    "\n[issuer]\nac_key = \"0123456789ABCDEFFEDCBA9876543210\"\nmac_key = \"23456789ABCDEF01DCBA9876543210FE\"\nenc_key = \"456789ABCDEF0123BA9876543210FEDC\"\npin_key = \"6789ABCDEF0123459876543210FEDCBA\"\n\n[[account]]\npan = \"4761739001010010\"\ncurrency = \"840\"\nbalance = 100000\npin = \"1234\"\n\n[[card]]\nname = \"c1\"\n\n[[card.app]]\nname = \"A0000000031010\"\nlabel = \"CREDIT\"\npriority = 1\naip = \"1C00\"\nafl = \"08010300\"\ncdol1 = \"9F02069F03069F1A0295055F2A029A039C019F3704\"\ncdol2 = \"8A029F02069F03069F1A0295055F2A029A039C019F3704\"\npan = \"4761739001010010\"\nsequence = 1\ncurrency = \"840\"\ncounter = 10\nlast_online = 9\ncount_limit = 5\nsum_limit = 20000\npin = \"1234\"\ntries = 3\n\n[[card.app.record]]\nsfi = 1\nnumber = 1\nbytes = \"702E5A0847617390010100105F3401015F24032612315F25032401015F280208409F420208409F0702FF009F08020096\"\n\n[[card.app.record]]\nsfi = 1\nnumber = 2\nbytes = \"70308C159F02069F03069F1A0295055F2A029A039C019F37048D178A029F02069F03069F1A0295055F2A029A039C019F3704\"\n\n[[card.app.record]]\nsfi = 1\nnumber = 3\nbytes = \"70308E0E000000000000000041035E031F009F0D057068BCF8009F0E0500100000009F0F057068BC98009F1401059F230109\"\n\n[[lane]]\nkind = 22\ncountry = \"840\"\ncaps = \"E0B8C8\"\nid = \"TERM0001\"\n\n[[lane.aid]]\nname = \"A0000000031010\"\nversion = \"0096\"\ndenial = \"0010000000\"\nonline = \"7068BC9800\"\ndefault = \"7068BCF800\"\nfloor = 10000\nthreshold = 5000\ntarget = 10\nmax_target = 50\n\n[[lane.purchase]]\ncard = \"c1\"\namount = 2500\ncurrency = \"840\"\ndate = \"240615\"\ntime = \"120000\"\nnumber = 16909060\nword = 49\npins = [\"1234\"]\n";
+
+/// What is put in place of what, and the fault that this makes.
+const DOCUMENT_FAULTS: [(&str, &str, &str); 9] = [
+    (
+        "[[account]]\npan = \"4761739001010010\"\ncurrency = \"840\"\nbalance = 100000\npin = \"1234\"\n",
+        "",
+        "2 MissingKey account",
+    ),
+    (
+        "[issuer]\nac_key = \"0123456789ABCDEFFEDCBA9876543210\"\nmac_key = \"23456789ABCDEF01DCBA9876543210FE\"\nenc_key = \"456789ABCDEF0123BA9876543210FEDC\"\npin_key = \"6789ABCDEF0123459876543210FEDCBA\"\n",
+        "",
+        "2 MissingKey issuer",
+    ),
+    (
+        "[[account]]\npan = \"4761739001010010\"\ncurrency = \"840\"\nbalance = 100000\npin = \"1234\"",
+        "[account]",
+        "3 BadValue account",
+    ),
+    (
+        "\n[issuer]\nac_key = \"0123456789ABCDEFFEDCBA9876543210\"\nmac_key = \"23456789ABCDEF01DCBA9876543210FE\"\nenc_key = \"456789ABCDEF0123BA9876543210FEDC\"\npin_key = \"6789ABCDEF0123459876543210FEDCBA\"",
+        "issuer = 5",
+        "3 BadValue issuer",
+    ),
+    ("\n[issuer]", "copies = 4\n[issuer]", "4 OutOfLimit copies"),
+    (
+        "\n[issuer]",
+        "schedule = [-1]\n[issuer]",
+        "6 UnknownName schedule[0]",
+    ),
+    (
+        "\n[issuer]",
+        "schedule = [0, 1]\n[issuer]",
+        "6 UnknownName schedule[1]",
+    ),
+    (
+        "\n[issuer]",
+        "schedule = [5, \"0\"]\n[issuer]",
+        "3 BadValue schedule[1]",
+    ),
+    ("\n[issuer]", "b = 1\na = 1\n[issuer]", "5 UnknownKey a"),
+];
+
+/// What is put in place of what, and the fault that this makes.
+const ISSUER_FAULTS: [(&str, &str, &str); 5] = [
+    (
+        "pin_key = \"6789ABCDEF0123459876543210FEDCBA\"",
+        "",
+        "2 MissingKey issuer.pin_key",
+    ),
+    (
+        "ac_key = \"0123456789ABCDEFFEDCBA9876543210\"",
+        "ac_key = \"012\"",
+        "3 BadValue issuer.ac_key",
+    ),
+    (
+        "ac_key = \"0123456789ABCDEFFEDCBA9876543210\"",
+        "ac_key = \"0g\"",
+        "3 BadValue issuer.ac_key",
+    ),
+    (
+        "ac_key = \"0123456789ABCDEFFEDCBA9876543210\"",
+        "ac_key = \"01\"",
+        "4 OutOfLimit issuer.ac_key",
+    ),
+    (
+        "pin_key = \"6789ABCDEF0123459876543210FEDCBA\"",
+        "pin_key = \"6789ABCDEF0123459876543210FEDCBA\"\n\"a b\" = 1",
+        "5 UnknownKey issuer.a b",
+    ),
+];
+
+/// What is put in place of what, and the fault that this makes.
+const ACCOUNT_FAULTS: [(&str, &str, &str); 12] = [
+    (
+        "balance = 100000\npin = \"1234\"\n",
+        "balance = 100000\npin = \"1234\"\n\n[[account.scripts]]\nwhen = \"after\"\n",
+        "2 MissingKey account[0].scripts[0].commands",
+    ),
+    (
+        "balance = 100000\npin = \"1234\"",
+        "balance = 100000\npin = \"1234\"\nblocked = 0",
+        "3 BadValue account[0].blocked",
+    ),
+    (
+        "[[account]]\npan = \"4761739001010010\"",
+        "[[account]]\npan = 4761739001010010",
+        "3 BadValue account[0].pan",
+    ),
+    (
+        "[[account]]\npan = \"4761739001010010\"",
+        "[[account]]\npan = \"47617390010100x\"",
+        "3 BadValue account[0].pan",
+    ),
+    (
+        "balance = 100000\npin = \"1234\"\n",
+        "balance = 100000\npin = \"1234\"\n\n[[account.scripts]]\nwhen = \"after\"\ncommands = [\"count 0\", \"pin 1234 BAD\"]\n",
+        "3 BadValue account[0].scripts[0].commands[1]",
+    ),
+    (
+        "balance = 100000\npin = \"1234\"\n",
+        "balance = 100000\npin = \"1234\"\n\n[[account.scripts]]\nwhen = \"after\"\ncommands = [\"count 0\", \"unblock \"]\n",
+        "3 BadValue account[0].scripts[0].commands[1]",
+    ),
+    (
+        "balance = 100000\npin = \"1234\"\n",
+        "balance = 100000\npin = \"1234\"\n\n[[account.scripts]]\nwhen = \"now\"\n",
+        "3 BadValue account[0].scripts[0].when",
+    ),
+    (
+        "balance = 100000\npin = \"1234\"\n",
+        "balance = 100000\npin = \"1234\"\n\n[[account]]\npan = \"4761739001010010\"\ncurrency = \"840\"\nbalance = 100000\npin = \"1234\"\n",
+        "3 BadValue account[1].pan",
+    ),
+    (
+        "balance = 100000",
+        "balance = -1",
+        "4 OutOfLimit account[0].balance",
+    ),
+    (
+        "balance = 100000",
+        "balance = 1000000000000",
+        "4 OutOfLimit account[0].balance",
+    ),
+    (
+        "[[account]]\npan = \"4761739001010010\"",
+        "[[account]]\npan = \"476173900101\"",
+        "4 OutOfLimit account[0].pan",
+    ),
+    (
+        "balance = 100000\npin = \"1234\"\n",
+        "balance = 100000\npin = \"1234\"\n\n[[account.scripts]]\nwhen = \"after\"\ncommands = []\n",
+        "4 OutOfLimit account[0].scripts[0].commands",
+    ),
+];
+
+/// What is put in place of what, and the fault that this makes.
+const LANE_FAULTS: [(&str, &str, &str); 10] = [
+    (
+        "[[lane.purchase]]\ncard = \"c1\"\namount = 2500\ncurrency = \"840\"\ndate = \"240615\"\ntime = \"120000\"\nnumber = 16909060\nword = 49\npins = [\"1234\"]\n",
+        "",
+        "2 MissingKey lane[0].purchase",
+    ),
+    (
+        "id = \"TERM0001\"",
+        "id = \"TERM 001\"",
+        "3 BadValue lane[0].id",
+    ),
+    (
+        "max_target = 50",
+        "max_target = 9",
+        "4 OutOfLimit lane[0].aid[0].max_target",
+    ),
+    (
+        "threshold = 5000",
+        "threshold = 10001",
+        "4 OutOfLimit lane[0].aid[0].threshold",
+    ),
+    (
+        "id = \"TERM0001\"",
+        "id = \"TERM0001\"\nexceptions = [\"4761739001010010\", \"1\"]",
+        "4 OutOfLimit lane[0].exceptions[1]",
+    ),
+    (
+        "id = \"TERM0001\"",
+        "id = \"TERM00012\"",
+        "4 OutOfLimit lane[0].id",
+    ),
+    ("kind = 22", "kind = 20", "4 OutOfLimit lane[0].kind"),
+    (
+        "id = \"TERM0001\"",
+        "id = \"TERM0001\"\ndialect = 1",
+        "5 UnknownKey lane[0].dialect",
+    ),
+    (
+        "id = \"TERM0001\"",
+        "id = \"TERM0001\"\ndurable = 1",
+        "5 UnknownKey lane[0].durable",
+    ),
+    (
+        "id = \"TERM0001\"",
+        "id = \"TERM0001\"\npse = 1",
+        "5 UnknownKey lane[0].pse",
+    ),
+];
+
+/// What is put in place of what, and the fault that this makes.
+const PURCHASE_FAULTS: [(&str, &str, &str); 18] = [
+    (
+        "pins = [\"1234\"]\n",
+        "pins = [\"1234\"]\n\n[lane.purchase.tear]\n",
+        "2 MissingKey lane[0].purchase[0].tear.commit",
+    ),
+    (
+        "pins = [\"1234\"]\n",
+        "pins = [\"1234\"]\n\n[lane.purchase.tear]\ncommit = 1\nat = \"within\"\n",
+        "2 MissingKey lane[0].purchase[0].tear.write",
+    ),
+    (
+        "card = \"c1\"",
+        "card = \"C2\"",
+        "3 BadValue lane[0].purchase[0].card",
+    ),
+    (
+        "date = \"240615\"",
+        "date = \"24010x\"",
+        "3 BadValue lane[0].purchase[0].date",
+    ),
+    (
+        "date = \"240615\"",
+        "date = \"241301\"",
+        "3 BadValue lane[0].purchase[0].date",
+    ),
+    (
+        "pins = [\"1234\"]",
+        "pins = [\"1234\"]\nlink = \"lost\"",
+        "3 BadValue lane[0].purchase[0].link",
+    ),
+    (
+        "pins = [\"1234\"]\n",
+        "pins = [\"1234\"]\n\n[lane.purchase.tear]\ncommit = 1\nat = \"release\"\nwrite = 1\n",
+        "3 BadValue lane[0].purchase[0].tear.write",
+    ),
+    (
+        "pins = [\"1234\"]",
+        "pins = [\"1234\"]\ntear = 1",
+        "3 BadValue lane[0].purchase[0].tear",
+    ),
+    (
+        "pins = [\"1234\"]",
+        "pins = [\"1234\"]\ntrade = 2",
+        "3 BadValue lane[0].purchase[0].trade",
+    ),
+    (
+        "date = \"240615\"",
+        "date = \"24010\"",
+        "4 OutOfLimit lane[0].purchase[0].date",
+    ),
+    (
+        "pins = [\"1234\"]",
+        "pins = [\"1234\"]\nother = 2501",
+        "4 OutOfLimit lane[0].purchase[0].other",
+    ),
+    (
+        "pins = [\"1234\"]",
+        "pins = [\"1234\", \"123\"]",
+        "4 OutOfLimit lane[0].purchase[0].pins[1]",
+    ),
+    (
+        "pins = [\"1234\"]",
+        "pins = [\"1234\", \"1234\", \"1234\", \"1234\", \"1234\", \"1234\", \"1234\", \"1234\", \"1234\", \"1234\", \"1234\", \"1234\", \"1234\", \"1234\", \"1234\", \"1234\"]",
+        "4 OutOfLimit lane[0].purchase[0].pins",
+    ),
+    (
+        "pins = [\"1234\"]\n",
+        "pins = [\"1234\"]\n\n[lane.purchase.tear]\ncommit = 51\n",
+        "4 OutOfLimit lane[0].purchase[0].tear.commit",
+    ),
+    (
+        "pins = [\"1234\"]\n",
+        "pins = [\"1234\"]\n\n[lane.purchase.tear]\ncommit = 1\nat = \"before\"\nwrite = 41\n",
+        "4 OutOfLimit lane[0].purchase[0].tear.write",
+    ),
+    (
+        "time = \"120000\"",
+        "time = \"0\"",
+        "4 OutOfLimit lane[0].purchase[0].time",
+    ),
+    (
+        "pins = [\"1234\"]\n",
+        "pins = [\"1234\"]\n\n[lane.purchase.tear]\ncommit = 1\nat = \"release\"\nx = 1\n",
+        "5 UnknownKey lane[0].purchase[0].tear.x",
+    ),
+    (
+        "card = \"c1\"",
+        "card = \"c2\"",
+        "6 UnknownName lane[0].purchase[0].card",
+    ),
+];
+
+/// The text with one text in place of another.
+fn replaced(alloc: Global, text: &str, old: &str, new: &str) -> Option<String> {
+    let (front, rest) = text.split_once(old)?;
+    match format!(in alloc; "{front}{new}{rest}") {
+        Ok(text) => Some(text),
+        Err(_) => None,
+    }
+}
+
+/// The scenario of a document, with a card `c1`.
+fn read(alloc: Global, text: &str) -> Result<Scenario, ScenarioFault> {
+    let mut cards = Vec::new(alloc);
+    let mut name = Vec::new(alloc);
+    name.extend_from_slice(b"c1")?;
+    cards.push(NamedImage { name })?;
+    match toml::table_from_str(alloc, text) {
+        Ok(document) => read_document(alloc, cards.as_slice(), &document),
+        Err(_) => Err(ScenarioFault::Toml),
+    }
+}
+
+/// Whether a document with this change has this fault.
+fn has_fault(alloc: Global, old: &str, new: &str, fault: &str) -> bool {
+    let Some(text) = replaced(alloc, DOCUMENT, old, new) else {
+        return false;
+    };
+    match read(alloc, text.as_str()) {
+        Ok(_) => false,
+        Err(found) => match (found.line(alloc), format!(in alloc; "refused {fault}\n")) {
+            (Ok(line), Ok(wanted)) => line.as_str() == wanted.as_str(),
+            _ => false,
+        },
+    }
+}
+
+#[test]
+fn the_document_is_refused_at_its_first_fault(rt: HostRuntime) {
+    for (old, new, fault) in DOCUMENT_FAULTS {
+        assert!(rt; has_fault(rt.alloc(), old, new, fault), "{fault}");
+    }
+    for (old, new, fault) in ISSUER_FAULTS {
+        assert!(rt; has_fault(rt.alloc(), old, new, fault), "{fault}");
+    }
+}
+
+#[test]
+fn accounts_are_refused_at_their_first_fault(rt: HostRuntime) {
+    for (old, new, fault) in ACCOUNT_FAULTS {
+        assert!(rt; has_fault(rt.alloc(), old, new, fault), "{fault}");
+    }
+}
+
+#[test]
+fn lanes_are_refused_at_their_first_fault(rt: HostRuntime) {
+    for (old, new, fault) in LANE_FAULTS {
+        assert!(rt; has_fault(rt.alloc(), old, new, fault), "{fault}");
+    }
+}
+
+#[test]
+fn purchases_are_refused_at_their_first_fault(rt: HostRuntime) {
+    for (old, new, fault) in PURCHASE_FAULTS {
+        assert!(rt; has_fault(rt.alloc(), old, new, fault), "{fault}");
+    }
+}
+
+/// The document with a script, a purchase that is cut, one whose reply is lost, and a schedule.
+const MORE: [(&str, &str); 3] = [
+    ("\n[issuer]", "schedule = [0, 0]\ncopies = 3\n\n[issuer]"),
+    (
+        "\n[[card]]",
+        "\n[[account.scripts]]\nwhen = \"before\"\nid = \"00000001\"\ncommands = [\"count 9\", \"block bad\"]\n\n[[card]]",
+    ),
+    (
+        "pins = [\"1234\"]",
+        "link = \"reply_lost\"\n[lane.purchase.tear]\ncommit = 4\nat = \"within\"\nwrite = 2",
+    ),
+];
+
+#[test]
+fn the_issuer_and_its_account_are_read(rt: HostRuntime) {
+    let scenario = read(rt.alloc(), DOCUMENT).ok().expect(&rt, "a scenario");
+    assert!(rt; scenario.issuer.pin.bytes()[0] == 0x67 && scenario.issuer.ac.bytes()[15] == 0x10);
+    assert!(rt; scenario.copies == 1 && scenario.schedule.is_empty());
+    let account = scenario.accounts.first().expect(&rt, "an account");
+    assert!(rt; account.balance == 100_000 && account.currency == [0x08, 0x40]);
+    assert!(rt; account.pan.len() == 16 && !account.blocked && account.pin.is_some());
+    assert!(rt; account.scripts.is_empty());
+}
+
+#[test]
+fn the_lane_is_read(rt: HostRuntime) {
+    let scenario = read(rt.alloc(), DOCUMENT).ok().expect(&rt, "a scenario");
+    let lane = scenario.lanes.first().expect(&rt, "a lane");
+    assert!(rt; lane.settings.kind == 22 && lane.settings.id == *b"TERM0001");
+    assert!(rt; lane.settings.pin_key == scenario.issuer.pin.bytes());
+    assert!(rt; lane.settings.exceptions.is_empty());
+    let row = lane.settings.aids.first().expect(&rt, "an application");
+    assert!(rt; row.name.as_slice() == [0xA0, 0, 0, 0, 0x03, 0x10, 0x10].as_slice());
+    assert!(rt; !row.partial && row.floor == 10_000 && row.max_target == 50);
+}
+
+#[test]
+fn the_purchase_is_read(rt: HostRuntime) {
+    let scenario = read(rt.alloc(), DOCUMENT).ok().expect(&rt, "a scenario");
+    let lane = scenario.lanes.first().expect(&rt, "a lane");
+    let planned = lane.purchases.first().expect(&rt, "a purchase");
+    assert!(rt; planned.card == 0 && planned.link == Link::Sound && planned.tear.is_none());
+    let purchase = &planned.purchase;
+    assert!(rt; purchase.amount == 2500 && purchase.other == 0 && purchase.trade == 0);
+    assert!(rt; purchase.date == [0x24, 0x06, 0x15] && purchase.time == [0x12, 0, 0]);
+    assert!(rt; purchase.number == [1, 2, 3, 4] && purchase.word == 49);
+    assert!(rt; purchase.pins.len() == 1 && !purchase.forced && purchase.confirm);
+}
+
+/// The document with all its changes.
+fn more(alloc: Global) -> Option<String> {
+    let mut text = format!(in alloc; "{DOCUMENT}").ok()?;
+    for (old, new) in MORE {
+        text = replaced(alloc, text.as_str(), old, new)?;
+    }
+    Some(text)
+}
+
+#[test]
+fn scripts_are_read(rt: HostRuntime) {
+    let text = more(rt.alloc()).expect(&rt, "a document");
+    let scenario = read(rt.alloc(), text.as_str())
+        .ok()
+        .expect(&rt, "a scenario");
+    assert!(rt; scenario.copies == 3 && scenario.schedule.as_slice() == [0, 0].as_slice());
+    let account = scenario.accounts.first().expect(&rt, "an account");
+    let script = account.scripts.first().expect(&rt, "a script");
+    assert!(rt; script.before && script.id == Some([0, 0, 0, 1]) && script.commands.len() == 2);
+    let first = script.commands.first().expect(&rt, "a command");
+    assert!(rt; first.word == Word::Count(9) && !first.bad);
+    let last = script.commands.last().expect(&rt, "a command");
+    assert!(rt; last.word == Word::Block && last.bad);
+}
+
+#[test]
+fn tears_and_links_are_read(rt: HostRuntime) {
+    let text = more(rt.alloc()).expect(&rt, "a document");
+    let scenario = read(rt.alloc(), text.as_str())
+        .ok()
+        .expect(&rt, "a scenario");
+    let lane = scenario.lanes.first().expect(&rt, "a lane");
+    let planned = lane.purchases.first().expect(&rt, "a purchase");
+    let cut = Tear {
+        commit: 4,
+        at: TearAt::Within(2),
+    };
+    assert!(rt; planned.tear == Some(cut) && planned.link == Link::ReplyLost);
+    assert!(rt; planned.purchase.pins.is_empty());
+}
+
+fn first_fault(alloc: Global, bytes: &[u8]) -> Option<u8> {
+    match read_scenario(alloc, bytes) {
+        Ok(_) => None,
+        Err(fault) => fault.number(),
+    }
+}
+
+#[test]
+fn bytes_are_refused(rt: HostRuntime) {
+    assert!(rt; first_fault(rt.alloc(), b"") == Some(2));
+    assert!(rt; first_fault(rt.alloc(), b"issuer = ") == Some(1));
+    assert!(rt; first_fault(rt.alloc(), b"# \xFF") == Some(1));
+    let mut long = Vec::new(rt.alloc());
+    long.resize(4_194_304, b' ').expect(&rt, "room");
+    assert!(rt; first_fault(rt.alloc(), long.as_slice()) == Some(2));
+    long.push(b' ').expect(&rt, "room");
+    assert!(rt; first_fault(rt.alloc(), long.as_slice()) == Some(4));
+    // With the card's table not read yet, its name is unknown.
+    assert!(rt; first_fault(rt.alloc(), DOCUMENT.as_bytes()) == Some(6));
+}

@@ -1,0 +1,5 @@
+pub mod Fault
+pub mod Fields
+pub mod Line
+pub mod Place
+pub mod Value

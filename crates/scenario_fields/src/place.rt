@@ -1,0 +1,58 @@
+ghost use Rattle.std.specs.Prelude.{◌≡◌, IfOk, string_bytes};
+ghost use Rattle.scenario_fields.specs.Place.{path, spot_key, spot_path};
+
+use std::alloc::{AllocError, Global};
+
+/// A table of a scenario. Each number is the index, from 0, of the table among its kind in the table
+/// around it.
+#[derive(Clone, Copy, PartialEq, Eq, Debug)]
+pub enum Place {
+    /// The document itself.
+    Top,
+    /// The issuer's keys.
+    Issuer,
+    /// An account.
+    Account(usize),
+    /// A script of an account.
+    Scripts(usize, usize),
+    /// A card.
+    Card(usize),
+    /// An application of a card.
+    App(usize, usize),
+    /// A record of an application of a card.
+    Record(usize, usize, usize),
+    /// A lane.
+    Lane(usize),
+    /// An application identifier of a lane.
+    Aid(usize, usize),
+    /// A purchase of a lane.
+    Purchase(usize, usize),
+    /// The tear of a purchase.
+    Tear(usize, usize),
+}
+
+/// The path of a key of a table.
+pub fn path_text(alloc: Global, place: Place, key: &str) -> Result<String, AllocError>
+    ensures { IfOk result (λ t. string_bytes t ≡ path place key.now) }
+{
+    match place {
+        Place::Top => format!(in alloc; "{key}"),
+        Place::Issuer => format!(in alloc; "issuer.{key}"),
+        Place::Account(i) => format!(in alloc; "account[{i}].{key}"),
+        Place::Scripts(i, j) => format!(in alloc; "account[{i}].scripts[{j}].{key}"),
+        Place::Card(i) => format!(in alloc; "card[{i}].{key}"),
+        Place::App(i, j) => format!(in alloc; "card[{i}].app[{j}].{key}"),
+        Place::Record(i, j, k) => format!(in alloc; "card[{i}].app[{j}].record[{k}].{key}"),
+        Place::Lane(i) => format!(in alloc; "lane[{i}].{key}"),
+        Place::Aid(i, j) => format!(in alloc; "lane[{i}].aid[{j}].{key}"),
+        Place::Purchase(i, j) => format!(in alloc; "lane[{i}].purchase[{j}].{key}"),
+        Place::Tear(i, j) => format!(in alloc; "lane[{i}].purchase[{j}].tear.{key}"),
+    }
+}
+
+/// An item of the array at a key, as `pins[1]`.
+pub fn item_text(alloc: Global, key: &str, index: usize) -> Result<String, AllocError>
+    ensures { IfOk result (λ t. string_bytes t ≡ spot_key key.now (Some index)) }
+{
+    format!(in alloc; "{key}[{index}]")
+}
