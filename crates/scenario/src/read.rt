@@ -7,13 +7,14 @@ ghost use Rattle.scenario_fields.specs.Place.{path};
 ghost use Rattle.scenario_fields.specs.declared.fault.ScenarioFault.TheVariants.{OutOfLimit};
 ghost use Rattle.scenario.specs.Rules.{IsScenario};
 ghost use Rattle.scenario.specs.Scenario.{top_keys, scenario_of, IsReading};
-ghost use Rattle.scenario.specs.Seen.{seen_scenario, names_of};
+ghost use Rattle.scenario.specs.Seen.{seen_scenario};
 
 use crate::account::accounts_at;
+use crate::card::cards_at;
 use crate::issuer::issuer_at;
 use crate::lane::lanes_at;
 use crate::names::{all_known_cards, known_lanes, schedule_at};
-use crate::plan::{NamedImage, Scenario};
+use crate::plan::Scenario;
 use scenario_fields::{Fields, Place, ScenarioFault, Spot};
 use std::alloc::Global;
 use toml::Table;
@@ -28,14 +29,13 @@ fn only_top_keys(fields: &Fields) -> Result<(), ScenarioFault>
     fields.only(&["issuer", "account", "card", "lane", "schedule", "copies"])
 }
 
-/// The scenario of a document with these cards.
+/// The scenario of a document.
 #[tactic(auto, unfolding(crate::specs::Scenario::scenario_of, crate::specs::Seen::seen_scenario))]
-pub(crate) fn read_document(
+fn read_document(
     alloc: Global,
-    cards: &[NamedImage],
     document: &Table,
 ) -> Result<Scenario, ScenarioFault>
-    ensures exact { Gives seen_scenario result (scenario_of (names_of cards.now) (table_view document.now)) }
+    ensures exact { Gives seen_scenario result (scenario_of (table_view document.now)) }
     ensures rules { IfOk result IsScenario }
 {
     let fields = Fields {
@@ -45,7 +45,8 @@ pub(crate) fn read_document(
     };
     let issuer = issuer_at(alloc, document)?;
     let accounts = accounts_at(alloc, document)?;
-    let lanes = lanes_at(alloc, cards, issuer.pin.bytes(), document)?;
+    let cards = cards_at(alloc, &issuer, document)?;
+    let lanes = lanes_at(alloc, cards.as_slice(), issuer.pin.bytes(), document)?;
     let schedule = schedule_at(alloc, document)?;
     let copies = fields.number_or(1, "copies", 1, 3)? as u8;
     only_top_keys(&fields)?;
@@ -54,6 +55,7 @@ pub(crate) fn read_document(
     Ok(Scenario {
         issuer,
         accounts,
+        cards,
         lanes,
         schedule,
         copies,
@@ -84,7 +86,7 @@ pub fn read_scenario(alloc: Global, bytes: &[u8]) -> Result<Scenario, ScenarioFa
         return Err(too_long(alloc));
     }
     match toml::table_from_slice(alloc, bytes) {
-        Ok(document) => read_document(alloc, &[], &document),
+        Ok(document) => read_document(alloc, &document),
         Err(fault) => {
             if fault.is_memory() {
                 Err(ScenarioFault::OutOfMemory)
