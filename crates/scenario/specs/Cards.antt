@@ -6,6 +6,7 @@ use Rattle.card_files.specs.AppRules.{is_pair, most_afl, most_records}
 use Rattle.card_files.specs.Faults.{image_fault}
 use Rattle.card_files.specs.Lists.{has_all, cdol1_entries, cdol2_entries, most_data, most_pdol, most_cdol}
 use Rattle.card_files.specs.Views.{RecordData, AppData}
+use Rattle.card_state.specs.declared.state.AppState.{AppState}
 use Rattle.card_keys.specs.Master.{master_key_of}
 use Rattle.emv_dict.specs.Settings.{most_amount}
 use Rattle.issuer_host.specs.declared.keys.HostKeys.{HostKeys}
@@ -88,13 +89,16 @@ pub record FilesData : Type 0 where
   pub cdol2 : List ℕ
   pub records : List RecordData
 
--- its account, its opening state with the PIN as a plain block or zeros, and its own key, where it has one
-pub record StateData : Type 0 where
+-- its account, and the counters with which it opens
+pub record HolderData : Type 0 where
   pub pan : List ℕ
   pub sequence : ℕ
   pub currency : List ℕ
   pub counter : ℕ
   pub last_online : ℕ
+
+-- its limits, its PIN as a plain block or zeros, and its own key, where it has one
+pub record LimitsData : Type 0 where
   pub count_limit : ℕ
   pub sum_limit : ℕ
   pub pin : List ℕ
@@ -142,37 +146,35 @@ files_of i j earlier ms = do
 abbrev pub two_digits : ℕ → ℕ
 two_digits n = n / 10 * 16 + n % 10
 
+-- the sequence number as the byte of its two digits
+unfoldable pub sequence_at : (List ℕ → List ℕ) → Members → Result ℕ ScenarioFault
+sequence_at path ms = do
+  number ← number_or 0 path (codes "sequence") 0 99 ms
+  Ok (two_digits number)
+
+unfoldable pub holder_of : ℕ → ℕ → Members → Result HolderData ScenarioFault
+holder_of i j ms = do
+  pan ← digits_at (in_app i j) (codes "pan") 13 16 ms
+  sequence ← sequence_at (in_app i j) ms
+  currency ← code_at (in_app i j) (codes "currency") ms
+  counter ← number_or 0 (in_app i j) (codes "counter") 0 65535 ms
+  last_online ← number_or 0 (in_app i j) (codes "last_online") 0 65535 ms
+  Ok (record { pan = pan; sequence = sequence; currency = currency; counter = counter; last_online = last_online })
+
 -- the plain block of a PIN, or zeros for none
 abbrev pub reference_pin : Option (List ℕ) → List ℕ
 reference_pin None = replicate 8 0
 reference_pin (Some pin) = block_of 2 pin
 
-unfoldable pub state_of : ℕ → ℕ → Members → Result StateData ScenarioFault
-state_of i j ms = do
-  pan ← digits_at (in_app i j) (codes "pan") 13 16 ms
-  sequence ← number_or 0 (in_app i j) (codes "sequence") 0 99 ms
-  currency ← code_at (in_app i j) (codes "currency") ms
-  counter ← number_or 0 (in_app i j) (codes "counter") 0 65535 ms
-  last_online ← number_or 0 (in_app i j) (codes "last_online") 0 65535 ms
+unfoldable pub limits_of : ℕ → ℕ → Members → Result LimitsData ScenarioFault
+limits_of i j ms = do
   count_limit ← number_at (in_app i j) (codes "count_limit") 0 255 ms
   sum_limit ← number_at (in_app i j) (codes "sum_limit") 0 most_amount ms
   pin ← optional_digits (in_app i j) (codes "pin") 4 12 ms
   tries ← number_or 3 (in_app i j) (codes "tries") 0 15 ms
   blocked ← flag_or false (in_app i j) (codes "blocked") ms
   ac_key ← optional_bytes (in_app i j) (codes "ac_key") 16 16 ms
-  Ok (record {
-    pan = pan;
-    sequence = two_digits sequence;
-    currency = currency;
-    counter = counter;
-    last_online = last_online;
-    count_limit = count_limit;
-    sum_limit = sum_limit;
-    pin = reference_pin pin;
-    tries = tries;
-    blocked = blocked;
-    ac_key = ac_key;
-  })
+  Ok (record { count_limit = count_limit; sum_limit = sum_limit; pin = reference_pin pin; tries = tries; blocked = blocked; ac_key = ac_key })
 
 unfoldable pub app_keys : List (List ℕ)
 app_keys =
@@ -185,9 +187,24 @@ abbrev pub own_or : List ℕ → Option (List ℕ) → List ℕ
 own_or derived None = derived
 own_or derived (Some key) = key
 
--- nothing is counted yet; the other keys are derived from the issuer's by account and sequence number
-unfoldable pub app_with : HostKeys → FilesData → StateData → AppData
-app_with keys files state = record {
+-- nothing is counted yet
+unfoldable pub opening_of : HolderData → LimitsData → AppState
+opening_of holder limits = record {
+  counter = holder.counter;
+  last_online = holder.last_online;
+  count = 0;
+  sum = 0;
+  count_limit = limits.count_limit;
+  sum_limit = limits.sum_limit;
+  tries = limits.tries;
+  blocked = limits.blocked;
+  auth_failed = false;
+  pin = limits.pin;
+}
+
+-- the other keys are derived from the issuer's by account and sequence number
+unfoldable pub app_with : HostKeys → FilesData → HolderData → LimitsData → AppData
+app_with keys files holder limits = record {
   name = files.name;
   label = files.label;
   priority = files.priority;
@@ -199,34 +216,24 @@ app_with keys files state = record {
   cdol1 = files.cdol1;
   cdol2 = files.cdol2;
   records = files.records;
-  pan = state.pan;
-  sequence = state.sequence;
-  currency = state.currency;
-  opening = record {
-    counter = state.counter;
-    last_online = state.last_online;
-    count = 0;
-    sum = 0;
-    count_limit = state.count_limit;
-    sum_limit = state.sum_limit;
-    tries = state.tries;
-    blocked = state.blocked;
-    auth_failed = false;
-    pin = state.pin;
-  };
-  tries = state.tries;
-  ac_key = own_or (master_key_of keys.ac state.pan state.sequence) state.ac_key;
-  mac_key = master_key_of keys.mac state.pan state.sequence;
-  enc_key = master_key_of keys.enc state.pan state.sequence;
+  pan = holder.pan;
+  sequence = holder.sequence;
+  currency = holder.currency;
+  opening = opening_of holder limits;
+  tries = limits.tries;
+  ac_key = own_or (master_key_of keys.ac holder.pan holder.sequence) limits.ac_key;
+  mac_key = master_key_of keys.mac holder.pan holder.sequence;
+  enc_key = master_key_of keys.enc holder.pan holder.sequence;
 }
 
 -- an application behind these
 unfoldable pub app_of : ℕ → ℕ → HostKeys → List AppData → Members → Result AppData ScenarioFault
 app_of i j keys earlier ms = do
   files ← files_of i j earlier ms
-  state ← state_of i j ms
+  holder ← holder_of i j ms
+  limits ← limits_of i j ms
   _ ← only (in_app i j) app_keys ms
-  Ok (app_with keys files state)
+  Ok (app_with keys files holder limits)
 
 unfoldable pub app_item : ℕ → ℕ → HostKeys → List AppData → Data → Result AppData ScenarioFault
 app_item i j keys earlier d = table_of (in_card i (item_path (codes "app") j [])) d >>= app_of i j keys earlier

@@ -1,12 +1,12 @@
 -- The tables of a purchase and of its tear.
-use Rattle.std.specs.Prelude.{ℕ, ◌+◌, ◌-◌, List, [], ◌∷◌, codes, Bool, true, false, Option, Some, None, Result, Ok, Err, if◌then◌else◌}
+use Rattle.std.specs.Prelude.{ℕ, ◌+◌, ◌-◌, List, [], ◌∷◌, codes, true, false, Option, Some, None, Result, Ok, Err, if◌then◌else◌}
 use Rattle.std.specs.Int.{to_be_bytes, w32}
 use Rattle.std.specs.Str.{bytes_eq}
 use Rattle.emv_dict.specs.Settings.{most_amount}
 use Rattle.emv_ports.specs.declared.tear.Tear.{Tear}
 use Rattle.emv_ports.specs.declared.tear.TearAt.{TearAt}
 use Rattle.emv_ports.specs.declared.tear.TearAt.TheVariants.{Before, Within, Release}
-use Rattle.toml.specs.Data.{Data, Items, Members, get_member}
+use Rattle.toml.specs.Data.{Data, Members, get_member}
 use Rattle.scenario_fields.specs.Fault.{◌>>=◌}
 use Rattle.scenario_fields.specs.Fields.{number_at, number_or, listed_or, flag_or, str_at, text_at, code_at, six_digits_or, day_at, array_at, optional_table, digits_list, or_default, each, only}
 use Rattle.scenario_fields.specs.Place.{item_path, in_lane, in_purchase, in_tear}

@@ -3,9 +3,10 @@ use Rattle.std.specs.Prelude.{List, [], option_map}
 use Rattle.card_files.specs.Lists.{cdol1_entries, cdol2_entries}
 use Rattle.card_files.specs.Seen.{seen_records}
 use Rattle.object_lists.specs.DolEntries.{DolEntry}
-use Rattle.scenario.specs.Cards.{FilesData, StateData}
+use Rattle.scenario.specs.Cards.{FilesData, HolderData, LimitsData}
 use Rattle.scenario.specs.declared.app.Files.{Files}
-use Rattle.scenario.specs.declared.app.State.{State}
+use Rattle.scenario.specs.declared.app.Holder.{Holder}
+use Rattle.scenario.specs.declared.app.Limits.{Limits}
 use Rattle.scenario.specs.declared.app.Holding.{Holding}
 use Rattle.scenario.specs.declared.app.Holding.TheVariants.{Anything, First, Second}
 
@@ -30,17 +31,15 @@ seen_files f = record {
   records = seen_records f.records.items;
 }
 
-unfoldable pub seen_state : State → StateData
-seen_state s = record {
-  pan = s.pan;
-  sequence = s.sequence;
-  currency = s.currency;
-  counter = s.counter;
-  last_online = s.last_online;
-  count_limit = s.count_limit;
-  sum_limit = s.sum_limit;
-  pin = s.pin;
-  tries = s.tries;
-  blocked = s.blocked;
-  ac_key = s.ac_key;
+unfoldable pub seen_holder : Holder → HolderData
+seen_holder h = record { pan = h.pan; sequence = h.sequence; currency = h.currency; counter = h.counter; last_online = h.last_online }
+
+unfoldable pub seen_limits : Limits → LimitsData
+seen_limits l = record {
+  count_limit = l.count_limit;
+  sum_limit = l.sum_limit;
+  pin = l.pin;
+  tries = l.tries;
+  blocked = l.blocked;
+  ac_key = l.ac_key;
 }

@@ -9,8 +9,8 @@ ghost use Rattle.scenario_fields.specs.Fault.{Gives};
 ghost use Rattle.scenario_fields.specs.Fields.{only, listed_or, optional_number};
 ghost use Rattle.scenario_fields.specs.Place.{path, spot_path};
 ghost use Rattle.scenario.specs.Cards as spec;
-ghost use Rattle.scenario.specs.Cards.{list_of, pdol_at as pdol_found, cdol1_at as cdol1_found, cdol2_at as cdol2_found, app_keys, app_of, app_item as item_of, files_of, state_of, app_with, reference_pin, own_or};
-ghost use Rattle.scenario.specs.SeenCards.{seen_files, seen_state, wanted_by};
+ghost use Rattle.scenario.specs.Cards.{list_of, pdol_at as pdol_found, cdol1_at as cdol1_found, cdol2_at as cdol2_found, app_keys, app_of, app_item as item_of, files_of, sequence_at as sequence_found, holder_of, limits_of, app_with, opening_of, reference_pin, own_or};
+ghost use Rattle.scenario.specs.SeenCards.{seen_files, seen_holder, seen_limits, wanted_by};
 
 use crate::purchase::MOST_AMOUNT;
 use crate::record::records_at;
@@ -243,14 +243,19 @@ fn read_files(
     })
 }
 
-/// An application's account, its opening state and its own key, where it has one.
+/// An application's account, and the counters with which it opens.
 #[derive(Drop)]
-pub struct State {
+pub struct Holder {
     pan: Digits,
     sequence: u8,
     currency: [u8; 2],
     counter: u16,
     last_online: u16,
+}
+
+/// Its limits, its PIN as a plain block or zeros, and its own key, where it has one.
+#[derive(Drop)]
+pub struct Limits {
     count_limit: u8,
     sum_limit: u64,
     pin: [u8; 8],
@@ -270,15 +275,24 @@ fn reference_pin(pin: &Option<Digits>) -> [u8; 8]
     }
 }
 
-/// The keys from the PAN on.
-#[tactic(auto, unfolding(crate::specs::Cards::state_of, crate::specs::SeenCards::seen_state))]
-fn read_state(
+/// The sequence number as the byte of its two digits; 00 where the key is absent.
+#[tactic(auto, unfolding(crate::specs::Cards::sequence_at))]
+fn sequence_at(fields: &Fields) -> Result<u8, ScenarioFault>
+    ensures { Gives (λ byte. byte) result (sequence_found (path fields.now.place) (table_view fields.now.table.now)) }
+{
+    let number = fields.number_or(0, "sequence", 0, 99)?;
+    Ok((number / 10 * 16 + number % 10) as u8)
+}
+
+/// The keys from the PAN to the counters.
+#[tactic(auto, unfolding(crate::specs::Cards::holder_of, crate::specs::SeenCards::seen_holder))]
+fn read_holder(
     alloc: Global,
     card: usize,
     index: usize,
     table: &Table,
-) -> Result<State, ScenarioFault>
-    ensures { Gives seen_state result (state_of card index (table_view table.now)) }
+) -> Result<Holder, ScenarioFault>
+    ensures { Gives seen_holder result (holder_of card index (table_view table.now)) }
 {
     let fields = Fields {
         alloc,
@@ -286,22 +300,41 @@ fn read_state(
         table,
     };
     let pan = fields.digits("pan", 13, 16)?;
-    let sequence = fields.number_or(0, "sequence", 0, 99)? as u8;
+    let sequence = sequence_at(&fields)?;
     let currency = fields.code("currency")?;
     let counter = fields.number_or(0, "counter", 0, 65_535)? as u16;
     let last_online = fields.number_or(0, "last_online", 0, 65_535)? as u16;
+    Ok(Holder {
+        pan,
+        sequence,
+        currency,
+        counter,
+        last_online,
+    })
+}
+
+/// The keys from the limits on.
+#[tactic(auto, unfolding(crate::specs::Cards::limits_of, crate::specs::SeenCards::seen_limits))]
+fn read_limits(
+    alloc: Global,
+    card: usize,
+    index: usize,
+    table: &Table,
+) -> Result<Limits, ScenarioFault>
+    ensures { Gives seen_limits result (limits_of card index (table_view table.now)) }
+{
+    let fields = Fields {
+        alloc,
+        place: Place::App(card, index),
+        table,
+    };
     let count_limit = fields.number("count_limit", 0, 255)? as u8;
     let sum_limit = fields.number("sum_limit", 0, MOST_AMOUNT)?;
     let pin = fields.optional_digits("pin", 4, 12)?;
     let tries = fields.number_or(3, "tries", 0, 15)? as u8;
     let blocked = fields.flag_or(false, "blocked")?;
     let ac_key = fields.optional_byte_array("ac_key")?;
-    Ok(State {
-        pan,
-        sequence: sequence / 10 * 16 + sequence % 10,
-        currency,
-        counter,
-        last_online,
+    Ok(Limits {
         count_limit,
         sum_limit,
         pin: reference_pin(&pin),
@@ -351,45 +384,58 @@ fn own_or(derived: Key16, own: Option<[u8; 16]>) -> Key16
     }
 }
 
-/// The application of its two parts; its other keys are derived from the issuer's.
-#[tactic(auto, unfolding(crate::specs::Cards::app_with, crate::specs::SeenCards::seen_files, crate::specs::SeenCards::seen_state, card_files::specs::SeenApp::seen_app))]
-fn app_with(keys: &HostKeys, files: Files, state: State) -> AppImage
-    ensures { seen_app result ≡ app_with keys.now (seen_files files) (seen_state state) }
+/// The application of its parts; its other keys are derived from the issuer's.
+#[tactic(auto, unfolding(crate::specs::Cards::app_with, crate::specs::SeenCards::seen_files, crate::specs::SeenCards::seen_holder, crate::specs::SeenCards::seen_limits, card_files::specs::SeenApp::seen_app))]
+fn app_with(keys: &HostKeys, files: Files, holder: Holder, limits: Limits) -> AppImage
+    ensures { seen_app result ≡ app_with keys.now (seen_files files) (seen_holder holder) (seen_limits limits) }
 {
-    let derived = master_key(&keys.ac, &state.pan, state.sequence);
-    let mac_key = master_key(&keys.mac, &state.pan, state.sequence);
-    let enc_key = master_key(&keys.enc, &state.pan, state.sequence);
+    let derived = master_key(&keys.ac, &holder.pan, holder.sequence);
+    let mac_key = master_key(&keys.mac, &holder.pan, holder.sequence);
+    let enc_key = master_key(&keys.enc, &holder.pan, holder.sequence);
+    let ac_key = own_or(derived, limits.ac_key);
+    let opening = opening_of(&holder, &limits);
+    let aip = files.aip;
+    let currency = holder.currency;
     AppImage {
         name: files.name,
         label: files.label,
         priority: files.priority,
         pdol: files.pdol,
-        aip: files.aip,
+        aip,
         afl: files.afl,
         gpo_format: files.gpo_format,
         ac_format: files.ac_format,
         cdol1: files.cdol1,
         cdol2: files.cdol2,
         records: files.records,
-        pan: state.pan,
-        sequence: state.sequence,
-        currency: state.currency,
-        opening: AppState {
-            counter: state.counter,
-            last_online: state.last_online,
-            count: 0,
-            sum: 0,
-            count_limit: state.count_limit,
-            sum_limit: state.sum_limit,
-            tries: state.tries,
-            blocked: state.blocked,
-            auth_failed: false,
-            pin: state.pin,
-        },
-        tries: state.tries,
-        ac_key: own_or(derived, state.ac_key),
+        pan: holder.pan,
+        sequence: holder.sequence,
+        currency,
+        opening,
+        tries: limits.tries,
+        ac_key,
         mac_key,
         enc_key,
+    }
+}
+
+/// The state in which an application opens: nothing is counted yet.
+#[tactic(auto, unfolding(crate::specs::Cards::opening_of, crate::specs::SeenCards::seen_holder, crate::specs::SeenCards::seen_limits))]
+fn opening_of(holder: &Holder, limits: &Limits) -> AppState
+    ensures { result ≡ opening_of (seen_holder holder.now) (seen_limits limits.now) }
+{
+    let pin = limits.pin;
+    AppState {
+        counter: holder.counter,
+        last_online: holder.last_online,
+        count: 0,
+        sum: 0,
+        count_limit: limits.count_limit,
+        sum_limit: limits.sum_limit,
+        tries: limits.tries,
+        blocked: limits.blocked,
+        auth_failed: false,
+        pin,
     }
 }
 
@@ -411,9 +457,10 @@ fn read_app(
         table,
     };
     let files = read_files(alloc, card, earlier, table)?;
-    let state = read_state(alloc, card, index, table)?;
+    let holder = read_holder(alloc, card, index, table)?;
+    let limits = read_limits(alloc, card, index, table)?;
     only_app_keys(&fields)?;
-    Ok(app_with(keys, files, state))
+    Ok(app_with(keys, files, holder, limits))
 }
 
 /// An application among those of a card.
