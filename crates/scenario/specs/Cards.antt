@@ -89,18 +89,21 @@ pub record FilesData : Type 0 where
   pub cdol2 : List ℕ
   pub records : List RecordData
 
--- its account, and the counters with which it opens
+-- its account
 pub record HolderData : Type 0 where
   pub pan : List ℕ
   pub sequence : ℕ
   pub currency : List ℕ
+
+-- the counters with which it opens, and its limits
+pub record CountersData : Type 0 where
   pub counter : ℕ
   pub last_online : ℕ
-
--- its limits, its PIN as a plain block or zeros, and its own key, where it has one
-pub record LimitsData : Type 0 where
   pub count_limit : ℕ
   pub sum_limit : ℕ
+
+-- its PIN as a plain block or zeros, its tries, and its own key, where it has one
+pub record AccessData : Type 0 where
   pub pin : List ℕ
   pub tries : ℕ
   pub blocked : Bool
@@ -157,24 +160,28 @@ holder_of i j ms = do
   pan ← digits_at (in_app i j) (codes "pan") 13 16 ms
   sequence ← sequence_at (in_app i j) ms
   currency ← code_at (in_app i j) (codes "currency") ms
+  Ok (record { pan = pan; sequence = sequence; currency = currency })
+
+unfoldable pub counters_of : ℕ → ℕ → Members → Result CountersData ScenarioFault
+counters_of i j ms = do
   counter ← number_or 0 (in_app i j) (codes "counter") 0 65535 ms
   last_online ← number_or 0 (in_app i j) (codes "last_online") 0 65535 ms
-  Ok (record { pan = pan; sequence = sequence; currency = currency; counter = counter; last_online = last_online })
+  count_limit ← number_at (in_app i j) (codes "count_limit") 0 255 ms
+  sum_limit ← number_at (in_app i j) (codes "sum_limit") 0 most_amount ms
+  Ok (record { counter = counter; last_online = last_online; count_limit = count_limit; sum_limit = sum_limit })
 
 -- the plain block of a PIN, or zeros for none
 abbrev pub reference_pin : Option (List ℕ) → List ℕ
 reference_pin None = replicate 8 0
 reference_pin (Some pin) = block_of 2 pin
 
-unfoldable pub limits_of : ℕ → ℕ → Members → Result LimitsData ScenarioFault
-limits_of i j ms = do
-  count_limit ← number_at (in_app i j) (codes "count_limit") 0 255 ms
-  sum_limit ← number_at (in_app i j) (codes "sum_limit") 0 most_amount ms
+unfoldable pub access_of : ℕ → ℕ → Members → Result AccessData ScenarioFault
+access_of i j ms = do
   pin ← optional_digits (in_app i j) (codes "pin") 4 12 ms
   tries ← number_or 3 (in_app i j) (codes "tries") 0 15 ms
   blocked ← flag_or false (in_app i j) (codes "blocked") ms
   ac_key ← optional_bytes (in_app i j) (codes "ac_key") 16 16 ms
-  Ok (record { count_limit = count_limit; sum_limit = sum_limit; pin = reference_pin pin; tries = tries; blocked = blocked; ac_key = ac_key })
+  Ok (record { pin = reference_pin pin; tries = tries; blocked = blocked; ac_key = ac_key })
 
 unfoldable pub app_keys : List (List ℕ)
 app_keys =
@@ -188,23 +195,23 @@ own_or derived None = derived
 own_or derived (Some key) = key
 
 -- nothing is counted yet
-unfoldable pub opening_of : HolderData → LimitsData → AppState
-opening_of holder limits = record {
-  counter = holder.counter;
-  last_online = holder.last_online;
+unfoldable pub opening_of : CountersData → AccessData → AppState
+opening_of counters access = record {
+  counter = counters.counter;
+  last_online = counters.last_online;
   count = 0;
   sum = 0;
-  count_limit = limits.count_limit;
-  sum_limit = limits.sum_limit;
-  tries = limits.tries;
-  blocked = limits.blocked;
+  count_limit = counters.count_limit;
+  sum_limit = counters.sum_limit;
+  tries = access.tries;
+  blocked = access.blocked;
   auth_failed = false;
-  pin = limits.pin;
+  pin = access.pin;
 }
 
 -- the other keys are derived from the issuer's by account and sequence number
-unfoldable pub app_with : HostKeys → FilesData → HolderData → LimitsData → AppData
-app_with keys files holder limits = record {
+unfoldable pub app_with : HostKeys → FilesData → HolderData → CountersData → AccessData → AppData
+app_with keys files holder counters access = record {
   name = files.name;
   label = files.label;
   priority = files.priority;
@@ -219,9 +226,9 @@ app_with keys files holder limits = record {
   pan = holder.pan;
   sequence = holder.sequence;
   currency = holder.currency;
-  opening = opening_of holder limits;
-  tries = limits.tries;
-  ac_key = own_or (master_key_of keys.ac holder.pan holder.sequence) limits.ac_key;
+  opening = opening_of counters access;
+  tries = access.tries;
+  ac_key = own_or (master_key_of keys.ac holder.pan holder.sequence) access.ac_key;
   mac_key = master_key_of keys.mac holder.pan holder.sequence;
   enc_key = master_key_of keys.enc holder.pan holder.sequence;
 }
@@ -231,9 +238,10 @@ unfoldable pub app_of : ℕ → ℕ → HostKeys → List AppData → Members �
 app_of i j keys earlier ms = do
   files ← files_of i j earlier ms
   holder ← holder_of i j ms
-  limits ← limits_of i j ms
+  counters ← counters_of i j ms
+  access ← access_of i j ms
   _ ← only (in_app i j) app_keys ms
-  Ok (app_with keys files holder limits)
+  Ok (app_with keys files holder counters access)
 
 unfoldable pub app_item : ℕ → ℕ → HostKeys → List AppData → Data → Result AppData ScenarioFault
 app_item i j keys earlier d = table_of (in_card i (item_path (codes "app") j [])) d >>= app_of i j keys earlier
@@ -255,11 +263,11 @@ pub record CardData : Type 0 where
   pub name : List ℕ
   pub image : List AppData
 
-abbrev pub is_named : List ℕ → List (List ℕ) → Bool
-is_named name names = list_any (bytes_eq name) names
+unfoldable pub is_named : List ℕ → List CardData → Bool
+is_named name cards = list_any (λ c. bytes_eq c.name name) cards
 
 -- a name that no earlier card has
-unfoldable pub new_card_name : ℕ → List (List ℕ) → Members → Result (List ℕ) ScenarioFault
+unfoldable pub new_card_name : ℕ → List CardData → Members → Result (List ℕ) ScenarioFault
 new_card_name i earlier ms = do
   name ← text_at (in_card i) (codes "name") LowercaseOrDigit 1 16 ms
   keep_if (not (is_named name earlier)) (BadValue (in_card i (codes "name"))) name
@@ -267,8 +275,8 @@ new_card_name i earlier ms = do
 unfoldable pub card_keys : List (List ℕ)
 card_keys = codes "name" ∷ codes "app" ∷ []
 
--- a card behind those of these names; the rules of an image are tried once more behind its keys
-unfoldable pub card_of : ℕ → HostKeys → List (List ℕ) → Members → Result CardData ScenarioFault
+-- a card behind these; the rules of an image are tried once more behind its keys
+unfoldable pub card_of : ℕ → HostKeys → List CardData → Members → Result CardData ScenarioFault
 card_of i keys earlier ms = do
   name ← new_card_name i earlier ms
   apps ← apps_at i keys ms
@@ -276,14 +284,14 @@ card_of i keys earlier ms = do
   image ← keep_if (is_none (image_fault apps)) (BadValue (in_card i (codes "app"))) apps
   Ok (record { name = name; image = image })
 
-unfoldable pub card_item : ℕ → HostKeys → List (List ℕ) → Data → Result CardData ScenarioFault
+unfoldable pub card_item : ℕ → HostKeys → List CardData → Data → Result CardData ScenarioFault
 card_item i keys earlier d = table_of (item_path (codes "card") i []) d >>= card_of i keys earlier
 
-abbrev pub cards_from : ℕ → HostKeys → List (List ℕ) → Items → Result (List CardData) ScenarioFault
+abbrev pub cards_from : ℕ → HostKeys → List CardData → Items → Result (List CardData) ScenarioFault
 cards_from i keys earlier no_items = Ok []
 cards_from i keys earlier (item d ds) = do
   card ← card_item i keys earlier d
-  cards ← cards_from (i + 1) keys (earlier ++ card.name ∷ []) ds
+  cards ← cards_from (i + 1) keys (earlier ++ card ∷ []) ds
   Ok (card ∷ cards)
 
 -- all cards at their key in the document
@@ -291,3 +299,7 @@ unfoldable pub cards_at : HostKeys → Members → Result (List CardData) Scenar
 cards_at keys ms = do
   items ← array_at at_top (codes "card") 1 64 ms
   cards_from 0 keys [] items
+
+-- the names of cards
+unfoldable pub card_names : List CardData → List (List ℕ)
+card_names cards = map (λ c. c.name) cards

@@ -1,5 +1,5 @@
 -- The scenario that a document describes, or the document's first fault.
-use Rattle.std.specs.Prelude.{ℕ, List, [], ◌∷◌, ◌<◌, ◌≤◌, length, map, codes, Option, Some, None, Result, Ok, Err}
+use Rattle.std.specs.Prelude.{ℕ, List, [], ◌∷◌, ◌<◌, ◌≤◌, length, codes, Option, Some, None, Result, Ok, Err}
 use Rattle.std.specs.Str.{IsUtf8}
 use Rattle.toml.specs.Data.{Members}
 use Rattle.toml.specs.Parse.{parse_document}
@@ -9,7 +9,7 @@ use Rattle.scenario_fields.specs.Place.{at_top}
 use Rattle.scenario_fields.specs.declared.fault.ScenarioFault.{ScenarioFault}
 use Rattle.scenario_fields.specs.declared.fault.ScenarioFault.TheVariants.{Toml, OutOfLimit}
 use Rattle.scenario.specs.Accounts.{accounts_at}
-use Rattle.scenario.specs.Cards.{cards_at}
+use Rattle.scenario.specs.Cards.{cards_at, card_names}
 use Rattle.scenario.specs.Data.{ScenarioData}
 use Rattle.scenario.specs.Issuer.{issuer_at}
 use Rattle.scenario.specs.Lanes.{lanes_at}
@@ -24,7 +24,7 @@ scenario_of ms = do
   issuer ← issuer_at ms
   accounts ← accounts_at ms
   cards ← cards_at issuer ms
-  lanes ← lanes_at (map (λ c. c.name) cards) issuer.pin ms
+  lanes ← lanes_at (card_names cards) issuer.pin ms
   schedule ← schedule_at ms
   copies ← number_or 1 at_top (codes "copies") 1 3 ms
   _ ← only at_top top_keys ms

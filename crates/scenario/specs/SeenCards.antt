@@ -3,10 +3,11 @@ use Rattle.std.specs.Prelude.{List, [], option_map}
 use Rattle.card_files.specs.Lists.{cdol1_entries, cdol2_entries}
 use Rattle.card_files.specs.Seen.{seen_records}
 use Rattle.object_lists.specs.DolEntries.{DolEntry}
-use Rattle.scenario.specs.Cards.{FilesData, HolderData, LimitsData}
+use Rattle.scenario.specs.Cards.{FilesData, HolderData, CountersData, AccessData}
 use Rattle.scenario.specs.declared.app.Files.{Files}
 use Rattle.scenario.specs.declared.app.Holder.{Holder}
-use Rattle.scenario.specs.declared.app.Limits.{Limits}
+use Rattle.scenario.specs.declared.app.Counters.{Counters}
+use Rattle.scenario.specs.declared.app.Access.{Access}
 use Rattle.scenario.specs.declared.app.Holding.{Holding}
 use Rattle.scenario.specs.declared.app.Holding.TheVariants.{Anything, First, Second}
 
@@ -32,14 +33,10 @@ seen_files f = record {
 }
 
 unfoldable pub seen_holder : Holder → HolderData
-seen_holder h = record { pan = h.pan; sequence = h.sequence; currency = h.currency; counter = h.counter; last_online = h.last_online }
+seen_holder h = record { pan = h.pan; sequence = h.sequence; currency = h.currency }
 
-unfoldable pub seen_limits : Limits → LimitsData
-seen_limits l = record {
-  count_limit = l.count_limit;
-  sum_limit = l.sum_limit;
-  pin = l.pin;
-  tries = l.tries;
-  blocked = l.blocked;
-  ac_key = l.ac_key;
-}
+unfoldable pub seen_counters : Counters → CountersData
+seen_counters c = record { counter = c.counter; last_online = c.last_online; count_limit = c.count_limit; sum_limit = c.sum_limit }
+
+unfoldable pub seen_access : Access → AccessData
+seen_access a = record { pin = a.pin; tries = a.tries; blocked = a.blocked; ac_key = a.ac_key }

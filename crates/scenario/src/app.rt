@@ -6,11 +6,11 @@ ghost use Rattle.card_files.specs.Lists.{has_all};
 ghost use Rattle.card_files.specs.SeenApp.{seen_app, seen_apps};
 ghost use Rattle.toml.specs.View.{view, table_view};
 ghost use Rattle.scenario_fields.specs.Fault.{Gives};
-ghost use Rattle.scenario_fields.specs.Fields.{only, listed_or, optional_number};
+ghost use Rattle.scenario_fields.specs.Fields.{only, listed_or, number_or, optional_number};
 ghost use Rattle.scenario_fields.specs.Place.{path, spot_path};
 ghost use Rattle.scenario.specs.Cards as spec;
-ghost use Rattle.scenario.specs.Cards.{list_of, pdol_at as pdol_found, cdol1_at as cdol1_found, cdol2_at as cdol2_found, app_keys, app_of, app_item as item_of, files_of, sequence_at as sequence_found, holder_of, limits_of, app_with, opening_of, reference_pin, own_or};
-ghost use Rattle.scenario.specs.SeenCards.{seen_files, seen_holder, seen_limits, wanted_by};
+ghost use Rattle.scenario.specs.Cards.{list_of, pdol_at as pdol_found, cdol1_at as cdol1_found, cdol2_at as cdol2_found, app_keys, app_of, app_item as item_of, files_of, sequence_at as sequence_found, holder_of, counters_of, access_of, app_with, opening_of, reference_pin, own_or};
+ghost use Rattle.scenario.specs.SeenCards.{seen_files, seen_holder, seen_counters, seen_access, wanted_by};
 
 use crate::purchase::MOST_AMOUNT;
 use crate::record::records_at;
@@ -150,14 +150,15 @@ fn has_name(name: &[u8], apps: &[AppImage]) -> bool
 fn new_name(
     alloc: Global,
     card: usize,
+    index: usize,
     earlier: &[AppImage],
     table: &Table,
 ) -> Result<Name, ScenarioFault>
-    ensures { Gives (λ name. name) result (spec.new_name card (length earlier.now) (seen_apps earlier.now) (table_view table.now)) }
+    ensures { Gives (λ name. name) result (spec.new_name card index (seen_apps earlier.now) (table_view table.now)) }
 {
     let fields = Fields {
         alloc,
-        place: Place::App(card, earlier.len()),
+        place: Place::App(card, index),
         table,
     };
     let name = Name(fields.few_bytes("name", 5)?);
@@ -206,18 +207,18 @@ fn priority_at(fields: &Fields) -> Result<Option<u8>, ScenarioFault>
 fn read_files(
     alloc: Global,
     card: usize,
+    index: usize,
     earlier: &[AppImage],
     table: &Table,
 ) -> Result<Files, ScenarioFault>
-    ensures { Gives seen_files result (files_of card (length earlier.now) (seen_apps earlier.now) (table_view table.now)) }
+    ensures { Gives seen_files result (files_of card index (seen_apps earlier.now) (table_view table.now)) }
 {
-    let index = earlier.len();
     let fields = Fields {
         alloc,
         place: Place::App(card, index),
         table,
     };
-    let name = new_name(alloc, card, earlier, table)?;
+    let name = new_name(alloc, card, index, earlier, table)?;
     let label = fields.owned_text("label", Characters::Printable, 1, 16)?;
     let priority = priority_at(&fields)?;
     let pdol = pdol_at(alloc, card, index, table)?;
@@ -243,21 +244,26 @@ fn read_files(
     })
 }
 
-/// An application's account, and the counters with which it opens.
+/// An application's account.
 #[derive(Drop)]
 pub struct Holder {
     pan: Digits,
     sequence: u8,
     currency: [u8; 2],
-    counter: u16,
-    last_online: u16,
 }
 
-/// Its limits, its PIN as a plain block or zeros, and its own key, where it has one.
-#[derive(Drop)]
-pub struct Limits {
+/// The counters with which it opens, and its limits.
+#[derive(Clone, Copy)]
+pub struct Counters {
+    counter: u16,
+    last_online: u16,
     count_limit: u8,
     sum_limit: u64,
+}
+
+/// Its PIN as a plain block or zeros, its tries, and its own key, where it has one.
+#[derive(Clone, Copy)]
+pub struct Access {
     pin: [u8; 8],
     tries: u8,
     blocked: bool,
@@ -284,7 +290,7 @@ fn sequence_at(fields: &Fields) -> Result<u8, ScenarioFault>
     Ok((number / 10 * 16 + number % 10) as u8)
 }
 
-/// The keys from the PAN to the counters.
+/// The keys from the PAN to the currency.
 #[tactic(auto, unfolding(crate::specs::Cards::holder_of, crate::specs::SeenCards::seen_holder))]
 fn read_holder(
     alloc: Global,
@@ -302,41 +308,67 @@ fn read_holder(
     let pan = fields.digits("pan", 13, 16)?;
     let sequence = sequence_at(&fields)?;
     let currency = fields.code("currency")?;
-    let counter = fields.number_or(0, "counter", 0, 65_535)? as u16;
-    let last_online = fields.number_or(0, "last_online", 0, 65_535)? as u16;
     Ok(Holder {
         pan,
         sequence,
         currency,
-        counter,
-        last_online,
     })
 }
 
-/// The keys from the limits on.
-#[tactic(auto, unfolding(crate::specs::Cards::limits_of, crate::specs::SeenCards::seen_limits))]
-fn read_limits(
+/// A transaction counter; 0 where the key is absent.
+fn counter_at(fields: &Fields, key: &str) -> Result<u16, ScenarioFault>
+    ensures { Gives (λ n. n) result (number_or 0 (path fields.now.place) key.now 0 65535 (table_view fields.now.table.now)) }
+{
+    Ok(fields.number_or(0, key, 0, 65_535)? as u16)
+}
+
+/// The counters and limits.
+#[tactic(auto, unfolding(crate::specs::Cards::counters_of, crate::specs::SeenCards::seen_counters))]
+fn read_counters(
     alloc: Global,
     card: usize,
     index: usize,
     table: &Table,
-) -> Result<Limits, ScenarioFault>
-    ensures { Gives seen_limits result (limits_of card index (table_view table.now)) }
+) -> Result<Counters, ScenarioFault>
+    ensures { Gives seen_counters result (counters_of card index (table_view table.now)) }
 {
     let fields = Fields {
         alloc,
         place: Place::App(card, index),
         table,
     };
+    let counter = counter_at(&fields, "counter")?;
+    let last_online = counter_at(&fields, "last_online")?;
     let count_limit = fields.number("count_limit", 0, 255)? as u8;
     let sum_limit = fields.number("sum_limit", 0, MOST_AMOUNT)?;
+    Ok(Counters {
+        counter,
+        last_online,
+        count_limit,
+        sum_limit,
+    })
+}
+
+/// The keys from the PIN on.
+#[tactic(auto, unfolding(crate::specs::Cards::access_of, crate::specs::SeenCards::seen_access))]
+fn read_access(
+    alloc: Global,
+    card: usize,
+    index: usize,
+    table: &Table,
+) -> Result<Access, ScenarioFault>
+    ensures { Gives seen_access result (access_of card index (table_view table.now)) }
+{
+    let fields = Fields {
+        alloc,
+        place: Place::App(card, index),
+        table,
+    };
     let pin = fields.optional_digits("pin", 4, 12)?;
     let tries = fields.number_or(3, "tries", 0, 15)? as u8;
     let blocked = fields.flag_or(false, "blocked")?;
     let ac_key = fields.optional_byte_array("ac_key")?;
-    Ok(Limits {
-        count_limit,
-        sum_limit,
+    Ok(Access {
         pin: reference_pin(&pin),
         tries,
         blocked,
@@ -385,15 +417,21 @@ fn own_or(derived: Key16, own: Option<[u8; 16]>) -> Key16
 }
 
 /// The application of its parts; its other keys are derived from the issuer's.
-#[tactic(auto, unfolding(crate::specs::Cards::app_with, crate::specs::SeenCards::seen_files, crate::specs::SeenCards::seen_holder, crate::specs::SeenCards::seen_limits, card_files::specs::SeenApp::seen_app))]
-fn app_with(keys: &HostKeys, files: Files, holder: Holder, limits: Limits) -> AppImage
-    ensures { seen_app result ≡ app_with keys.now (seen_files files) (seen_holder holder) (seen_limits limits) }
+#[tactic(auto, unfolding(crate::specs::Cards::app_with, crate::specs::SeenCards::seen_files, crate::specs::SeenCards::seen_holder, crate::specs::SeenCards::seen_counters, crate::specs::SeenCards::seen_access, card_files::specs::SeenApp::seen_app))]
+fn app_with(
+    keys: &HostKeys,
+    files: Files,
+    holder: Holder,
+    counters: Counters,
+    access: Access,
+) -> AppImage
+    ensures { seen_app result ≡ app_with keys.now (seen_files files) (seen_holder holder) (seen_counters counters) (seen_access access) }
 {
     let derived = master_key(&keys.ac, &holder.pan, holder.sequence);
     let mac_key = master_key(&keys.mac, &holder.pan, holder.sequence);
     let enc_key = master_key(&keys.enc, &holder.pan, holder.sequence);
-    let ac_key = own_or(derived, limits.ac_key);
-    let opening = opening_of(&holder, &limits);
+    let ac_key = own_or(derived, access.ac_key);
+    let opening = opening_of(&counters, &access);
     let aip = files.aip;
     let currency = holder.currency;
     AppImage {
@@ -412,7 +450,7 @@ fn app_with(keys: &HostKeys, files: Files, holder: Holder, limits: Limits) -> Ap
         sequence: holder.sequence,
         currency,
         opening,
-        tries: limits.tries,
+        tries: access.tries,
         ac_key,
         mac_key,
         enc_key,
@@ -420,20 +458,20 @@ fn app_with(keys: &HostKeys, files: Files, holder: Holder, limits: Limits) -> Ap
 }
 
 /// The state in which an application opens: nothing is counted yet.
-#[tactic(auto, unfolding(crate::specs::Cards::opening_of, crate::specs::SeenCards::seen_holder, crate::specs::SeenCards::seen_limits))]
-fn opening_of(holder: &Holder, limits: &Limits) -> AppState
-    ensures { result ≡ opening_of (seen_holder holder.now) (seen_limits limits.now) }
+#[tactic(auto, unfolding(crate::specs::Cards::opening_of, crate::specs::SeenCards::seen_counters, crate::specs::SeenCards::seen_access))]
+fn opening_of(counters: &Counters, access: &Access) -> AppState
+    ensures { result ≡ opening_of (seen_counters counters.now) (seen_access access.now) }
 {
-    let pin = limits.pin;
+    let pin = access.pin;
     AppState {
-        counter: holder.counter,
-        last_online: holder.last_online,
+        counter: counters.counter,
+        last_online: counters.last_online,
         count: 0,
         sum: 0,
-        count_limit: limits.count_limit,
-        sum_limit: limits.sum_limit,
-        tries: limits.tries,
-        blocked: limits.blocked,
+        count_limit: counters.count_limit,
+        sum_limit: counters.sum_limit,
+        tries: access.tries,
+        blocked: access.blocked,
         auth_failed: false,
         pin,
     }
@@ -444,23 +482,24 @@ fn opening_of(holder: &Holder, limits: &Limits) -> AppState
 fn read_app(
     alloc: Global,
     card: usize,
+    index: usize,
     keys: &HostKeys,
     earlier: &[AppImage],
     table: &Table,
 ) -> Result<AppImage, ScenarioFault>
-    ensures { Gives seen_app result (app_of card (length earlier.now) keys.now (seen_apps earlier.now) (table_view table.now)) }
+    ensures { Gives seen_app result (app_of card index keys.now (seen_apps earlier.now) (table_view table.now)) }
 {
-    let index = earlier.len();
     let fields = Fields {
         alloc,
         place: Place::App(card, index),
         table,
     };
-    let files = read_files(alloc, card, earlier, table)?;
+    let files = read_files(alloc, card, index, earlier, table)?;
     let holder = read_holder(alloc, card, index, table)?;
-    let limits = read_limits(alloc, card, index, table)?;
+    let counters = read_counters(alloc, card, index, table)?;
+    let access = read_access(alloc, card, index, table)?;
     only_app_keys(&fields)?;
-    Ok(app_with(keys, files, holder, limits))
+    Ok(app_with(keys, files, holder, counters, access))
 }
 
 /// An application among those of a card.
@@ -468,18 +507,19 @@ fn read_app(
 pub fn app_item(
     alloc: Global,
     card: usize,
+    index: usize,
     keys: &HostKeys,
     earlier: &[AppImage],
     value: &Value,
 ) -> Result<AppImage, ScenarioFault>
-    ensures { Gives seen_app result (item_of card (length earlier.now) keys.now (seen_apps earlier.now) (view value.now)) }
+    ensures { Gives seen_app result (item_of card index keys.now (seen_apps earlier.now) (view value.now)) }
 {
     let spot = Spot {
         alloc,
         place: Place::Card(card),
         key: "app",
-        index: Some(earlier.len()),
+        index: Some(index),
     };
     let table = spot.table(value)?;
-    read_app(alloc, card, keys, earlier, table)
+    read_app(alloc, card, index, keys, earlier, table)
 }

@@ -9,7 +9,7 @@ ghost use Rattle.scenario_fields.specs.Fields.{only};
 ghost use Rattle.scenario_fields.specs.Place.{path};
 ghost use Rattle.scenario.specs.Cards as spec;
 ghost use Rattle.scenario.specs.Cards.{card_keys, card_of, card_item as item_of, cards_from, apps_from, apps_at as apps_found, cards_at as cards_found};
-ghost use Rattle.scenario.specs.Seen.{seen_card, seen_cards, names_of};
+ghost use Rattle.scenario.specs.Seen.{seen_card, seen_cards};
 
 use crate::app::app_item;
 use crate::plan::NamedImage;
@@ -20,14 +20,14 @@ use std::alloc::Global;
 use toml::{Table, Value};
 
 fn any_named(name: &[u8], cards: &[NamedImage]) -> bool
-    ensures { result ≡ list_any (λ c. bytes_eq name.now c.name.items) cards.now }
+    ensures { result ≡ list_any (λ c. bytes_eq c.name.items name.now) cards.now }
 {
-    cards.iter().any(|card| name == card.name.as_slice())
+    cards.iter().any(|card| card.name.as_slice() == name)
 }
 
 /// Whether a card has this name.
 fn is_named(name: &[u8], cards: &[NamedImage]) -> bool
-    ensures { result ≡ spec.is_named name.now (names_of cards.now) }
+    ensures { result ≡ spec.is_named name.now (seen_cards cards.now) }
 {
     any_named(name, cards)
 }
@@ -36,14 +36,15 @@ fn is_named(name: &[u8], cards: &[NamedImage]) -> bool
 #[tactic(auto, unfolding(crate::specs::Cards::new_card_name))]
 fn new_card_name(
     alloc: Global,
+    index: usize,
     earlier: &[NamedImage],
     table: &Table,
 ) -> Result<Vec<u8>, ScenarioFault>
-    ensures { Gives (λ name. name.items) result (spec.new_card_name (length earlier.now) (names_of earlier.now) (table_view table.now)) }
+    ensures { Gives (λ name. name.items) result (spec.new_card_name index (seen_cards earlier.now) (table_view table.now)) }
 {
     let fields = Fields {
         alloc,
-        place: Place::Card(earlier.len()),
+        place: Place::Card(index),
         table,
     };
     let name = fields.owned_text("name", Characters::LowercaseOrDigit, 1, 16)?;
@@ -64,7 +65,7 @@ fn read_apps(
 {
     let mut apps: Vec<AppImage> = Vec::new(alloc);
     for value in values {
-        let app = app_item(alloc, card, keys, apps.as_slice(), value)?;
+        let app = app_item(alloc, card, apps.len(), keys, apps.as_slice(), value)?;
         apps.push(app)?;
     }
     Ok(apps)
@@ -99,19 +100,19 @@ fn only_card_keys(fields: &Fields) -> Result<(), ScenarioFault>
 #[tactic(auto, unfolding(crate::specs::Cards::card_of, crate::specs::Seen::seen_card))]
 fn read_card(
     alloc: Global,
+    index: usize,
     keys: &HostKeys,
     earlier: &[NamedImage],
     table: &Table,
 ) -> Result<NamedImage, ScenarioFault>
-    ensures { Gives seen_card result (card_of (length earlier.now) keys.now (names_of earlier.now) (table_view table.now)) }
+    ensures { Gives seen_card result (card_of index keys.now (seen_cards earlier.now) (table_view table.now)) }
 {
-    let index = earlier.len();
     let fields = Fields {
         alloc,
         place: Place::Card(index),
         table,
     };
-    let name = new_card_name(alloc, earlier, table)?;
+    let name = new_card_name(alloc, index, earlier, table)?;
     let apps = apps_at(alloc, index, keys, table)?;
     only_card_keys(&fields)?;
     match Image::new(apps) {
@@ -124,20 +125,21 @@ fn read_card(
 #[tactic(auto, unfolding(crate::specs::Cards::card_item))]
 fn card_item(
     alloc: Global,
+    index: usize,
     keys: &HostKeys,
     earlier: &[NamedImage],
     value: &Value,
 ) -> Result<NamedImage, ScenarioFault>
-    ensures { Gives seen_card result (item_of (length earlier.now) keys.now (names_of earlier.now) (view value.now)) }
+    ensures { Gives seen_card result (item_of index keys.now (seen_cards earlier.now) (view value.now)) }
 {
     let spot = Spot {
         alloc,
         place: Place::Top,
         key: "card",
-        index: Some(earlier.len()),
+        index: Some(index),
     };
     let table = spot.table(value)?;
-    read_card(alloc, keys, earlier, table)
+    read_card(alloc, index, keys, earlier, table)
 }
 
 /// Each card of the document.
@@ -151,7 +153,7 @@ fn read_cards(
 {
     let mut cards: Vec<NamedImage> = Vec::new(alloc);
     for value in values {
-        let card = card_item(alloc, keys, cards.as_slice(), value)?;
+        let card = card_item(alloc, cards.len(), keys, cards.as_slice(), value)?;
         cards.push(card)?;
     }
     Ok(cards)

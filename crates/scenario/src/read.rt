@@ -30,7 +30,7 @@ fn only_top_keys(fields: &Fields) -> Result<(), ScenarioFault>
 }
 
 /// The scenario of a document.
-#[tactic(auto, unfolding(crate::specs::Scenario::scenario_of, crate::specs::Seen::seen_scenario))]
+#[tactic(auto, unfolding(crate::specs::Scenario::scenario_of, crate::specs::Seen::seen_scenario), using(crate::proofs::CardNames::card_names_seen, crate::proofs::CardNames::cards_count))]
 fn read_document(
     alloc: Global,
     document: &Table,
