@@ -18,9 +18,9 @@ use Rattle.scenario.specs.Names.{schedule_at, all_known_cards, known_lanes}
 unfoldable pub top_keys : List (List ℕ)
 top_keys = codes "issuer" ∷ codes "account" ∷ codes "card" ∷ codes "lane" ∷ codes "schedule" ∷ codes "copies" ∷ []
 
--- the document's keys in their order, the keys that it doesn't know, and behind all the names
-unfoldable pub scenario_of : Members → Result ScenarioData ScenarioFault
-scenario_of ms = do
+-- the document's keys in their order, and the keys that it doesn't know
+unfoldable pub tables_of : Members → Result ScenarioData ScenarioFault
+tables_of ms = do
   issuer ← issuer_at ms
   accounts ← accounts_at ms
   cards ← cards_at issuer ms
@@ -28,9 +28,20 @@ scenario_of ms = do
   schedule ← schedule_at ms
   copies ← number_or 1 at_top (codes "copies") 1 3 ms
   _ ← only at_top top_keys ms
-  _ ← all_known_cards (length cards) 0 lanes
-  _ ← known_lanes (length lanes) 0 schedule
   Ok (record { issuer = issuer; accounts = accounts; cards = cards; lanes = lanes; schedule = schedule; copies = copies })
+
+-- each card and each lane that is named is there
+unfoldable pub names_known : ScenarioData → Result (Unit {0}) ScenarioFault
+names_known scenario = do
+  _ ← all_known_cards (length scenario.cards) 0 scenario.lanes
+  known_lanes (length scenario.lanes) 0 scenario.schedule
+
+-- the tables, and behind all the names
+unfoldable pub scenario_of : Members → Result ScenarioData ScenarioFault
+scenario_of ms = do
+  scenario ← tables_of ms
+  _ ← names_known scenario
+  Ok scenario
 
 -- a text that is no TOML document has the one fault
 abbrev pub of_document : Option Members → Result ScenarioData ScenarioFault

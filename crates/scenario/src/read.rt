@@ -6,7 +6,7 @@ ghost use Rattle.scenario_fields.specs.Fields.{only};
 ghost use Rattle.scenario_fields.specs.Place.{path};
 ghost use Rattle.scenario_fields.specs.declared.fault.ScenarioFault.TheVariants.{OutOfLimit};
 ghost use Rattle.scenario.specs.Rules.{IsScenario};
-ghost use Rattle.scenario.specs.Scenario.{top_keys, scenario_of, IsReading};
+ghost use Rattle.scenario.specs.Scenario.{top_keys, tables_of, names_known as names_tried, scenario_of, IsReading};
 ghost use Rattle.scenario.specs.Seen.{seen_scenario};
 
 use crate::account::accounts_at;
@@ -29,13 +29,10 @@ fn only_top_keys(fields: &Fields) -> Result<(), ScenarioFault>
     fields.only(&["issuer", "account", "card", "lane", "schedule", "copies"])
 }
 
-/// The scenario of a document.
-#[tactic(auto, unfolding(crate::specs::Scenario::scenario_of, crate::specs::Seen::seen_scenario), using(crate::proofs::CardNames::card_names_seen, crate::proofs::CardNames::cards_count))]
-fn read_document(
-    alloc: Global,
-    document: &Table,
-) -> Result<Scenario, ScenarioFault>
-    ensures exact { Gives seen_scenario result (scenario_of (table_view document.now)) }
+/// The tables of a document in their order.
+#[tactic(auto, unfolding(crate::specs::Scenario::tables_of, crate::specs::Seen::seen_scenario), using(crate::proofs::CardNames::card_names_seen))]
+fn read_tables(alloc: Global, document: &Table) -> Result<Scenario, ScenarioFault>
+    ensures exact { Gives seen_scenario result (tables_of (table_view document.now)) }
     ensures rules { IfOk result IsScenario }
 {
     let fields = Fields {
@@ -50,8 +47,6 @@ fn read_document(
     let schedule = schedule_at(alloc, document)?;
     let copies = fields.number_or(1, "copies", 1, 3)? as u8;
     only_top_keys(&fields)?;
-    all_known_cards(alloc, cards.len(), lanes.as_slice())?;
-    known_lanes(alloc, lanes.len(), schedule.as_slice())?;
     Ok(Scenario {
         issuer,
         accounts,
@@ -60,6 +55,26 @@ fn read_document(
         schedule,
         copies,
     })
+}
+
+/// Tries the names of cards and lanes.
+#[tactic(auto, unfolding(crate::specs::Scenario::names_known, crate::specs::Seen::seen_scenario), using(crate::proofs::CardNames::cards_count))]
+fn names_known(alloc: Global, scenario: &Scenario) -> Result<(), ScenarioFault>
+    ensures { Gives (λ u. u) result (names_tried (seen_scenario scenario.now)) }
+{
+    all_known_cards(alloc, scenario.cards.len(), scenario.lanes.as_slice())?;
+    known_lanes(alloc, scenario.lanes.len(), scenario.schedule.as_slice())
+}
+
+/// The scenario of a document.
+#[tactic(auto, unfolding(crate::specs::Scenario::scenario_of))]
+fn read_document(alloc: Global, document: &Table) -> Result<Scenario, ScenarioFault>
+    ensures exact { Gives seen_scenario result (scenario_of (table_view document.now)) }
+    ensures rules { IfOk result IsScenario }
+{
+    let scenario = read_tables(alloc, document)?;
+    names_known(alloc, &scenario)?;
+    Ok(scenario)
 }
 
 /// The fault of a document that is too long.

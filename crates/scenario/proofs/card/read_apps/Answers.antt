@@ -36,5 +36,6 @@ loop-value-preserved c = record {
       apps_pushed c.args.card c.args.keys.now c.loop-value.value-index c.len.result c.args.values.now
       c.value-item.result c.loop-value.apps.items c.push.new.self.items c.in_ok-app.app _
       c.loop-value-test.true c.value-item.is (omega (arith, c.len.ensures)) c.in_ok-push.ensures.items
-      c.in_ok-app.ensures c.loop-value.invariant.read;
+      (subst (λ (apps : List AppImage). app_item c.args.card c.len.result c.args.keys.now (seen_apps apps) (view c.value-item.result) ≡ Ok (seen_app c.in_ok-app.app)) c.as_slice.ensures.value c.in_ok-app.ensures)
+      c.loop-value.invariant.read;
 }
