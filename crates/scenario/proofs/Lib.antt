@@ -1,2 +1,3 @@
+pub mod CardNames
 pub mod Loops
 pub mod Pans

@@ -4,6 +4,7 @@ use Rattle.emv_dict.specs.declared.purchase.AidRow.{AidRow}
 use Rattle.emv_ports.specs.declared.tear.Tear.{Tear}
 use Rattle.issuer_host.specs.Seen.{AccountData}
 use Rattle.issuer_host.specs.declared.keys.HostKeys.{HostKeys}
+use Rattle.scenario.specs.Cards.{CardData}
 use Rattle.scenario.specs.declared.plan.Link.{Link}
 
 pub record PurchaseData : Type 0 where
@@ -42,6 +43,7 @@ pub record LaneData : Type 0 where
 pub record ScenarioData : Type 0 where
   pub issuer : HostKeys
   pub accounts : List AccountData
+  pub cards : List CardData
   pub lanes : List LaneData
   pub schedule : List ℕ
   pub copies : ℕ

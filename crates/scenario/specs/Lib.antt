@@ -1,4 +1,6 @@
 pub mod Accounts
+pub mod Cards
+pub mod SeenCards
 pub mod Data
 pub mod Issuer
 pub mod Lanes

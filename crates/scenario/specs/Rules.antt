@@ -13,6 +13,8 @@ pub record IsLane (lane : Lane) : Type 0 where
 -- a scenario
 pub record IsScenario (scenario : Scenario) : Type 0 where
   pub few_accounts : vec_len scenario.accounts ≤ 1000
+  pub some_card : 1 ≤ vec_len scenario.cards
+  pub few_cards : vec_len scenario.cards ≤ 64
   pub some_lane : 1 ≤ vec_len scenario.lanes
   pub few_lanes : vec_len scenario.lanes ≤ 16
   pub lanes : All IsLane scenario.lanes.items

@@ -9,6 +9,7 @@ use Rattle.scenario_fields.specs.Place.{at_top}
 use Rattle.scenario_fields.specs.declared.fault.ScenarioFault.{ScenarioFault}
 use Rattle.scenario_fields.specs.declared.fault.ScenarioFault.TheVariants.{Toml, OutOfLimit}
 use Rattle.scenario.specs.Accounts.{accounts_at}
+use Rattle.scenario.specs.Cards.{cards_at, card_names}
 use Rattle.scenario.specs.Data.{ScenarioData}
 use Rattle.scenario.specs.Issuer.{issuer_at}
 use Rattle.scenario.specs.Lanes.{lanes_at}
@@ -17,23 +18,35 @@ use Rattle.scenario.specs.Names.{schedule_at, all_known_cards, known_lanes}
 unfoldable pub top_keys : List (List ℕ)
 top_keys = codes "issuer" ∷ codes "account" ∷ codes "card" ∷ codes "lane" ∷ codes "schedule" ∷ codes "copies" ∷ []
 
--- the document's keys in their order, the keys that it doesn't know, and behind all the names
-unfoldable pub scenario_of : List (List ℕ) → Members → Result ScenarioData ScenarioFault
-scenario_of names ms = do
+-- the document's keys in their order, and the keys that it doesn't know
+unfoldable pub tables_of : Members → Result ScenarioData ScenarioFault
+tables_of ms = do
   issuer ← issuer_at ms
   accounts ← accounts_at ms
-  lanes ← lanes_at names issuer.pin ms
+  cards ← cards_at issuer ms
+  lanes ← lanes_at (card_names cards) issuer.pin ms
   schedule ← schedule_at ms
   copies ← number_or 1 at_top (codes "copies") 1 3 ms
   _ ← only at_top top_keys ms
-  _ ← all_known_cards (length names) 0 lanes
-  _ ← known_lanes (length lanes) 0 schedule
-  Ok (record { issuer = issuer; accounts = accounts; lanes = lanes; schedule = schedule; copies = copies })
+  Ok (record { issuer = issuer; accounts = accounts; cards = cards; lanes = lanes; schedule = schedule; copies = copies })
+
+-- each card and each lane that is named is there
+unfoldable pub names_known : ScenarioData → Result (Unit {0}) ScenarioFault
+names_known scenario = do
+  _ ← all_known_cards (length scenario.cards) 0 scenario.lanes
+  known_lanes (length scenario.lanes) 0 scenario.schedule
+
+-- the tables, and behind all the names
+unfoldable pub scenario_of : Members → Result ScenarioData ScenarioFault
+scenario_of ms = do
+  scenario ← tables_of ms
+  _ ← names_known scenario
+  Ok scenario
 
 -- a text that is no TOML document has the one fault
 abbrev pub of_document : Option Members → Result ScenarioData ScenarioFault
 of_document None = Err Toml
-of_document (Some ms) = scenario_of [] ms
+of_document (Some ms) = scenario_of ms
 
 -- what the bytes give: more than 4,194,304 of them are refused unread
 pub record IsReading {X : Type 0} (seen : X → ScenarioData) (bytes : List ℕ) (result : Result X ScenarioFault) : Type 0 where

@@ -3,6 +3,7 @@ use Rattle.std.specs.Prelude.{ℕ, List, map}
 use Rattle.emv_dict.specs.declared.purchase.Settings.{Settings}
 use Rattle.emv_dict.specs.declared.purchase.Purchase.{Purchase}
 use Rattle.issuer_host.specs.Seen.{seen_accounts}
+use Rattle.scenario.specs.Cards.{CardData}
 use Rattle.scenario.specs.Data.{PurchaseData, PlannedData, SettingsData, LaneData, ScenarioData}
 use Rattle.scenario.specs.declared.plan.NamedImage.{NamedImage}
 use Rattle.scenario.specs.declared.plan.Planned.{Planned}
@@ -48,6 +49,12 @@ seen_lane l = record { settings = seen_settings l.settings; purchases = seen_pur
 abbrev pub seen_lanes : List Lane → List LaneData
 seen_lanes ls = map seen_lane ls
 
+unfoldable pub seen_card : NamedImage → CardData
+seen_card c = record { name = c.name.items; image = c.image }
+
+abbrev pub seen_cards : List NamedImage → List CardData
+seen_cards cs = map seen_card cs
+
 -- the names of cards
 abbrev pub names_of : List NamedImage → List (List ℕ)
 names_of cards = map (λ c. c.name.items) cards
@@ -56,6 +63,7 @@ unfoldable pub seen_scenario : Scenario → ScenarioData
 seen_scenario s = record {
   issuer = s.issuer;
   accounts = seen_accounts s.accounts.items;
+  cards = seen_cards s.cards.items;
   lanes = seen_lanes s.lanes.items;
   schedule = s.schedule.items;
   copies = s.copies;

@@ -3,12 +3,15 @@
 #![tactic(auto)]
 
 pub mod account;
+pub mod app;
+pub mod card;
 pub mod issuer;
 pub mod lane;
 pub mod names;
 pub mod plan;
 pub mod purchase;
 pub mod read;
+pub mod record;
 pub mod script;
 
 pub use plan::{Lane, Link, NamedImage, Planned, Scenario};

@@ -1,3 +1,4 @@
+use card_files::Image;
 use emv_dict::{Purchase, Settings};
 use emv_ports::Tear;
 use issuer_host::{Account, HostKeys};
@@ -7,6 +8,8 @@ use issuer_host::{Account, HostKeys};
 pub struct NamedImage {
     /// Its name, from 1 to 16 characters of a to z and 0 to 9.
     pub name: Vec<u8>,
+    /// Its applications.
+    pub image: Image,
 }
 
 /// What becomes of a message to the issuer's host.
@@ -41,13 +44,15 @@ pub struct Lane {
     pub purchases: Vec<Planned>,
 }
 
-/// An issuer with its accounts, and lanes with their purchases.
+/// An issuer with its accounts, cards, and lanes with their purchases.
 #[derive(Drop)]
 pub struct Scenario {
     /// The issuer's keys.
     pub issuer: HostKeys,
     /// At most 1,000 accounts, no two of one PAN.
     pub accounts: Vec<Account>,
+    /// From 1 to 64 cards, no two of one name.
+    pub cards: Vec<NamedImage>,
     /// From 1 to 16 lanes, with at most 10,000 purchases together.
     pub lanes: Vec<Lane>,
     /// At most 200,000 indices of lanes: whose exchange comes next.

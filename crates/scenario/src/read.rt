@@ -6,14 +6,15 @@ ghost use Rattle.scenario_fields.specs.Fields.{only};
 ghost use Rattle.scenario_fields.specs.Place.{path};
 ghost use Rattle.scenario_fields.specs.declared.fault.ScenarioFault.TheVariants.{OutOfLimit};
 ghost use Rattle.scenario.specs.Rules.{IsScenario};
-ghost use Rattle.scenario.specs.Scenario.{top_keys, scenario_of, IsReading};
-ghost use Rattle.scenario.specs.Seen.{seen_scenario, names_of};
+ghost use Rattle.scenario.specs.Scenario.{top_keys, tables_of, names_known as names_tried, scenario_of, IsReading};
+ghost use Rattle.scenario.specs.Seen.{seen_scenario};
 
 use crate::account::accounts_at;
+use crate::card::cards_at;
 use crate::issuer::issuer_at;
 use crate::lane::lanes_at;
 use crate::names::{all_known_cards, known_lanes, schedule_at};
-use crate::plan::{NamedImage, Scenario};
+use crate::plan::Scenario;
 use scenario_fields::{Fields, Place, ScenarioFault, Spot};
 use std::alloc::Global;
 use toml::Table;
@@ -28,14 +29,10 @@ fn only_top_keys(fields: &Fields) -> Result<(), ScenarioFault>
     fields.only(&["issuer", "account", "card", "lane", "schedule", "copies"])
 }
 
-/// The scenario of a document with these cards.
-#[tactic(auto, unfolding(crate::specs::Scenario::scenario_of, crate::specs::Seen::seen_scenario))]
-pub(crate) fn read_document(
-    alloc: Global,
-    cards: &[NamedImage],
-    document: &Table,
-) -> Result<Scenario, ScenarioFault>
-    ensures exact { Gives seen_scenario result (scenario_of (names_of cards.now) (table_view document.now)) }
+/// The tables of a document in their order.
+#[tactic(auto, unfolding(crate::specs::Scenario::tables_of, crate::specs::Seen::seen_scenario), using(crate::proofs::CardNames::card_names_seen))]
+fn read_tables(alloc: Global, document: &Table) -> Result<Scenario, ScenarioFault>
+    ensures exact { Gives seen_scenario result (tables_of (table_view document.now)) }
     ensures rules { IfOk result IsScenario }
 {
     let fields = Fields {
@@ -45,19 +42,39 @@ pub(crate) fn read_document(
     };
     let issuer = issuer_at(alloc, document)?;
     let accounts = accounts_at(alloc, document)?;
-    let lanes = lanes_at(alloc, cards, issuer.pin.bytes(), document)?;
+    let cards = cards_at(alloc, &issuer, document)?;
+    let lanes = lanes_at(alloc, cards.as_slice(), issuer.pin.bytes(), document)?;
     let schedule = schedule_at(alloc, document)?;
     let copies = fields.number_or(1, "copies", 1, 3)? as u8;
     only_top_keys(&fields)?;
-    all_known_cards(alloc, cards.len(), lanes.as_slice())?;
-    known_lanes(alloc, lanes.len(), schedule.as_slice())?;
     Ok(Scenario {
         issuer,
         accounts,
+        cards,
         lanes,
         schedule,
         copies,
     })
+}
+
+/// Tries the names of cards and lanes.
+#[tactic(auto, unfolding(crate::specs::Scenario::names_known, crate::specs::Seen::seen_scenario), using(crate::proofs::CardNames::cards_count))]
+fn names_known(alloc: Global, scenario: &Scenario) -> Result<(), ScenarioFault>
+    ensures { Gives (λ u. u) result (names_tried (seen_scenario scenario.now)) }
+{
+    all_known_cards(alloc, scenario.cards.len(), scenario.lanes.as_slice())?;
+    known_lanes(alloc, scenario.lanes.len(), scenario.schedule.as_slice())
+}
+
+/// The scenario of a document.
+#[tactic(auto, unfolding(crate::specs::Scenario::scenario_of))]
+fn read_document(alloc: Global, document: &Table) -> Result<Scenario, ScenarioFault>
+    ensures exact { Gives seen_scenario result (scenario_of (table_view document.now)) }
+    ensures rules { IfOk result IsScenario }
+{
+    let scenario = read_tables(alloc, document)?;
+    names_known(alloc, &scenario)?;
+    Ok(scenario)
 }
 
 /// The fault of a document that is too long.
@@ -84,7 +101,7 @@ pub fn read_scenario(alloc: Global, bytes: &[u8]) -> Result<Scenario, ScenarioFa
         return Err(too_long(alloc));
     }
     match toml::table_from_slice(alloc, bytes) {
-        Ok(document) => read_document(alloc, &[], &document),
+        Ok(document) => read_document(alloc, &document),
         Err(fault) => {
             if fault.is_memory() {
                 Err(ScenarioFault::OutOfMemory)

@@ -1,5 +1,4 @@
-use crate::plan::{Link, NamedImage, Scenario};
-use crate::read::read_document;
+use crate::plan::{Link, Scenario};
 use crate::{ScenarioFault, read_scenario};
 use emv_ports::{Tear, TearAt};
 use issuer_host::Word;
@@ -287,6 +286,116 @@ const PURCHASE_FAULTS: [(&str, &str, &str); 18] = [
     ),
 ];
 
+/// What is put in place of what, and the fault that this makes.
+const CARD_FAULTS: [(&str, &str, &str); 26] = [
+    (
+        "card.app.record]]\nsfi = 1\nnumber = 1\nbytes = \"702E5A0847617390010100105F3401015F24032612315F25032401015F280208409F420208409F0702FF009F08020096\"\n\n[[card.app.record]]\nsfi = 1\nnumber = 2\nbytes = \"70308C159F02069F03069F1A0295055F2A029A039C019F37048D178A029F02069F03069F1A0295055F2A029A039C019F3704\"\n\n[[card.app.record]]\nsfi = 1\nnumber = 3\nbytes = \"70308E0E000000000000000041035E031F009F0D057068BCF8009F0E0500100000009F0F057068BC98009F1401059F230109\"\n\n[[",
+        "",
+        "2 MissingKey card[0].app[0].record",
+    ),
+    (
+        "card.app]]\nname = \"A0000000031010\"\nlabel = \"CREDIT\"\npriority = 1\naip = \"1C00\"\nafl = \"08010300\"\ncdol1 = \"9F02069F03069F1A0295055F2A029A039C019F3704\"\ncdol2 = \"8A029F02069F03069F1A0295055F2A029A039C019F3704\"\npan = \"4761739001010010\"\nsequence = 1\ncurrency = \"840\"\ncounter = 10\nlast_online = 9\ncount_limit = 5\nsum_limit = 20000\npin = \"1234\"\ntries = 3\n\n[[card.app.record]]\nsfi = 1\nnumber = 1\nbytes = \"702E5A0847617390010100105F3401015F24032612315F25032401015F280208409F420208409F0702FF009F08020096\"\n\n[[card.app.record]]\nsfi = 1\nnumber = 2\nbytes = \"70308C159F02069F03069F1A0295055F2A029A039C019F37048D178A029F02069F03069F1A0295055F2A029A039C019F3704\"\n\n[[card.app.record]]\nsfi = 1\nnumber = 3\nbytes = \"70308E0E000000000000000041035E031F009F0D057068BCF8009F0E0500100000009F0F057068BC98009F1401059F230109\"\n\n[[",
+        "",
+        "2 MissingKey card[0].app",
+    ),
+    (
+        "card]]\nname = \"c1\"\n\n[[card.app]]\nname = \"A0000000031010\"\nlabel = \"CREDIT\"\npriority = 1\naip = \"1C00\"\nafl = \"08010300\"\ncdol1 = \"9F02069F03069F1A0295055F2A029A039C019F3704\"\ncdol2 = \"8A029F02069F03069F1A0295055F2A029A039C019F3704\"\npan = \"4761739001010010\"\nsequence = 1\ncurrency = \"840\"\ncounter = 10\nlast_online = 9\ncount_limit = 5\nsum_limit = 20000\npin = \"1234\"\ntries = 3\n\n[[card.app.record]]\nsfi = 1\nnumber = 1\nbytes = \"702E5A0847617390010100105F3401015F24032612315F25032401015F280208409F420208409F0702FF009F08020096\"\n\n[[card.app.record]]\nsfi = 1\nnumber = 2\nbytes = \"70308C159F02069F03069F1A0295055F2A029A039C019F37048D178A029F02069F03069F1A0295055F2A029A039C019F3704\"\n\n[[card.app.record]]\nsfi = 1\nnumber = 3\nbytes = \"70308E0E000000000000000041035E031F009F0D057068BCF8009F0E0500100000009F0F057068BC98009F1401059F230109\"\n\n[[",
+        "",
+        "2 MissingKey card",
+    ),
+    (
+        "\"9F02069F03069F1A0295055F2A029A039C019F3704",
+        "\"9F0206",
+        "3 BadValue card[0].app[0].cdol1",
+    ),
+    (
+        "\"8A029F02069F03069F1A0295055F2A029A039C019F3704",
+        "\"8A03",
+        "3 BadValue card[0].app[0].cdol2",
+    ),
+    (
+        "s = 3\n",
+        "s = 3\ngpo_format = 3\n",
+        "3 BadValue card[0].app[0].gpo_format",
+    ),
+    ("CREDIT", "ä", "3 BadValue card[0].app[0].label"),
+    (
+        "s = 3\n",
+        "s = 3\npdol = \"9F\"\n",
+        "3 BadValue card[0].app[0].pdol",
+    ),
+    ("er = 2", "er = 1", "3 BadValue card[0].app[0].record[1]"),
+    (
+        "9\"\n\n[[",
+        "9\"\n\n[[card.app]]\nname = \"A0000000031010\"\nlabel = \"CREDIT\"\npriority = 1\naip = \"1C00\"\nafl = \"08010300\"\ncdol1 = \"9F02069F03069F1A0295055F2A029A039C019F3704\"\ncdol2 = \"8A029F02069F03069F1A0295055F2A029A039C019F3704\"\npan = \"4761739001010010\"\nsequence = 1\ncurrency = \"840\"\ncounter = 10\nlast_online = 9\ncount_limit = 5\nsum_limit = 20000\npin = \"1234\"\ntries = 3\n\n[[card.app.record]]\nsfi = 1\nnumber = 1\nbytes = \"702E5A0847617390010100105F3401015F24032612315F25032401015F280208409F420208409F0702FF009F08020096\"\n\n[[card.app.record]]\nsfi = 1\nnumber = 2\nbytes = \"70308C159F02069F03069F1A0295055F2A029A039C019F37048D178A029F02069F03069F1A0295055F2A029A039C019F3704\"\n\n[[card.app.record]]\nsfi = 1\nnumber = 3\nbytes = \"70308E0E000000000000000041035E031F009F0D057068BCF8009F0E0500100000009F0F057068BC98009F1401059F230109\"\n\n[[",
+        "3 BadValue card[0].app[1].name",
+    ),
+    ("e = \"c", "e = \"C", "3 BadValue card[0].name"),
+    (
+        "9\"\n\n[[",
+        "9\"\n\n[[card]]\nname = \"c1\"\n\n[[card.app]]\nname = \"A0000000031010\"\nlabel = \"CREDIT\"\npriority = 1\naip = \"1C00\"\nafl = \"08010300\"\ncdol1 = \"9F02069F03069F1A0295055F2A029A039C019F3704\"\ncdol2 = \"8A029F02069F03069F1A0295055F2A029A039C019F3704\"\npan = \"4761739001010010\"\nsequence = 1\ncurrency = \"840\"\ncounter = 10\nlast_online = 9\ncount_limit = 5\nsum_limit = 20000\npin = \"1234\"\ntries = 3\n\n[[card.app.record]]\nsfi = 1\nnumber = 1\nbytes = \"702E5A0847617390010100105F3401015F24032612315F25032401015F280208409F420208409F0702FF009F08020096\"\n\n[[card.app.record]]\nsfi = 1\nnumber = 2\nbytes = \"70308C159F02069F03069F1A0295055F2A029A039C019F37048D178A029F02069F03069F1A0295055F2A029A039C019F3704\"\n\n[[card.app.record]]\nsfi = 1\nnumber = 3\nbytes = \"70308E0E000000000000000041035E031F009F0D057068BCF8009F0E0500100000009F0F057068BC98009F1401059F230109\"\n\n[[",
+        "3 BadValue card[1].name",
+    ),
+    (
+        "080103",
+        "0000000000000000000000000000000000000000000000000000000000000000000000000000000000000000000000000000000000000000000000000000000000000000000000000000000000000000000000000000000000000000000000000000000000000000000000000000000000000000000000000000000000000000000000000000000000000000000000000000000000000000000000000000000000000000000000000000000000000000000000000000000000000000000000000000000000000000000000000000000000000000000000000000000000000000000000000000000000000000000000000000000000000000",
+        "4 OutOfLimit card[0].app[0].afl",
+    ),
+    ("CREDIT", "", "4 OutOfLimit card[0].app[0].label"),
+    (
+        "p]]\nname = \"A0000000031010",
+        "p]]\nname = \"A0000000",
+        "4 OutOfLimit card[0].app[0].name",
+    ),
+    (
+        "s = 3\n",
+        "s = 3\npdol = \"9F37FD\"\n",
+        "4 OutOfLimit card[0].app[0].pdol",
+    ),
+    (
+        "s = 3\n",
+        "s = 3\npdol = \"9F379F379F379F379F379F379F379F379F379F379F379F379F379F379F379F379F379F379F379F379F379F379F379F379F379F379F379F379F379F379F379F379F379F379F379F379F379F379F379F379F379F379F379F379F379F379F379F379F379F379F379F379F379F379F379F379F379F379F379F379F379F379F379F379F379F379F379F379F379F379F379F379F379F379F379F379F379F379F379F379F379F379F379F379F379F379F379F379F379F379F379F379F379F379F379F379F379F379F379F379F37\"\n",
+        "4 OutOfLimit card[0].app[0].pdol",
+    ),
+    ("ty = 1", "ty = 256", "4 OutOfLimit card[0].app[0].priority"),
+    (
+        "702E5A0847617390010100105F3401015F24032612315F25032401015F280208409F420208409F0702FF009F08020096",
+        "",
+        "4 OutOfLimit card[0].app[0].record[0].bytes",
+    ),
+    (
+        "3\n\n[[card.app.record]]\nsfi = ",
+        "3\n\n[[card.app.record]]\nsfi = 3",
+        "4 OutOfLimit card[0].app[0].record[0].sfi",
+    ),
+    (
+        "ence = 1",
+        "ence = 100",
+        "4 OutOfLimit card[0].app[0].sequence",
+    ),
+    (
+        "\n[[card.app]]\nname = \"A0000000031010\"\nlabel = \"CREDIT\"\npriority = 1\naip = \"1C00\"\nafl = \"08010300\"\ncdol1 = \"9F02069F03069F1A0295055F2A029A039C019F3704\"\ncdol2 = \"8A029F02069F03069F1A0295055F2A029A039C019F3704\"\npan = \"4761739001010010\"\nsequence = 1\ncurrency = \"840\"\ncounter = 10\nlast_online = 9\ncount_limit = 5\nsum_limit = 20000\npin = \"1234\"\ntries = 3\n\n[[card.app.record]]\nsfi = 1\nnumber = 1\nbytes = \"702E5A0847617390010100105F3401015F24032612315F25032401015F280208409F420208409F0702FF009F08020096\"\n\n[[card.app.record]]\nsfi = 1\nnumber = 2\nbytes = \"70308C159F02069F03069F1A0295055F2A029A039C019F37048D178A029F02069F03069F1A0295055F2A029A039C019F3704\"\n\n[[card.app.record]]\nsfi = 1\nnumber = 3\nbytes = \"70308E0E000000000000000041035E031F009F0D057068BCF8009F0E0500100000009F0F057068BC98009F1401059F230109\"",
+        "app = []",
+        "4 OutOfLimit card[0].app",
+    ),
+    ("e = \"c1", "e = \"", "4 OutOfLimit card[0].name"),
+    (
+        "\n[issuer]\nac_key = \"0123456789ABCDEFFEDCBA9876543210\"\nmac_key = \"23456789ABCDEF01DCBA9876543210FE\"\nenc_key = \"456789ABCDEF0123BA9876543210FEDC\"\npin_key = \"6789ABCDEF0123459876543210FEDCBA\"\n\n[[account]]\npan = \"4761739001010010\"\ncurrency = \"840\"\nbalance = 100000\npin = \"1234\"\n\n[[card]]\nname = \"c1\"\n\n[[card.app]]\nname = \"A0000000031010\"\nlabel = \"CREDIT\"\npriority = 1\naip = \"1C00\"\nafl = \"08010300\"\ncdol1 = \"9F02069F03069F1A0295055F2A029A039C019F3704\"\ncdol2 = \"8A029F02069F03069F1A0295055F2A029A039C019F3704\"\npan = \"4761739001010010\"\nsequence = 1\ncurrency = \"840\"\ncounter = 10\nlast_online = 9\ncount_limit = 5\nsum_limit = 20000\npin = \"1234\"\ntries = 3\n\n[[card.app.record]]\nsfi = 1\nnumber = 1\nbytes = \"702E5A0847617390010100105F3401015F24032612315F25032401015F280208409F420208409F0702FF009F08020096\"\n\n[[card.app.record]]\nsfi = 1\nnumber = 2\nbytes = \"70308C159F02069F03069F1A0295055F2A029A039C019F37048D178A029F02069F03069F1A0295055F2A029A039C019F3704\"\n\n[[card.app.record]]\nsfi = 1\nnumber = 3\nbytes = \"70308E0E000000000000000041035E031F009F0D057068BCF8009F0E0500100000009F0F057068BC98009F1401059F230109",
+        "card = []\n\n[issuer]\nac_key = \"0123456789ABCDEFFEDCBA9876543210\"\nmac_key = \"23456789ABCDEF01DCBA9876543210FE\"\nenc_key = \"456789ABCDEF0123BA9876543210FEDC\"\npin_key = \"6789ABCDEF0123459876543210FEDCBA\"\n\n[[account]]\npan = \"4761739001010010\"\ncurrency = \"840\"\nbalance = 100000\npin = \"1234",
+        "4 OutOfLimit card",
+    ),
+    (
+        "s = 3\n",
+        "s = 3\ncurrency_two = \"978\"\n",
+        "5 UnknownKey card[0].app[0].currency_two",
+    ),
+    (
+        "e = \"c1\"\n",
+        "e = \"c1\"\nversion = 1\n",
+        "5 UnknownKey card[0].version",
+    ),
+];
+
 /// The text with one text in place of another.
 fn replaced(alloc: Global, text: &str, old: &str, new: &str) -> Option<String> {
     let (front, rest) = text.split_once(old)?;
@@ -296,16 +405,8 @@ fn replaced(alloc: Global, text: &str, old: &str, new: &str) -> Option<String> {
     }
 }
 
-/// The scenario of a document, with a card `c1`.
 fn read(alloc: Global, text: &str) -> Result<Scenario, ScenarioFault> {
-    let mut cards = Vec::new(alloc);
-    let mut name = Vec::new(alloc);
-    name.extend_from_slice(b"c1")?;
-    cards.push(NamedImage { name })?;
-    match toml::table_from_str(alloc, text) {
-        Ok(document) => read_document(alloc, cards.as_slice(), &document),
-        Err(_) => Err(ScenarioFault::Toml),
-    }
+    read_scenario(alloc, text.as_bytes())
 }
 
 /// Whether a document with this change has this fault.
@@ -335,6 +436,13 @@ fn the_document_is_refused_at_its_first_fault(rt: HostRuntime) {
 #[test]
 fn accounts_are_refused_at_their_first_fault(rt: HostRuntime) {
     for (old, new, fault) in ACCOUNT_FAULTS {
+        assert!(rt; has_fault(rt.alloc(), old, new, fault), "{fault}");
+    }
+}
+
+#[test]
+fn cards_are_refused_at_their_first_fault(rt: HostRuntime) {
+    for (old, new, fault) in CARD_FAULTS {
         assert!(rt; has_fault(rt.alloc(), old, new, fault), "{fault}");
     }
 }
@@ -375,6 +483,40 @@ fn the_issuer_and_its_account_are_read(rt: HostRuntime) {
     assert!(rt; account.balance == 100_000 && account.currency == [0x08, 0x40]);
     assert!(rt; account.pan.len() == 16 && !account.blocked && account.pin.is_some());
     assert!(rt; account.scripts.is_empty());
+}
+
+#[test]
+fn the_card_is_read(rt: HostRuntime) {
+    let scenario = read(rt.alloc(), DOCUMENT).ok().expect(&rt, "a scenario");
+    let card = scenario.cards.first().expect(&rt, "a card");
+    assert!(rt; card.name.as_slice() == b"c1".as_slice());
+    let app = card.image.apps().first().expect(&rt, "an application");
+    assert!(rt; app.name.as_slice() == [0xA0, 0, 0, 0, 0x03, 0x10, 0x10].as_slice());
+    assert!(rt; app.label.as_slice() == b"CREDIT".as_slice() && app.priority == Some(1));
+    assert!(rt; app.pdol.is_none() && app.aip == [0x1C, 0]);
+    assert!(rt; app.afl.as_slice() == [8, 1, 3, 0].as_slice());
+    assert!(rt; app.gpo_format == 1 && app.ac_format == 1);
+    assert!(rt; app.cdol1.len() == 21 && app.cdol2.len() == 23 && app.records.len() == 3);
+    assert!(rt; app.pan.len() == 16 && app.sequence == 1 && app.currency == [0x08, 0x40]);
+    let key = [
+        0x2F, 0x02, 0xC8, 0xB0, 0xE9, 0xCB, 0xC7, 0xB0, 0x5B, 0x51, 0x67, 0xF7, 0xA1, 0xCD, 0xE6,
+        0xE5,
+    ];
+    assert!(rt; app.ac_key.bytes() == key);
+}
+
+#[test]
+fn the_card_opens_as_its_keys_say(rt: HostRuntime) {
+    let scenario = read(rt.alloc(), DOCUMENT).ok().expect(&rt, "a scenario");
+    let card = scenario.cards.first().expect(&rt, "a card");
+    let app = card.image.apps().first().expect(&rt, "an application");
+    let state = &app.opening;
+    assert!(rt; state.counter == 10 && state.last_online == 9);
+    assert!(rt; state.count == 0 && state.sum == 0);
+    assert!(rt; state.count_limit == 5 && state.sum_limit == 20_000);
+    assert!(rt; state.tries == 3 && app.tries == 3);
+    assert!(rt; !state.blocked && !state.auth_failed);
+    assert!(rt; state.pin == [0x24, 0x12, 0x34, 0xFF, 0xFF, 0xFF, 0xFF, 0xFF]);
 }
 
 #[test]
@@ -460,6 +602,5 @@ fn bytes_are_refused(rt: HostRuntime) {
     assert!(rt; first_fault(rt.alloc(), long.as_slice()) == Some(2));
     long.push(b' ').expect(&rt, "room");
     assert!(rt; first_fault(rt.alloc(), long.as_slice()) == Some(4));
-    // With the card's table not read yet, its name is unknown.
-    assert!(rt; first_fault(rt.alloc(), DOCUMENT.as_bytes()) == Some(6));
+    assert!(rt; first_fault(rt.alloc(), DOCUMENT.as_bytes()).is_none());
 }

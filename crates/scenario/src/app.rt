@@ -1,0 +1,525 @@
+//! The table of an application of a card.
+ghost use Rattle.std.specs.Prelude.{◌≡◌, ◌≤◌, ◌*◌, ◌+◌, ◌/◌, ◌%◌, ◌∷◌, [], length, codes, option_map, IfSome};
+ghost use Rattle.std.specs.List.{list_any};
+ghost use Rattle.std.specs.Str.{bytes_eq};
+ghost use Rattle.card_files.specs.Lists.{has_all};
+ghost use Rattle.card_files.specs.SeenApp.{seen_app, seen_apps};
+ghost use Rattle.toml.specs.View.{view, table_view};
+ghost use Rattle.scenario_fields.specs.Fault.{Gives};
+ghost use Rattle.scenario_fields.specs.Fields.{only, listed_or, number_or, optional_number};
+ghost use Rattle.scenario_fields.specs.Place.{path, spot_path};
+ghost use Rattle.scenario.specs.Cards as spec;
+ghost use Rattle.scenario.specs.Cards.{list_of, pdol_at as pdol_found, cdol1_at as cdol1_found, cdol2_at as cdol2_found, app_keys, app_of, app_item as item_of, files_of, sequence_at as sequence_found, holder_of, counters_of, access_of, app_with, opening_of, reference_pin, own_or};
+ghost use Rattle.scenario.specs.SeenCards.{seen_files, seen_holder, seen_counters, seen_access, wanted_by};
+
+use crate::purchase::MOST_AMOUNT;
+use crate::record::records_at;
+use card_files::lists::{MOST_CDOL, MOST_DATA, MOST_PDOL, has_cdol1_entries, has_cdol2_entries};
+use card_files::rules::MOST_AFL;
+use card_files::{AppImage, RecordImage};
+use card_keys::master_key;
+use card_state::AppState;
+use emv_dict::{Digits, Name};
+use issuer_host::HostKeys;
+use object_lists::{Dol, read_dol, total};
+use pin_block::plain_block;
+use scenario_fields::{Characters, Fields, Place, ScenarioFault, Spot};
+use std::alloc::Global;
+use toml::{Table, Value};
+use triple_des::Key16;
+
+/// What an object list must hold.
+#[derive(Clone, Copy)]
+enum Holding {
+    /// Anything.
+    Anything,
+    /// What the first GENERATE AC brings.
+    First,
+    /// What the second one brings.
+    Second,
+}
+
+/// Whether a list holds what it must.
+fn holds(holding: Holding, dol: &Dol) -> bool
+    ensures { result ≡ has_all (wanted_by holding) dol.now }
+{
+    match holding {
+        Holding::Anything => true,
+        Holding::First => has_cdol1_entries(dol),
+        Holding::Second => has_cdol2_entries(dol),
+    }
+}
+
+/// Tries an object list: it can be read, it wants at most 252 bytes of data, and it holds what it must.
+#[tactic(auto, unfolding(crate::specs::Cards::list_of))]
+fn try_list(spot: &Spot, holding: Holding, bytes: &[u8]) -> Result<(), ScenarioFault>
+    requires { length bytes.now ≤ 255 }
+    ensures { Gives (λ _. bytes.now) result (list_of (spot_path spot.now.place spot.now.key.now spot.now.index) (wanted_by holding) bytes.now) }
+{
+    let Ok(dol) = read_dol(bytes) else {
+        return Err(spot.bad());
+    };
+    if total(&dol) > MOST_DATA {
+        return Err(spot.far());
+    }
+    if !holds(holding, &dol) {
+        return Err(spot.bad());
+    }
+    Ok(())
+}
+
+/// The processing options object list, where there is one.
+#[tactic(auto, unfolding(crate::specs::Cards::pdol_at))]
+fn pdol_at(
+    alloc: Global,
+    card: usize,
+    index: usize,
+    table: &Table,
+) -> Result<Option<Vec<u8>>, ScenarioFault>
+    ensures { Gives (λ o. option_map (λ v. v.items) o) result (pdol_found card index (table_view table.now)) }
+{
+    let fields = Fields {
+        alloc,
+        place: Place::App(card, index),
+        table,
+    };
+    match fields.optional_bytes("pdol", 0, MOST_PDOL)? {
+        Some(bytes) => {
+            try_list(&fields.spot("pdol"), Holding::Anything, bytes.as_slice())?;
+            Ok(Some(bytes))
+        }
+        None => Ok(None),
+    }
+}
+
+/// The object list of the first GENERATE AC.
+#[tactic(auto, unfolding(crate::specs::Cards::cdol1_at))]
+fn cdol1_at(
+    alloc: Global,
+    card: usize,
+    index: usize,
+    table: &Table,
+) -> Result<Vec<u8>, ScenarioFault>
+    ensures { Gives (λ v. v.items) result (cdol1_found card index (table_view table.now)) }
+{
+    let fields = Fields {
+        alloc,
+        place: Place::App(card, index),
+        table,
+    };
+    let bytes = fields.bytes("cdol1", 0, MOST_CDOL)?;
+    try_list(&fields.spot("cdol1"), Holding::First, bytes.as_slice())?;
+    Ok(bytes)
+}
+
+/// The object list of the second GENERATE AC.
+#[tactic(auto, unfolding(crate::specs::Cards::cdol2_at))]
+fn cdol2_at(
+    alloc: Global,
+    card: usize,
+    index: usize,
+    table: &Table,
+) -> Result<Vec<u8>, ScenarioFault>
+    ensures { Gives (λ v. v.items) result (cdol2_found card index (table_view table.now)) }
+{
+    let fields = Fields {
+        alloc,
+        place: Place::App(card, index),
+        table,
+    };
+    let bytes = fields.bytes("cdol2", 0, MOST_CDOL)?;
+    try_list(&fields.spot("cdol2"), Holding::Second, bytes.as_slice())?;
+    Ok(bytes)
+}
+
+fn any_has(name: &[u8], apps: &[AppImage]) -> bool
+    ensures { result ≡ list_any (λ a. bytes_eq a.name name.now) apps.now }
+{
+    apps.iter().any(|app| app.name.as_slice() == name)
+}
+
+/// Whether an application has this name.
+fn has_name(name: &[u8], apps: &[AppImage]) -> bool
+    ensures { result ≡ spec.has_name name.now (seen_apps apps.now) }
+{
+    any_has(name, apps)
+}
+
+/// A name that no earlier application has.
+#[tactic(auto, unfolding(crate::specs::Cards::new_name))]
+fn new_name(
+    alloc: Global,
+    card: usize,
+    index: usize,
+    earlier: &[AppImage],
+    table: &Table,
+) -> Result<Name, ScenarioFault>
+    ensures { Gives (λ name. name) result (spec.new_name card index (seen_apps earlier.now) (table_view table.now)) }
+{
+    let fields = Fields {
+        alloc,
+        place: Place::App(card, index),
+        table,
+    };
+    let name = Name(fields.few_bytes("name", 5)?);
+    if has_name(name.as_slice(), earlier) {
+        return Err(fields.spot("name").bad());
+    }
+    Ok(name)
+}
+
+/// Format 1 or 2 of an answer; 1 where the key is absent.
+#[tactic(auto, unfolding(scenario_fields::specs::Value::is_listed))]
+fn format_at(fields: &Fields, key: &str) -> Result<u8, ScenarioFault>
+    ensures { Gives (λ n. n) result (listed_or 1 (path fields.now.place) key.now (1 ∷ 2 ∷ []) (table_view fields.now.table.now)) }
+{
+    Ok(fields.listed_or(1, key, &[1, 2])? as u8)
+}
+
+/// What stands in an application's files.
+#[derive(Drop)]
+pub struct Files {
+    name: Name,
+    label: Vec<u8>,
+    priority: Option<u8>,
+    pdol: Option<Vec<u8>>,
+    aip: [u8; 2],
+    afl: Vec<u8>,
+    gpo_format: u8,
+    ac_format: u8,
+    cdol1: Vec<u8>,
+    cdol2: Vec<u8>,
+    records: Vec<RecordImage>,
+}
+
+/// The application priority indicator, where there is one.
+fn priority_at(fields: &Fields) -> Result<Option<u8>, ScenarioFault>
+    ensures { Gives (λ o. o) result (optional_number (path fields.now.place) (codes "priority") 0 255 (table_view fields.now.table.now)) }
+{
+    match fields.optional_number("priority", 0, 255)? {
+        Some(number) => Ok(Some(number as u8)),
+        None => Ok(None),
+    }
+}
+
+/// The keys up to the records.
+#[tactic(auto, unfolding(crate::specs::Cards::files_of, crate::specs::SeenCards::seen_files))]
+fn read_files(
+    alloc: Global,
+    card: usize,
+    index: usize,
+    earlier: &[AppImage],
+    table: &Table,
+) -> Result<Files, ScenarioFault>
+    ensures { Gives seen_files result (files_of card index (seen_apps earlier.now) (table_view table.now)) }
+{
+    let fields = Fields {
+        alloc,
+        place: Place::App(card, index),
+        table,
+    };
+    let name = new_name(alloc, card, index, earlier, table)?;
+    let label = fields.owned_text("label", Characters::Printable, 1, 16)?;
+    let priority = priority_at(&fields)?;
+    let pdol = pdol_at(alloc, card, index, table)?;
+    let aip = fields.byte_array("aip")?;
+    let afl = fields.bytes("afl", 0, MOST_AFL)?;
+    let gpo_format = format_at(&fields, "gpo_format")?;
+    let ac_format = format_at(&fields, "ac_format")?;
+    let cdol1 = cdol1_at(alloc, card, index, table)?;
+    let cdol2 = cdol2_at(alloc, card, index, table)?;
+    let records = records_at(alloc, card, index, table)?;
+    Ok(Files {
+        name,
+        label,
+        priority,
+        pdol,
+        aip,
+        afl,
+        gpo_format,
+        ac_format,
+        cdol1,
+        cdol2,
+        records,
+    })
+}
+
+/// An application's account.
+#[derive(Drop)]
+pub struct Holder {
+    pan: Digits,
+    sequence: u8,
+    currency: [u8; 2],
+}
+
+/// The counters with which it opens, and its limits.
+#[derive(Clone, Copy)]
+pub struct Counters {
+    counter: u16,
+    last_online: u16,
+    count_limit: u8,
+    sum_limit: u64,
+}
+
+/// Its PIN as a plain block or zeros, its tries, and its own key, where it has one.
+#[derive(Clone, Copy)]
+pub struct Access {
+    pin: [u8; 8],
+    tries: u8,
+    blocked: bool,
+    ac_key: Option<[u8; 16]>,
+}
+
+/// The plain block of a PIN, or zeros for none.
+fn reference_pin(pin: &Option<Digits>) -> [u8; 8]
+    requires { IfSome pin.now (λ ds. (4 ≤ length ds) × (length ds ≤ 12)) }
+    ensures { result ≡ reference_pin pin.now }
+{
+    match pin {
+        Some(pin) => plain_block(pin),
+        None => [0; 8],
+    }
+}
+
+/// The sequence number as the byte of its two digits; 00 where the key is absent.
+#[tactic(auto, unfolding(crate::specs::Cards::sequence_at))]
+fn sequence_at(fields: &Fields) -> Result<u8, ScenarioFault>
+    ensures { Gives (λ byte. byte) result (sequence_found (path fields.now.place) (table_view fields.now.table.now)) }
+{
+    let number = fields.number_or(0, "sequence", 0, 99)?;
+    Ok((number / 10 * 16 + number % 10) as u8)
+}
+
+/// The keys from the PAN to the currency.
+#[tactic(auto, unfolding(crate::specs::Cards::holder_of, crate::specs::SeenCards::seen_holder))]
+fn read_holder(
+    alloc: Global,
+    card: usize,
+    index: usize,
+    table: &Table,
+) -> Result<Holder, ScenarioFault>
+    ensures { Gives seen_holder result (holder_of card index (table_view table.now)) }
+{
+    let fields = Fields {
+        alloc,
+        place: Place::App(card, index),
+        table,
+    };
+    let pan = fields.digits("pan", 13, 16)?;
+    let sequence = sequence_at(&fields)?;
+    let currency = fields.code("currency")?;
+    Ok(Holder {
+        pan,
+        sequence,
+        currency,
+    })
+}
+
+/// A transaction counter; 0 where the key is absent.
+fn counter_at(fields: &Fields, key: &str) -> Result<u16, ScenarioFault>
+    ensures { Gives (λ n. n) result (number_or 0 (path fields.now.place) key.now 0 65535 (table_view fields.now.table.now)) }
+{
+    Ok(fields.number_or(0, key, 0, 65_535)? as u16)
+}
+
+/// The counters and limits.
+#[tactic(auto, unfolding(crate::specs::Cards::counters_of, crate::specs::SeenCards::seen_counters))]
+fn read_counters(
+    alloc: Global,
+    card: usize,
+    index: usize,
+    table: &Table,
+) -> Result<Counters, ScenarioFault>
+    ensures { Gives seen_counters result (counters_of card index (table_view table.now)) }
+{
+    let fields = Fields {
+        alloc,
+        place: Place::App(card, index),
+        table,
+    };
+    let counter = counter_at(&fields, "counter")?;
+    let last_online = counter_at(&fields, "last_online")?;
+    let count_limit = fields.number("count_limit", 0, 255)? as u8;
+    let sum_limit = fields.number("sum_limit", 0, MOST_AMOUNT)?;
+    Ok(Counters {
+        counter,
+        last_online,
+        count_limit,
+        sum_limit,
+    })
+}
+
+/// The keys from the PIN on.
+#[tactic(auto, unfolding(crate::specs::Cards::access_of, crate::specs::SeenCards::seen_access))]
+fn read_access(
+    alloc: Global,
+    card: usize,
+    index: usize,
+    table: &Table,
+) -> Result<Access, ScenarioFault>
+    ensures { Gives seen_access result (access_of card index (table_view table.now)) }
+{
+    let fields = Fields {
+        alloc,
+        place: Place::App(card, index),
+        table,
+    };
+    let pin = fields.optional_digits("pin", 4, 12)?;
+    let tries = fields.number_or(3, "tries", 0, 15)? as u8;
+    let blocked = fields.flag_or(false, "blocked")?;
+    let ac_key = fields.optional_byte_array("ac_key")?;
+    Ok(Access {
+        pin: reference_pin(&pin),
+        tries,
+        blocked,
+        ac_key,
+    })
+}
+
+#[tactic(auto, unfolding(crate::specs::Cards::app_keys))]
+fn only_app_keys(fields: &Fields) -> Result<(), ScenarioFault>
+    ensures { Gives (λ u. u) result (only (path fields.now.place) app_keys (table_view fields.now.table.now)) }
+{
+    fields.only(&[
+        "name",
+        "label",
+        "priority",
+        "pdol",
+        "aip",
+        "afl",
+        "gpo_format",
+        "ac_format",
+        "cdol1",
+        "cdol2",
+        "record",
+        "pan",
+        "sequence",
+        "currency",
+        "counter",
+        "last_online",
+        "count_limit",
+        "sum_limit",
+        "pin",
+        "tries",
+        "blocked",
+        "ac_key",
+    ])
+}
+
+/// The application's own key, or the one derived from the issuer's.
+fn own_or(derived: Key16, own: Option<[u8; 16]>) -> Key16
+    ensures { result ≡ own_or derived own }
+{
+    match own {
+        Some(bytes) => Key16::new(bytes),
+        None => derived,
+    }
+}
+
+/// The application of its parts; its other keys are derived from the issuer's.
+#[tactic(auto, unfolding(crate::specs::Cards::app_with, crate::specs::SeenCards::seen_files, crate::specs::SeenCards::seen_holder, crate::specs::SeenCards::seen_counters, crate::specs::SeenCards::seen_access, card_files::specs::SeenApp::seen_app))]
+fn app_with(
+    keys: &HostKeys,
+    files: Files,
+    holder: Holder,
+    counters: Counters,
+    access: Access,
+) -> AppImage
+    ensures { seen_app result ≡ app_with keys.now (seen_files files) (seen_holder holder) (seen_counters counters) (seen_access access) }
+{
+    let derived = master_key(&keys.ac, &holder.pan, holder.sequence);
+    let mac_key = master_key(&keys.mac, &holder.pan, holder.sequence);
+    let enc_key = master_key(&keys.enc, &holder.pan, holder.sequence);
+    let ac_key = own_or(derived, access.ac_key);
+    let opening = opening_of(&counters, &access);
+    let aip = files.aip;
+    let currency = holder.currency;
+    AppImage {
+        name: files.name,
+        label: files.label,
+        priority: files.priority,
+        pdol: files.pdol,
+        aip,
+        afl: files.afl,
+        gpo_format: files.gpo_format,
+        ac_format: files.ac_format,
+        cdol1: files.cdol1,
+        cdol2: files.cdol2,
+        records: files.records,
+        pan: holder.pan,
+        sequence: holder.sequence,
+        currency,
+        opening,
+        tries: access.tries,
+        ac_key,
+        mac_key,
+        enc_key,
+    }
+}
+
+/// The state in which an application opens: nothing is counted yet.
+#[tactic(auto, unfolding(crate::specs::Cards::opening_of, crate::specs::SeenCards::seen_counters, crate::specs::SeenCards::seen_access))]
+fn opening_of(counters: &Counters, access: &Access) -> AppState
+    ensures { result ≡ opening_of (seen_counters counters.now) (seen_access access.now) }
+{
+    let pin = access.pin;
+    AppState {
+        counter: counters.counter,
+        last_online: counters.last_online,
+        count: 0,
+        sum: 0,
+        count_limit: counters.count_limit,
+        sum_limit: counters.sum_limit,
+        tries: access.tries,
+        blocked: access.blocked,
+        auth_failed: false,
+        pin,
+    }
+}
+
+/// An application behind earlier ones of its card.
+#[tactic(auto, unfolding(crate::specs::Cards::app_of))]
+fn read_app(
+    alloc: Global,
+    card: usize,
+    index: usize,
+    keys: &HostKeys,
+    earlier: &[AppImage],
+    table: &Table,
+) -> Result<AppImage, ScenarioFault>
+    ensures { Gives seen_app result (app_of card index keys.now (seen_apps earlier.now) (table_view table.now)) }
+{
+    let fields = Fields {
+        alloc,
+        place: Place::App(card, index),
+        table,
+    };
+    let files = read_files(alloc, card, index, earlier, table)?;
+    let holder = read_holder(alloc, card, index, table)?;
+    let counters = read_counters(alloc, card, index, table)?;
+    let access = read_access(alloc, card, index, table)?;
+    only_app_keys(&fields)?;
+    Ok(app_with(keys, files, holder, counters, access))
+}
+
+/// An application among those of a card.
+#[tactic(auto, unfolding(crate::specs::Cards::app_item))]
+pub fn app_item(
+    alloc: Global,
+    card: usize,
+    index: usize,
+    keys: &HostKeys,
+    earlier: &[AppImage],
+    value: &Value,
+) -> Result<AppImage, ScenarioFault>
+    ensures { Gives seen_app result (item_of card index keys.now (seen_apps earlier.now) (view value.now)) }
+{
+    let spot = Spot {
+        alloc,
+        place: Place::Card(card),
+        key: "app",
+        index: Some(index),
+    };
+    let table = spot.table(value)?;
+    read_app(alloc, card, index, keys, earlier, table)
+}

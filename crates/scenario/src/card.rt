@@ -1,0 +1,180 @@
+//! The table of a card.
+ghost use Rattle.std.specs.Prelude.{◌≡◌, ◌≤◌, [], length, map, IfOk, vec_len};
+ghost use Rattle.std.specs.List.{list_any};
+ghost use Rattle.std.specs.Str.{bytes_eq};
+ghost use Rattle.card_files.specs.SeenApp.{seen_apps};
+ghost use Rattle.toml.specs.View.{view, table_view, items_view};
+ghost use Rattle.scenario_fields.specs.Fault.{Gives};
+ghost use Rattle.scenario_fields.specs.Fields.{only};
+ghost use Rattle.scenario_fields.specs.Place.{path};
+ghost use Rattle.scenario.specs.Cards as spec;
+ghost use Rattle.scenario.specs.Cards.{card_keys, card_of, card_item as item_of, cards_from, apps_from, apps_at as apps_found, cards_at as cards_found};
+ghost use Rattle.scenario.specs.Seen.{seen_card, seen_cards};
+
+use crate::app::app_item;
+use crate::plan::NamedImage;
+use card_files::{AppImage, Image};
+use issuer_host::HostKeys;
+use scenario_fields::{Characters, Fields, Place, ScenarioFault, Spot};
+use std::alloc::Global;
+use toml::{Table, Value};
+
+fn any_named(name: &[u8], cards: &[NamedImage]) -> bool
+    ensures { result ≡ list_any (λ c. bytes_eq c.name.items name.now) cards.now }
+{
+    cards.iter().any(|card| card.name.as_slice() == name)
+}
+
+/// Whether a card has this name.
+fn is_named(name: &[u8], cards: &[NamedImage]) -> bool
+    ensures { result ≡ spec.is_named name.now (seen_cards cards.now) }
+{
+    any_named(name, cards)
+}
+
+/// A name that no earlier card has.
+#[tactic(auto, unfolding(crate::specs::Cards::new_card_name))]
+fn new_card_name(
+    alloc: Global,
+    index: usize,
+    earlier: &[NamedImage],
+    table: &Table,
+) -> Result<Vec<u8>, ScenarioFault>
+    ensures { Gives (λ name. name.items) result (spec.new_card_name index (seen_cards earlier.now) (table_view table.now)) }
+{
+    let fields = Fields {
+        alloc,
+        place: Place::Card(index),
+        table,
+    };
+    let name = fields.owned_text("name", Characters::LowercaseOrDigit, 1, 16)?;
+    if is_named(name.as_slice(), earlier) {
+        return Err(fields.spot("name").bad());
+    }
+    Ok(name)
+}
+
+/// Each application of a card.
+fn read_apps(
+    alloc: Global,
+    card: usize,
+    keys: &HostKeys,
+    values: &[Value],
+) -> Result<Vec<AppImage>, ScenarioFault>
+    ensures { Gives (λ apps. seen_apps apps.items) result (apps_from card 0 keys.now [] (items_view values.now)) }
+{
+    let mut apps: Vec<AppImage> = Vec::new(alloc);
+    for value in values {
+        let app = app_item(alloc, card, apps.len(), keys, apps.as_slice(), value)?;
+        apps.push(app)?;
+    }
+    Ok(apps)
+}
+
+/// The applications of a card.
+#[tactic(auto, unfolding(crate::specs::Cards::apps_at))]
+fn apps_at(
+    alloc: Global,
+    card: usize,
+    keys: &HostKeys,
+    table: &Table,
+) -> Result<Vec<AppImage>, ScenarioFault>
+    ensures { Gives (λ apps. seen_apps apps.items) result (apps_found card keys.now (table_view table.now)) }
+{
+    let fields = Fields {
+        alloc,
+        place: Place::Card(card),
+        table,
+    };
+    read_apps(alloc, card, keys, fields.array("app", 1, 4)?)
+}
+
+#[tactic(auto, unfolding(crate::specs::Cards::card_keys))]
+fn only_card_keys(fields: &Fields) -> Result<(), ScenarioFault>
+    ensures { Gives (λ u. u) result (only (path fields.now.place) card_keys (table_view fields.now.table.now)) }
+{
+    fields.only(&["name", "app"])
+}
+
+/// A card behind earlier ones.
+#[tactic(auto, unfolding(crate::specs::Cards::card_of, crate::specs::Seen::seen_card))]
+fn read_card(
+    alloc: Global,
+    index: usize,
+    keys: &HostKeys,
+    earlier: &[NamedImage],
+    table: &Table,
+) -> Result<NamedImage, ScenarioFault>
+    ensures { Gives seen_card result (card_of index keys.now (seen_cards earlier.now) (table_view table.now)) }
+{
+    let fields = Fields {
+        alloc,
+        place: Place::Card(index),
+        table,
+    };
+    let name = new_card_name(alloc, index, earlier, table)?;
+    let apps = apps_at(alloc, index, keys, table)?;
+    only_card_keys(&fields)?;
+    match Image::new(apps) {
+        Ok(image) => Ok(NamedImage { name, image }),
+        Err(_) => Err(fields.spot("app").bad()),
+    }
+}
+
+/// A card among those of the document.
+#[tactic(auto, unfolding(crate::specs::Cards::card_item))]
+fn card_item(
+    alloc: Global,
+    index: usize,
+    keys: &HostKeys,
+    earlier: &[NamedImage],
+    value: &Value,
+) -> Result<NamedImage, ScenarioFault>
+    ensures { Gives seen_card result (item_of index keys.now (seen_cards earlier.now) (view value.now)) }
+{
+    let spot = Spot {
+        alloc,
+        place: Place::Top,
+        key: "card",
+        index: Some(index),
+    };
+    let table = spot.table(value)?;
+    read_card(alloc, index, keys, earlier, table)
+}
+
+/// Each card of the document.
+fn read_cards(
+    alloc: Global,
+    keys: &HostKeys,
+    values: &[Value],
+) -> Result<Vec<NamedImage>, ScenarioFault>
+    ensures exact { Gives (λ cards. seen_cards cards.items) result (cards_from 0 keys.now [] (items_view values.now)) }
+    ensures count { IfOk result (λ cards. vec_len cards ≡ length values.now) }
+{
+    let mut cards: Vec<NamedImage> = Vec::new(alloc);
+    for value in values {
+        let card = card_item(alloc, cards.len(), keys, cards.as_slice(), value)?;
+        cards.push(card)?;
+    }
+    Ok(cards)
+}
+
+/// The cards at their key in the document; `keys` are the issuer's, from which those of applications
+/// are derived.
+#[tactic(auto, unfolding(crate::specs::Cards::cards_at))]
+pub fn cards_at(
+    alloc: Global,
+    keys: &HostKeys,
+    document: &Table,
+) -> Result<Vec<NamedImage>, ScenarioFault>
+    ensures exact { Gives (λ cards. seen_cards cards.items) result (cards_found keys.now (table_view document.now)) }
+    ensures some { IfOk result (λ cards. 1 ≤ vec_len cards) }
+    ensures few { IfOk result (λ cards. vec_len cards ≤ 64) }
+{
+    let fields = Fields {
+        alloc,
+        place: Place::Top,
+        table: document,
+    };
+    read_cards(alloc, keys, fields.array("card", 1, 64)?)
+}
