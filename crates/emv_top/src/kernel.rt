@@ -21,6 +21,9 @@ use env_map::Env;
 use object_lists::{Dol, fill, read_dol};
 use report_text::EndParts;
 
+// Large values move through the functions marked `inline(never)`: inlined into each other they would
+// keep LLVM busy for many minutes.
+
 /// A terminal that reads an application, and pays where an amount is given.
 #[derive(Drop)]
 pub enum Kernel<'a> {
@@ -78,6 +81,7 @@ impl<'a> Kernel<'a> {
 
     /// Takes the card's answer to it.
     #[tactic(auto, unfolding(crate::specs::Dialogue::first_step))]
+    #[inline(never)]
     pub fn take(self, reply: &[u8]) -> Kernel<'a>
         requires { is_asking self ≡ true }
         ensures told { (later : List (List ℕ)) → dealing_of result later ≡ dealing_of self.entry (reply.now ∷ later) }
@@ -105,6 +109,7 @@ fn copy_command(command: &Out, out: &mut Out)
 }
 
 /// What follows selection, initiation and reading.
+#[inline(never)]
 fn opened<'a>(aid: &'a ArrayVec<u8, 16>, amount: Option<u64>, next: OpeningNext<'a>) -> Kernel<'a>
     ensures told { (later : List (List ℕ)) → dealing_of result later ≡ continued aid.now.items amount (told_next next.entry later) }
     ensures left { rank_of result ≤ rank_next next.entry + 2 }
@@ -120,6 +125,7 @@ fn opened<'a>(aid: &'a ArrayVec<u8, 16>, amount: Option<u64>, next: OpeningNext<
     }
 }
 
+#[inline(never)]
 fn has_read<'a>(aid: &'a ArrayVec<u8, 16>, amount: Option<u64>, env: Env) -> Kernel<'a>
     ensures told { (later : List (List ℕ)) → dealing_of result later ≡ continued aid.now.items amount (Told.HasRead env later) }
     ensures left { rank_of result ≤ 1 }
@@ -131,6 +137,7 @@ fn has_read<'a>(aid: &'a ArrayVec<u8, 16>, amount: Option<u64>, env: Env) -> Ker
 }
 
 #[tactic(auto, unfolding(crate::specs::Marks::parts_of))]
+#[inline(never)]
 fn not_read<'a>(amount: Option<u64>, ending: Ending) -> Kernel<'a>
     ensures told { (aid : List ℕ) (later : List (List ℕ)) → dealing_of result later ≡ continued aid amount (Told.Ended ending) }
     ensures left { rank_of result ≡ 0 }
@@ -146,6 +153,7 @@ fn not_read<'a>(amount: Option<u64>, ending: Ending) -> Kernel<'a>
 
 /// The terminal decides, and asks for the first cryptogram (EMV 4.3 Book 3 sections 10.7 and 10.8).
 #[tactic(auto, unfolding(crate::specs::Dialogue::paying, crate::specs::Dialogue::first_with, crate::specs::Marks::tvr_bytes))]
+#[inline(never)]
 fn begin_first<'a>(aid: &[u8], amount: u64, card: &Env) -> Kernel<'a>
     requires { length aid.now ≤ 16 }
     ensures told { (later : List (List ℕ)) → dealing_of result later ≡ paying aid.now amount card.now later }
@@ -210,6 +218,7 @@ fn generate_command(kind: Kind, filled: &[u8]) -> Out
 }
 
 /// After the answer to the first GENERATE AC.
+#[inline(never)]
 fn answered<'a>(kind: Kind, reply: &[u8]) -> Kernel<'a>
     ensures told { (later : List (List ℕ)) → dealing_of result later ≡ after_answer (asked_marks kind) (ac_read kind reply.now) }
     ensures over { rank_of result ≡ 0 }
@@ -222,6 +231,7 @@ fn answered<'a>(kind: Kind, reply: &[u8]) -> Kernel<'a>
 
 /// The end of a purchase whose first cryptogram was asked for and not read.
 #[tactic(auto, unfolding(crate::specs::Marks::parts_of))]
+#[inline(never)]
 fn asked_parts(kind: Kind, ending: Ending) -> EndParts
     ensures { result ≡ parts_of (asked_marks kind) ending }
 {
@@ -238,6 +248,7 @@ fn asked_parts(kind: Kind, ending: Ending) -> EndParts
 
 /// The end of a purchase whose first cryptogram decided.
 #[tactic(auto, unfolding(crate::specs::Marks::parts_of))]
+#[inline(never)]
 fn answered_parts(kind: Kind, ac: &Ac) -> EndParts
     ensures { result ≡ parts_of (IsAnswered (seen_ac ac.now) ∷ asked_marks kind) (ending_of ac.now.kind) }
 {

@@ -15,6 +15,9 @@ use arrayvec::ArrayVec;
 use emv_dict::{Cause, Ending, Step};
 use env_map::Env;
 
+// Large values move through the functions marked `inline(never)`: inlined into each other they would
+// keep LLVM busy for many minutes.
+
 /// A terminal that looks for one application and reads it.
 #[derive(Drop)]
 pub enum Opening<'a> {
@@ -62,6 +65,7 @@ impl<'a> Opening<'a> {
 
     /// Takes the card's answer to it.
     #[tactic(auto, unfolding(crate::specs::Initiate::initiating))]
+    #[inline(never)]
     pub fn take(self, reply: &[u8]) -> OpeningNext<'a>
         ensures told { (later : List (List ℕ)) → told_next result later ≡ start_of self.entry (reply.now ∷ later) }
         ensures nearer { rank_next result < rank self.entry }
@@ -106,6 +110,7 @@ fn ask_options(out: &mut Out)
     write_command(&command, out);
 }
 
+#[inline(never)]
 fn terminated<'a>(step: Step, cause: Cause) -> OpeningNext<'a>
     ensures told { (replies : List (List ℕ)) → told_next result replies ≡ terminated step cause }
     ensures over { rank_next result ≡ 0 }
@@ -115,6 +120,7 @@ fn terminated<'a>(step: Step, cause: Cause) -> OpeningNext<'a>
 
 /// After an answer to a SELECT of the list.
 #[tactic(auto, unfolding(crate::specs::Select::listing))]
+#[inline(never)]
 fn listed<'a>(aid: &'a ArrayVec<u8, 16>, turn: u8, reply: &[u8]) -> OpeningNext<'a>
     ensures told { (later : List (List ℕ)) → told_next result later ≡ listing aid.now.items turn (reply.now ∷ later) }
     ensures nearer { rank_next result < 16131 + (16 - turn) }
@@ -128,6 +134,7 @@ fn listed<'a>(aid: &'a ArrayVec<u8, 16>, turn: u8, reply: &[u8]) -> OpeningNext<
 }
 
 /// After a readable FCI in the list.
+#[inline(never)]
 fn found<'a>(aid: &'a ArrayVec<u8, 16>, turn: u8, valid: bool, name: &[u8]) -> OpeningNext<'a>
     ensures told { (later : List (List ℕ)) → told_next result later
         ≡ after_listed aid.now.items turn (Named valid name.now) (listing aid.now.items (turn + 1) later) (choosing aid.now.items later) }
@@ -150,6 +157,7 @@ fn found<'a>(aid: &'a ArrayVec<u8, 16>, turn: u8, valid: bool, name: &[u8]) -> O
 
 /// After the answer to the final SELECT.
 #[tactic(auto, unfolding(crate::specs::Select::choosing))]
+#[inline(never)]
 fn chosen<'a>(aid: &'a ArrayVec<u8, 16>, reply: &[u8]) -> OpeningNext<'a>
     ensures told { (later : List (List ℕ)) → told_next result later ≡ choosing aid.now.items (reply.now ∷ later) }
     ensures nearer { rank_next result < 16130 }
@@ -163,6 +171,7 @@ fn chosen<'a>(aid: &'a ArrayVec<u8, 16>, reply: &[u8]) -> OpeningNext<'a>
 
 /// After the answer to GET PROCESSING OPTIONS.
 #[tactic(auto, unfolding(crate::specs::Initiate::initiating))]
+#[inline(never)]
 fn initiated<'a>(reply: &[u8]) -> OpeningNext<'a>
     ensures told { (later : List (List ℕ)) → told_next result later ≡ initiating (reply.now ∷ later) }
     ensures nearer { rank_next result < 16129 }
@@ -177,6 +186,7 @@ fn initiated<'a>(reply: &[u8]) -> OpeningNext<'a>
     }
 }
 
+#[inline(never)]
 fn begin_reading<'a>(body: &[u8]) -> OpeningNext<'a>
     requires { length body.now ≤ 256 }
     ensures told { (later : List (List ℕ)) → told_next result later ≡ after_options (options_in body.now) later }
@@ -192,6 +202,7 @@ fn begin_reading<'a>(body: &[u8]) -> OpeningNext<'a>
 }
 
 /// What reading does next.
+#[inline(never)]
 fn read_next<'a>(next: ReadNext) -> OpeningNext<'a>
     ensures told { (replies : List (List ℕ)) → told_next result replies ≡ told_by next replies }
     ensures left { rank_next result ≡ steps_in next }

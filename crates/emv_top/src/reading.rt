@@ -13,6 +13,9 @@ use apdu_core::{Command, Out, write_command};
 use emv_dict::Cause;
 use env_map::Env;
 
+// Large values move through the functions marked `inline(never)`: inlined into each other they would
+// keep LLVM busy for many minutes.
+
 /// Reading in its course: the objects so far, the group whose first record is the next to read, and
 /// the groups behind it.
 #[derive(Drop)]
@@ -51,6 +54,7 @@ impl Reading {
 
     /// Takes the answer.
     #[tactic(auto, unfolding(crate::specs::Reading::reading))]
+    #[inline(never)]
     pub fn take(self, reply: &[u8]) -> ReadNext
         ensures told { (later : List (List ℕ)) → told_by result later ≡ reading self.env (left_of self) (reply.now ∷ later) }
         ensures nearer { steps_in result < steps_of self }
@@ -68,6 +72,7 @@ impl Reading {
 }
 
 /// Goes on behind the record that was read.
+#[inline(never)]
 fn go_on(env: Env, current: Group, later: Groups) -> ReadNext
     ensures told { (replies : List (List ℕ)) → told_by result replies ≡ reading env (left_behind (seen_group current) (seen_groups later.items)) replies }
     ensures left { steps_in result ≤ steps_behind (seen_group current) later.items }
@@ -88,6 +93,7 @@ fn go_on(env: Env, current: Group, later: Groups) -> ReadNext
 }
 
 /// Begins with the first of these groups.
+#[inline(never)]
 pub fn begin(env: Env, groups: Groups) -> ReadNext
     ensures told { (replies : List (List ℕ)) → told_by result replies ≡ reading env (places_of (seen_groups groups.items)) replies }
     ensures left { steps_in result ≤ 256 * length groups.items }
@@ -106,6 +112,7 @@ pub fn begin(env: Env, groups: Groups) -> ReadNext
 
 /// Ends reading: the mandatory objects must be there, and the checked ones have their forms.
 #[tactic(auto, unfolding(crate::specs::Reading::finished, crate::specs::Reading::reading))]
+#[inline(never)]
 fn finish(env: Env) -> ReadNext
     ensures told { (replies : List (List ℕ)) → told_by result replies ≡ reading env [] replies }
     ensures left { steps_in result ≡ 0 }

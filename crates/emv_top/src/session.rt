@@ -20,7 +20,11 @@ use apdu_core::{Answer, Out};
 use emv_ports::{Failed, Sink};
 use report_text::Line;
 
+// Large values move through the functions marked `inline(never)`: inlined into each other they would
+// keep LLVM busy for many minutes.
+
 /// One exchange: the terminal's next command, the card's answer, and their lines.
+#[inline(never)]
 fn exchange<'a, K: Sink>(
     kernel: Kernel<'a>,
     card: &mut Card<'a>,
@@ -48,6 +52,7 @@ fn exchange<'a, K: Sink>(
 }
 
 /// The lines at the end of a session.
+#[inline(never)]
 fn finish<K: Sink>(kernel: Kernel<'_>, sink: &mut K) -> Result<(), Failed>
     requires over { is_asking kernel ≡ false }
     requires short { HoldsShort kernel }
