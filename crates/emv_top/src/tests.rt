@@ -78,22 +78,47 @@ fn sink_of(alloc: Global, fails: &[u32]) -> Result<MemorySink, Fail> {
     Ok(MemorySink::new(alloc, 10_000, fails.to_vec(alloc)?)?)
 }
 
+/// How a run ended and what the sink holds.
+#[derive(Drop)]
+struct Outcome {
+    status: u8,
+    text: Vec<u8>,
+}
+
+/// The run of these words over a document. The calls of source and sink with these numbers fail.
+fn run_of(
+    alloc: Global,
+    words: &[&str],
+    document: &[u8],
+    fails: (&[u32], &[u32]),
+) -> Result<Outcome, Fail> {
+    let words = words_of(alloc, words)?;
+    let mut source = source_of(alloc, document, fails.0)?;
+    let mut sink = sink_of(alloc, fails.1)?;
+    let finished = run(alloc, &words, &mut source, &mut sink);
+    Ok(Outcome {
+        status: finished.status,
+        text: sink.bytes().to_vec(alloc)?,
+    })
+}
+
+/// The run of one word over a document where nothing fails.
+fn sound(alloc: Global, word: &str, document: &str) -> Result<Outcome, Fail> {
+    run_of(alloc, &[word], document.as_bytes(), (&[], &[]))
+}
+
 #[test]
 fn a_card_without_the_application_is_reported(rt: HostRuntime) -> Result<(), Fail> {
-    let alloc = rt.alloc();
     for words in [["read"].as_slice(), &["--", "read"], &["read", "--"]] {
-        let words = words_of(alloc, words)?;
-        let mut source = source_of(alloc, OTHER_CARD.as_bytes(), &[])?;
-        let mut sink = sink_of(alloc, &[])?;
-        assert_eq!(rt; run(alloc, &words, &mut source, &mut sink).status, 0);
-        assert_eq!(rt; sink.bytes(), OTHER_REPORT.as_bytes());
+        let ended = run_of(rt.alloc(), words, OTHER_CARD.as_bytes(), (&[], &[]))?;
+        assert_eq!(rt; ended.status, 0);
+        assert_eq!(rt; ended.text.as_slice(), OTHER_REPORT.as_bytes());
     }
     Ok(())
 }
 
 #[test]
 fn other_words_give_the_usage_line(rt: HostRuntime) -> Result<(), Fail> {
-    let alloc = rt.alloc();
     for words in [
         [].as_slice(),
         &["--"],
@@ -103,12 +128,10 @@ fn other_words_give_the_usage_line(rt: HostRuntime) -> Result<(), Fail> {
         &["--help"],
         &["Read"],
     ] {
-        let words = words_of(alloc, words)?;
-        let mut source = source_of(alloc, OTHER_CARD.as_bytes(), &[1])?;
-        let mut sink = sink_of(alloc, &[])?;
-        assert_eq!(rt; run(alloc, &words, &mut source, &mut sink).status, 2);
+        let ended = run_of(rt.alloc(), words, OTHER_CARD.as_bytes(), (&[1], &[]))?;
+        assert_eq!(rt; ended.status, 2);
         assert_eq!(rt;
-            sink.bytes(),
+            ended.text.as_slice(),
             b"usage: emvrun read|replay|generate N\n".as_slice()
         );
     }
@@ -117,9 +140,7 @@ fn other_words_give_the_usage_line(rt: HostRuntime) -> Result<(), Fail> {
 
 #[test]
 fn refusals_name_their_cause(rt: HostRuntime) -> Result<(), Fail> {
-    let alloc = rt.alloc();
-    let words = words_of(alloc, &["read"])?;
-    let long = vec![in alloc; b'\n'; 4_194_305]?;
+    let long = vec![in rt.alloc(); b'\n'; 4_194_305]?;
     for (text, line) in [
         (b"".as_slice(), b"refused 7 NotBuilt file\n".as_slice()),
         (b"aid = ", b"refused 7 NotBuilt file\n"),
@@ -127,27 +148,22 @@ fn refusals_name_their_cause(rt: HostRuntime) -> Result<(), Fail> {
         (&long, b"refused 4 OutOfLimit file\n"),
         (&long[1..], b"refused 7 NotBuilt file\n"),
     ] {
-        let mut source = source_of(alloc, text, &[])?;
-        let mut sink = sink_of(alloc, &[])?;
-        assert_eq!(rt; run(alloc, &words, &mut source, &mut sink).status, 1);
-        assert_eq!(rt; sink.bytes(), line);
+        let ended = run_of(rt.alloc(), &["read"], text, (&[], &[]))?;
+        assert_eq!(rt; ended.status, 1);
+        assert_eq!(rt; ended.text.as_slice(), line);
     }
     Ok(())
 }
 
 #[test]
 fn faults_of_the_outside_are_answered(rt: HostRuntime) -> Result<(), Fail> {
-    let alloc = rt.alloc();
-    let words = words_of(alloc, &["read"])?;
-    let mut source = source_of(alloc, OTHER_CARD.as_bytes(), &[1])?;
-    let mut sink = sink_of(alloc, &[])?;
-    assert_eq!(rt; run(alloc, &words, &mut source, &mut sink).status, 3);
-    assert_eq!(rt; sink.bytes(), b"".as_slice());
-    let mut source = source_of(alloc, OTHER_CARD.as_bytes(), &[])?;
-    let mut sink = sink_of(alloc, &[2])?;
-    assert_eq!(rt; run(alloc, &words, &mut source, &mut sink).status, 4);
+    let unread = run_of(rt.alloc(), &["read"], OTHER_CARD.as_bytes(), (&[1], &[]))?;
+    assert_eq!(rt; unread.status, 3);
+    assert!(rt; unread.text.is_empty());
+    let unwritten = run_of(rt.alloc(), &["read"], OTHER_CARD.as_bytes(), (&[], &[2]))?;
+    assert_eq!(rt; unwritten.status, 4);
     assert_eq!(rt;
-        sink.bytes(),
+        unwritten.text.as_slice(),
         b"L0 > 00a4040007a000000004101000\n".as_slice()
     );
     Ok(())

@@ -82,62 +82,53 @@ done 1
 
 #[test]
 fn a_purchase_is_approved(rt: HostRuntime) -> Result<(), Fail> {
-    let alloc = rt.alloc();
-    let words = words_of(alloc, &["replay"])?;
-    let document = purchase_of(alloc, "0010000000", 10)?;
-    let mut source = source_of(alloc, document.as_bytes(), &[])?;
-    let mut sink = sink_of(alloc, &[])?;
-    assert_eq!(rt; run(alloc, &words, &mut source, &mut sink).status, 0);
-    assert_eq!(rt; sink.bytes(), APPROVED.as_bytes());
+    let document = purchase_of(rt.alloc(), "0010000000", 10)?;
+    let ended = sound(rt.alloc(), "replay", document.as_str())?;
+    assert_eq!(rt; ended.status, 0);
+    assert_eq!(rt; ended.text.as_slice(), APPROVED.as_bytes());
     Ok(())
 }
 
 #[test]
 fn an_issuer_that_denies_declines(rt: HostRuntime) -> Result<(), Fail> {
-    let alloc = rt.alloc();
-    let words = words_of(alloc, &["replay"])?;
-    let document = purchase_of(alloc, "8000000000", 10)?;
-    let mut source = source_of(alloc, document.as_bytes(), &[])?;
-    let mut sink = sink_of(alloc, &[])?;
-    assert_eq!(rt; run(alloc, &words, &mut source, &mut sink).status, 0);
-    assert!(rt; sink.bytes().ends_with(DECLINED.as_bytes()));
+    let document = purchase_of(rt.alloc(), "8000000000", 10)?;
+    let ended = sound(rt.alloc(), "replay", document.as_str())?;
+    assert_eq!(rt; ended.status, 0);
+    assert!(rt; ended.text.as_slice().ends_with(DECLINED.as_bytes()));
     Ok(())
 }
 
 #[test]
 fn a_card_without_a_counter_is_no_candidate(rt: HostRuntime) -> Result<(), Fail> {
-    let alloc = rt.alloc();
-    let words = words_of(alloc, &["replay"])?;
-    let document = purchase_of(alloc, "0010000000", 65_535)?;
-    let mut source = source_of(alloc, document.as_bytes(), &[])?;
-    let mut sink = sink_of(alloc, &[])?;
-    assert_eq!(rt; run(alloc, &words, &mut source, &mut sink).status, 0);
-    assert_eq!(rt; sink.bytes(), WITHOUT_COUNTER.as_bytes());
+    let document = purchase_of(rt.alloc(), "0010000000", 65_535)?;
+    let ended = sound(rt.alloc(), "replay", document.as_str())?;
+    assert_eq!(rt; ended.status, 0);
+    assert_eq!(rt; ended.text.as_slice(), WITHOUT_COUNTER.as_bytes());
     Ok(())
 }
 
 /// The report stops where the sink fails, also within its head.
 #[test]
 fn a_failing_sink_has_a_front_of_the_report(rt: HostRuntime) -> Result<(), Fail> {
-    let alloc = rt.alloc();
-    let words = words_of(alloc, &["replay"])?;
     for call in [1u32, 2, 5, 16] {
-        let document = purchase_of(alloc, "0010000000", 10)?;
-        let mut source = source_of(alloc, document.as_bytes(), &[])?;
-        let mut sink = sink_of(alloc, &[call])?;
-        assert_eq!(rt; run(alloc, &words, &mut source, &mut sink).status, 4);
-        assert!(rt; APPROVED.as_bytes().starts_with(sink.bytes()), "{call}");
+        let document = purchase_of(rt.alloc(), "0010000000", 10)?;
+        let ended = run_of(rt.alloc(), &["replay"], document.as_bytes(), (&[], &[call]))?;
+        assert_eq!(rt; ended.status, 4);
+        assert!(rt;
+            APPROVED.as_bytes().starts_with(ended.text.as_slice()),
+            "{call}"
+        );
     }
     Ok(())
 }
 
 #[test]
 fn a_document_without_a_purchase_is_refused(rt: HostRuntime) -> Result<(), Fail> {
-    let alloc = rt.alloc();
-    let words = words_of(alloc, &["replay"])?;
-    let mut source = source_of(alloc, OTHER_CARD.as_bytes(), &[])?;
-    let mut sink = sink_of(alloc, &[])?;
-    assert_eq!(rt; run(alloc, &words, &mut source, &mut sink).status, 1);
-    assert_eq!(rt; sink.bytes(), b"refused 7 NotBuilt file\n".as_slice());
+    let ended = sound(rt.alloc(), "replay", OTHER_CARD)?;
+    assert_eq!(rt; ended.status, 1);
+    assert_eq!(rt;
+        ended.text.as_slice(),
+        b"refused 7 NotBuilt file\n".as_slice()
+    );
     Ok(())
 }

@@ -106,14 +106,11 @@ const FAULTY: [(&str, u8, [&str; 2], &str); 14] = [
 
 #[test]
 fn faulty_records_end_the_reading(rt: HostRuntime) -> Result<(), Fail> {
-    let alloc = rt.alloc();
-    let words = words_of(alloc, &["read"])?;
     for (afl, sfi, records, line) in FAULTY {
-        let document = card_of(alloc, afl, sfi, records)?;
-        let mut source = source_of(alloc, document.as_bytes(), &[])?;
-        let mut sink = sink_of(alloc, &[])?;
-        assert_eq!(rt; run(alloc, &words, &mut source, &mut sink).status, 0);
-        assert!(rt; ends_with(sink.bytes(), line), "{line}");
+        let document = card_of(rt.alloc(), afl, sfi, records)?;
+        let ended = sound(rt.alloc(), "read", document.as_str())?;
+        assert_eq!(rt; ended.status, 0);
+        assert!(rt; ends_with(ended.text.as_slice(), line), "{line}");
     }
     Ok(())
 }
@@ -136,23 +133,18 @@ const WRONG: [(&str, &str); 11] = [
 #[test]
 fn values_of_another_form_end_the_reading(rt: HostRuntime) -> Result<(), Fail> {
     let alloc = rt.alloc();
-    let words = words_of(alloc, &["read"])?;
     for (record, cause) in WRONG {
         let document = card_of(alloc, "08010200", 1, [WHOLE, record])?;
         let line = format!(in alloc; "\nread terminated read {cause}\n")?;
-        let mut source = source_of(alloc, document.as_bytes(), &[])?;
-        let mut sink = sink_of(alloc, &[])?;
-        assert_eq!(rt; run(alloc, &words, &mut source, &mut sink).status, 0);
-        assert!(rt; ends_with(sink.bytes(), line.as_str()), "{record}");
+        let ended = sound(alloc, "read", document.as_str())?;
+        assert_eq!(rt; ended.status, 0);
+        assert!(rt; ends_with(ended.text.as_slice(), line.as_str()), "{record}");
     }
     Ok(())
 }
 
-/// Three records that give 255 objects of one byte each, of tags 9F8001 to 9F817F.
-#[test]
-fn the_513th_object_is_too_much(rt: HostRuntime) -> Result<(), Fail> {
-    let alloc = rt.alloc();
-    let words = words_of(alloc, &["read"])?;
+/// Eleven records that give 550 objects without bytes, of tags from 9F8100 on.
+fn crowded_card(alloc: Global) -> Result<String, Fail> {
     let mut document = format!(in alloc;
         "aid = \"A0000000031010\"\nname = \"A0000000031010\"\nlabel = \"CREDIT\"\naip = \"1C00\"\nafl = \"08010B00\"\n"
     )?;
@@ -169,9 +161,19 @@ fn the_513th_object_is_too_much(rt: HostRuntime) -> Result<(), Fail> {
         }
         document.push_str("\"\n")?;
     }
-    let mut source = source_of(alloc, document.as_bytes(), &[])?;
-    let mut sink = sink_of(alloc, &[])?;
-    assert_eq!(rt; run(alloc, &words, &mut source, &mut sink).status, 0);
-    assert!(rt; ends_with(sink.bytes(), "9000\nread terminated read too-much\n"));
+    Ok(document)
+}
+
+#[test]
+fn the_513th_object_is_too_much(rt: HostRuntime) -> Result<(), Fail> {
+    let document = crowded_card(rt.alloc())?;
+    let ended = sound(rt.alloc(), "read", document.as_str())?;
+    assert_eq!(rt; ended.status, 0);
+    assert!(rt;
+        ends_with(
+            ended.text.as_slice(),
+            "9000\nread terminated read too-much\n"
+        )
+    );
     Ok(())
 }

@@ -1,0 +1,16 @@
+-- What is said of a document.
+use Rattle.std.specs.Prelude.{◌≡◌, ◌×◌, ℕ, List, Option, Some, Result, Ok, Err}
+use Rattle.std.specs.declared.string.String.{String}
+use Rattle.std.specs.Str.{string_bytes}
+use Rattle.scenario_fields.specs.Line.{refused_line}
+use Rattle.scenario_fields.specs.declared.fault.ScenarioFault.{ScenarioFault}
+use Rattle.scenario.specs.Scenario.{IsReading}
+use Rattle.scenario.specs.Seen.{seen_scenario}
+use Rattle.scenario.specs.declared.plan.Scenario.{Scenario}
+use Rattle.scenario_check.specs.declared.verdict.Verdict.{Verdict}
+use Rattle.scenario_check.specs.declared.verdict.Verdict.TheVariants.{Accepted, Refused}
+
+-- a scenario, or the line of the first fault
+abbrev pub IsVerdict : List ℕ → Verdict → Type 0
+IsVerdict bytes Accepted = (scenario : Scenario) × IsReading seen_scenario bytes (Ok scenario)
+IsVerdict bytes (Refused line) = (fault : ScenarioFault) × IsReading seen_scenario bytes (Err fault) × (refused_line fault ≡ Some (string_bytes line))
