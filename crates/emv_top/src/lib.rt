@@ -25,6 +25,3 @@ mod top;
 mod words;
 
 pub use top::{Finished, run};
-
-#[cfg(test)]
-mod tests;

@@ -1,6 +1,9 @@
 //! `emvrun`: a terminal, a card and an issuer's host from one document, exchange by exchange.
 #![tactic(auto)]
 
+#[cfg(test)]
+mod tests;
+
 use emv_ports::{StdinSource, StdoutSink};
 use emv_top::run;
 use std::process::ExitCode;

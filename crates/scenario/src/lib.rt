@@ -17,6 +17,3 @@ pub mod script;
 pub use plan::{Lane, Link, NamedImage, Planned, Scenario};
 pub use read::read_scenario;
 pub use scenario_fields::{Path, ScenarioFault};
-
-#[cfg(test)]
-mod tests;

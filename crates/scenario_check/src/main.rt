@@ -3,6 +3,8 @@
 //! where standard input or output failed, and 5 for want of memory.
 #![tactic(auto)]
 
+#[cfg(test)]
+mod tests;
 mod verdict;
 
 use emv_ports::{ReadFault, StdinSource, StdoutSink, read_up_to, write_all};

@@ -1,7 +1,6 @@
-use crate::plan::{Link, Scenario};
-use crate::{ScenarioFault, read_scenario};
 use emv_ports::{Tear, TearAt};
 use issuer_host::Word;
+use scenario::{Link, Scenario, ScenarioFault, read_scenario};
 use std::alloc::Global;
 
 /// A payment of 25.00 by a card with one application.

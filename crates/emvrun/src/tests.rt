@@ -1,8 +1,8 @@
 ghost use Rattle.std.specs.Prelude.{ℕ, List, Some, None};
 ghost use Rattle.std.specs.declared.option.Option.{Option};
 
-use super::*;
 use emv_ports::{Failed, MemorySink, MemorySource, Sink, Source};
+use emv_top::run;
 use std::alloc::Global;
 use std::test::Fail;
 
