@@ -40,11 +40,9 @@ list_if_there path (Some bytes) = list_of path [] bytes >>= (λ list. Ok (Some l
 unfoldable pub pdol_at : ℕ → ℕ → Members → Result (Option (List ℕ)) ScenarioFault
 pdol_at i j ms = optional_bytes (in_app i j) (codes "pdol") 0 most_pdol ms >>= list_if_there (in_app i j (codes "pdol"))
 
-unfoldable pub cdol1_at : ℕ → ℕ → Members → Result (List ℕ) ScenarioFault
-cdol1_at i j ms = bytes_at (in_app i j) (codes "cdol1") 0 most_cdol ms >>= list_of (in_app i j (codes "cdol1")) cdol1_entries
-
-unfoldable pub cdol2_at : ℕ → ℕ → Members → Result (List ℕ) ScenarioFault
-cdol2_at i j ms = bytes_at (in_app i j) (codes "cdol2") 0 most_cdol ms >>= list_of (in_app i j (codes "cdol2")) cdol2_entries
+-- the object list of a GENERATE AC, which must have these entries
+unfoldable pub cdol_at : List ℕ → List DolEntry → ℕ → ℕ → Members → Result (List ℕ) ScenarioFault
+cdol_at key wanted i j ms = bytes_at (in_app i j) key 0 most_cdol ms >>= list_of (in_app i j key) wanted
 
 unfoldable pub record_keys : List (List ℕ)
 record_keys = codes "sfi" ∷ codes "number" ∷ codes "bytes" ∷ []
@@ -128,8 +126,8 @@ files_of i j earlier ms = do
   afl ← bytes_at (in_app i j) (codes "afl") 0 most_afl ms
   gpo_format ← listed_or 1 (in_app i j) (codes "gpo_format") (1 ∷ 2 ∷ []) ms
   ac_format ← listed_or 1 (in_app i j) (codes "ac_format") (1 ∷ 2 ∷ []) ms
-  cdol1 ← cdol1_at i j ms
-  cdol2 ← cdol2_at i j ms
+  cdol1 ← cdol_at (codes "cdol1") cdol1_entries i j ms
+  cdol2 ← cdol_at (codes "cdol2") cdol2_entries i j ms
   records ← records_at i j ms
   Ok (record {
     name = name;

@@ -9,7 +9,7 @@ ghost use Rattle.scenario_fields.specs.Fault.{Gives};
 ghost use Rattle.scenario_fields.specs.Fields.{only, listed_or, number_or, optional_number};
 ghost use Rattle.scenario_fields.specs.Place.{path, spot_path};
 ghost use Rattle.scenario.specs.Cards as spec;
-ghost use Rattle.scenario.specs.Cards.{list_of, pdol_at as pdol_found, cdol1_at as cdol1_found, cdol2_at as cdol2_found, app_keys, app_of, app_item as item_of, files_of, sequence_at as sequence_found, holder_of, counters_of, access_of, app_with, opening_of, reference_pin, own_or};
+ghost use Rattle.scenario.specs.Cards.{list_of, pdol_at as pdol_found, cdol_at as cdol_found, app_keys, app_of, app_item as item_of, files_of, sequence_at as sequence_found, holder_of, counters_of, access_of, app_with, opening_of, reference_pin, own_or};
 ghost use Rattle.scenario.specs.SeenCards.{seen_files, seen_holder, seen_counters, seen_access, wanted_by};
 
 use crate::purchase::MOST_AMOUNT;
@@ -92,43 +92,25 @@ fn pdol_at(
     }
 }
 
-/// The object list of the first GENERATE AC.
-#[tactic(auto, unfolding(crate::specs::Cards::cdol1_at))]
-fn cdol1_at(
+/// The object list at this key, which must hold what its GENERATE AC brings.
+#[tactic(auto, unfolding(crate::specs::Cards::cdol_at))]
+fn cdol_at(
     alloc: Global,
     card: usize,
     index: usize,
+    key: &str,
+    holding: Holding,
     table: &Table,
 ) -> Result<Vec<u8>, ScenarioFault>
-    ensures { Gives (λ v. v.items) result (cdol1_found card index (table_view table.now)) }
+    ensures { Gives (λ v. v.items) result (cdol_found key.now (wanted_by holding) card index (table_view table.now)) }
 {
     let fields = Fields {
         alloc,
         place: Place::App(card, index),
         table,
     };
-    let bytes = fields.bytes("cdol1", 0, MOST_CDOL)?;
-    try_list(&fields.spot("cdol1"), Holding::First, bytes.as_slice())?;
-    Ok(bytes)
-}
-
-/// The object list of the second GENERATE AC.
-#[tactic(auto, unfolding(crate::specs::Cards::cdol2_at))]
-fn cdol2_at(
-    alloc: Global,
-    card: usize,
-    index: usize,
-    table: &Table,
-) -> Result<Vec<u8>, ScenarioFault>
-    ensures { Gives (λ v. v.items) result (cdol2_found card index (table_view table.now)) }
-{
-    let fields = Fields {
-        alloc,
-        place: Place::App(card, index),
-        table,
-    };
-    let bytes = fields.bytes("cdol2", 0, MOST_CDOL)?;
-    try_list(&fields.spot("cdol2"), Holding::Second, bytes.as_slice())?;
+    let bytes = fields.bytes(key, 0, MOST_CDOL)?;
+    try_list(&fields.spot(key), holding, bytes.as_slice())?;
     Ok(bytes)
 }
 
@@ -226,8 +208,8 @@ fn read_files(
     let afl = fields.bytes("afl", 0, MOST_AFL)?;
     let gpo_format = format_at(&fields, "gpo_format")?;
     let ac_format = format_at(&fields, "ac_format")?;
-    let cdol1 = cdol1_at(alloc, card, index, table)?;
-    let cdol2 = cdol2_at(alloc, card, index, table)?;
+    let cdol1 = cdol_at(alloc, card, index, "cdol1", Holding::First, table)?;
+    let cdol2 = cdol_at(alloc, card, index, "cdol2", Holding::Second, table)?;
     let records = records_at(alloc, card, index, table)?;
     Ok(Files {
         name,
