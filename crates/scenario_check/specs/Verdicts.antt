@@ -1,7 +1,5 @@
 -- What is said of a document.
-use Rattle.std.specs.Prelude.{◌≡◌, ◌×◌, ℕ, List, Option, Some, Result, Ok, Err}
-use Rattle.std.specs.declared.string.String.{String}
-use Rattle.std.specs.Str.{string_bytes}
+use Rattle.std.specs.Prelude.{◌≡◌, ℕ, List, Some, Ok, Err, string_bytes}
 use Rattle.scenario_fields.specs.Line.{refused_line}
 use Rattle.scenario_fields.specs.declared.fault.ScenarioFault.{ScenarioFault}
 use Rattle.scenario.specs.Scenario.{IsReading}
