@@ -1,7 +1,9 @@
+use crate::verdict::{Verdict, judged};
 use emv_ports::{Tear, TearAt};
 use issuer_host::Word;
 use scenario::{Link, Scenario, ScenarioFault, read_scenario};
 use std::alloc::Global;
+use std::test::Fail;
 
 /// A payment of 25.00 by a card with one application.
 const DOCUMENT: &str =
@@ -44,21 +46,29 @@ const FAULTS: [(&str, &str, &str); 4] = [
     ),
 ];
 
-/// The line that refuses a text.
-fn line_of(alloc: Global, text: &str) -> Option<String> {
-    match read(alloc, text) {
-        Ok(_) => None,
-        Err(fault) => fault.line(alloc).ok(),
+/// Whether the line refuses a document with this change.
+fn is_refused_with(alloc: Global, old: &str, new: &str, line: &str) -> bool {
+    let Some(text) = replaced(alloc, DOCUMENT, old, new) else {
+        return false;
+    };
+    match judged(alloc, text.as_bytes()) {
+        Ok(Verdict::Refused { line: found }) => found.as_str() == line,
+        _ => false,
     }
 }
 
 #[test]
 fn a_document_is_refused_at_its_first_fault(rt: HostRuntime) {
     for (old, new, line) in FAULTS {
-        let text = replaced(rt.alloc(), DOCUMENT, old, new).expect(&rt, "a document");
-        let found = line_of(rt.alloc(), text.as_str()).expect(&rt, "a fault");
-        assert!(rt; found.as_str() == line, "{line}");
+        assert!(rt; is_refused_with(rt.alloc(), old, new, line), "{line}");
     }
+}
+
+#[test]
+fn the_document_is_accepted(rt: HostRuntime) -> Result<(), Fail> {
+    let verdict = judged(rt.alloc(), DOCUMENT.as_bytes())?;
+    assert!(rt; matches!(verdict, Verdict::Accepted));
+    Ok(())
 }
 
 /// The document with a script, a purchase that is cut, one whose reply is lost, and a schedule.
