@@ -5,6 +5,8 @@ use scenario::{Link, Scenario, ScenarioFault, read_scenario};
 use std::alloc::Global;
 use std::test::Fail;
 
+mod fields;
+
 /// A payment of 25.00 by a card with one application.
 const DOCUMENT: &str =
     "\n[issuer]\nac_key = \"0123456789ABCDEFFEDCBA9876543210\"\nmac_key = \"23456789ABCDEF01DCBA9876543210FE\"\nenc_key = \"456789ABCDEF0123BA9876543210FEDC\"\npin_key = \"6789ABCDEF0123459876543210FEDCBA\"\n\n[[account]]\npan = \"4761739001010010\"\ncurrency = \"840\"\nbalance = 100000\npin = \"1234\"\n\n[[card]]\nname = \"c1\"\n\n[[card.app]]\nname = \"A0000000031010\"\nlabel = \"CREDIT\"\npriority = 1\naip = \"1C00\"\nafl = \"08010300\"\ncdol1 = \"9F02069F03069F1A0295055F2A029A039C019F3704\"\ncdol2 = \"8A029F02069F03069F1A0295055F2A029A039C019F3704\"\npan = \"4761739001010010\"\nsequence = 1\ncurrency = \"840\"\ncounter = 10\nlast_online = 9\ncount_limit = 5\nsum_limit = 20000\npin = \"1234\"\ntries = 3\n\n[[card.app.record]]\nsfi = 1\nnumber = 1\nbytes = \"702E5A0847617390010100105F3401015F24032612315F25032401015F280208409F420208409F0702FF009F08020096\"\n\n[[card.app.record]]\nsfi = 1\nnumber = 2\nbytes = \"70308C159F02069F03069F1A0295055F2A029A039C019F37048D178A029F02069F03069F1A0295055F2A029A039C019F3704\"\n\n[[card.app.record]]\nsfi = 1\nnumber = 3\nbytes = \"70308E0E000000000000000041035E031F009F0D057068BCF8009F0E0500100000009F0F057068BC98009F1401059F230109\"\n\n[[lane]]\nkind = 22\ncountry = \"840\"\ncaps = \"E0B8C8\"\nid = \"TERM0001\"\n\n[[lane.aid]]\nname = \"A0000000031010\"\nversion = \"0096\"\ndenial = \"0010000000\"\nonline = \"7068BC9800\"\ndefault = \"7068BCF800\"\nfloor = 10000\nthreshold = 5000\ntarget = 10\nmax_target = 50\n\n[[lane.purchase]]\ncard = \"c1\"\namount = 2500\ncurrency = \"840\"\ndate = \"240615\"\ntime = \"120000\"\nnumber = 16909060\nword = 49\npins = [\"1234\"]\n";
@@ -83,76 +85,6 @@ const MORE: [(&str, &str); 3] = [
         "link = \"reply_lost\"\n[lane.purchase.tear]\ncommit = 4\nat = \"within\"\nwrite = 2",
     ),
 ];
-
-#[test]
-fn the_issuer_and_its_account_are_read(rt: HostRuntime) {
-    let scenario = read(rt.alloc(), DOCUMENT).ok().expect(&rt, "a scenario");
-    assert!(rt; scenario.issuer.pin.bytes()[0] == 0x67 && scenario.issuer.ac.bytes()[15] == 0x10);
-    assert!(rt; scenario.copies == 1 && scenario.schedule.is_empty());
-    let account = scenario.accounts.first().expect(&rt, "an account");
-    assert!(rt; account.balance == 100_000 && account.currency == [0x08, 0x40]);
-    assert!(rt; account.pan.len() == 16 && !account.blocked && account.pin.is_some());
-    assert!(rt; account.scripts.is_empty());
-}
-
-#[test]
-fn the_card_is_read(rt: HostRuntime) {
-    let scenario = read(rt.alloc(), DOCUMENT).ok().expect(&rt, "a scenario");
-    let card = scenario.cards.first().expect(&rt, "a card");
-    assert!(rt; card.name.as_slice() == b"c1".as_slice());
-    let app = card.image.apps().first().expect(&rt, "an application");
-    assert!(rt; app.name.as_slice() == [0xA0, 0, 0, 0, 0x03, 0x10, 0x10].as_slice());
-    assert!(rt; app.label.as_slice() == b"CREDIT".as_slice() && app.priority == Some(1));
-    assert!(rt; app.pdol.is_none() && app.aip == [0x1C, 0]);
-    assert!(rt; app.afl.as_slice() == [8, 1, 3, 0].as_slice());
-    assert!(rt; app.gpo_format == 1 && app.ac_format == 1);
-    assert!(rt; app.cdol1.len() == 21 && app.cdol2.len() == 23 && app.records.len() == 3);
-    assert!(rt; app.pan.len() == 16 && app.sequence == 1 && app.currency == [0x08, 0x40]);
-    let key = [
-        0x2F, 0x02, 0xC8, 0xB0, 0xE9, 0xCB, 0xC7, 0xB0, 0x5B, 0x51, 0x67, 0xF7, 0xA1, 0xCD, 0xE6,
-        0xE5,
-    ];
-    assert!(rt; app.ac_key.bytes() == key);
-}
-
-#[test]
-fn the_card_opens_as_its_keys_say(rt: HostRuntime) {
-    let scenario = read(rt.alloc(), DOCUMENT).ok().expect(&rt, "a scenario");
-    let card = scenario.cards.first().expect(&rt, "a card");
-    let app = card.image.apps().first().expect(&rt, "an application");
-    let state = &app.opening;
-    assert!(rt; state.counter == 10 && state.last_online == 9);
-    assert!(rt; state.count == 0 && state.sum == 0);
-    assert!(rt; state.count_limit == 5 && state.sum_limit == 20_000);
-    assert!(rt; state.tries == 3 && app.tries == 3);
-    assert!(rt; !state.blocked && !state.auth_failed);
-    assert!(rt; state.pin == [0x24, 0x12, 0x34, 0xFF, 0xFF, 0xFF, 0xFF, 0xFF]);
-}
-
-#[test]
-fn the_lane_is_read(rt: HostRuntime) {
-    let scenario = read(rt.alloc(), DOCUMENT).ok().expect(&rt, "a scenario");
-    let lane = scenario.lanes.first().expect(&rt, "a lane");
-    assert!(rt; lane.settings.kind == 22 && lane.settings.id == *b"TERM0001");
-    assert!(rt; lane.settings.pin_key == scenario.issuer.pin.bytes());
-    assert!(rt; lane.settings.exceptions.is_empty());
-    let row = lane.settings.aids.first().expect(&rt, "an application");
-    assert!(rt; row.name.as_slice() == [0xA0, 0, 0, 0, 0x03, 0x10, 0x10].as_slice());
-    assert!(rt; !row.partial && row.floor == 10_000 && row.max_target == 50);
-}
-
-#[test]
-fn the_purchase_is_read(rt: HostRuntime) {
-    let scenario = read(rt.alloc(), DOCUMENT).ok().expect(&rt, "a scenario");
-    let lane = scenario.lanes.first().expect(&rt, "a lane");
-    let planned = lane.purchases.first().expect(&rt, "a purchase");
-    assert!(rt; planned.card == 0 && planned.link == Link::Sound && planned.tear.is_none());
-    let purchase = &planned.purchase;
-    assert!(rt; purchase.amount == 2500 && purchase.other == 0 && purchase.trade == 0);
-    assert!(rt; purchase.date == [0x24, 0x06, 0x15] && purchase.time == [0x12, 0, 0]);
-    assert!(rt; purchase.number == [1, 2, 3, 4] && purchase.word == 49);
-    assert!(rt; purchase.pins.len() == 1 && !purchase.forced && purchase.confirm);
-}
 
 /// The document with all its changes.
 fn more(alloc: Global) -> Option<String> {
