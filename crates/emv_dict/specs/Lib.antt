@@ -7,3 +7,4 @@ pub mod Name
 pub mod Nibbles
 pub mod Pan
 pub mod Settings
+pub mod Views

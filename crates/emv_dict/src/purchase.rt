@@ -1,5 +1,6 @@
 use crate::digits::Digits;
 use crate::name::Name;
+use std::marker::Model;
 
 /// What a terminal keeps for one application that it supports.
 #[derive(Drop, PartialEq, Eq, Debug)]
@@ -26,8 +27,8 @@ pub struct AidRow {
     pub max_target: u8,
 }
 
-/// A terminal's settings.
-#[derive(Drop, PartialEq, Eq, Debug)]
+/// A terminal's settings. Contracts see them with lists in place of vectors.
+#[derive(Drop, Debug)]
 pub struct Settings {
     /// The terminal type as a decimal number, 21 to 26; the object 9F35 holds its two digits in one
     /// byte (EMV 4.3 Book 4 Annex A1).
@@ -46,8 +47,24 @@ pub struct Settings {
     pub aids: Vec<AidRow>,
 }
 
-/// One purchase as the terminal is asked for it.
-#[derive(Drop, PartialEq, Eq, Debug)]
+impl Model for Settings {
+    ghost use Rattle.emv_dict.specs.Views.{SettingsData};
+
+    ghost Value = { SettingsData };
+
+    ghost view = { λ s. record {
+      kind = s.kind;
+      country = s.country;
+      caps = s.caps;
+      id = s.id;
+      pin_key = s.pin_key;
+      exceptions = s.exceptions.items;
+      aids = s.aids.items;
+    } };
+}
+
+/// One purchase as the terminal is asked for it. Contracts see it with a list in place of the vector.
+#[derive(Drop, Debug)]
 pub struct Purchase {
     /// The amount authorised, in the currency's least unit: at most 12 digits.
     pub amount: u64,
@@ -73,6 +90,27 @@ pub struct Purchase {
     pub forced: bool,
     /// Whether the cardholder can confirm an application.
     pub confirm: bool,
+}
+
+impl Model for Purchase {
+    ghost use Rattle.emv_dict.specs.Views.{PurchaseData};
+
+    ghost Value = { PurchaseData };
+
+    ghost view = { λ p. record {
+      amount = p.amount;
+      other = p.other;
+      currency = p.currency;
+      trade = p.trade;
+      services = p.services;
+      date = p.date;
+      time = p.time;
+      number = p.number;
+      word = p.word;
+      pins = p.pins.items;
+      forced = p.forced;
+      confirm = p.confirm;
+    } };
 }
 
 /// An earlier purchase in the terminal's log.
