@@ -1,3 +1,5 @@
-pub mod Bits
+mod Amounts
+pub mod FlagBits
 pub mod HexDigits
+pub mod PanFields
 mod Searches

@@ -1,16 +1,8 @@
 -- A calendar date in binary coded decimal: year, month and day, two digits a byte (EMV 4.3 Book 3
 -- section 4.3, format n).
-use Rattle.std.specs.Prelude.{ℕ, ◌+◌, ◌*◌, ◌/◌, ◌%◌, ◌==◌, Bool, nat_le, nat_lt, ◌&&◌, ◌||◌, if◌then◌else◌, List, slice_index, Option, Some, None}
-use Rattle.emv_dict.specs.Nibbles.{is_decimal}
+use Rattle.std.specs.Prelude.{ℕ, ◌+◌, ◌==◌, Bool, nat_le, nat_lt, ◌&&◌, ◌||◌, if◌then◌else◌, List, slice_index, Option, Some, None}
+pub use Rattle.emv_dict.specs.Bcd.{has_digits, number_of}
 use Rattle.emv_dict.specs.declared.date.Date.{Date}
-
--- a byte of two decimal digits
-abbrev pub has_digits : ℕ → Bool
-has_digits byte = is_decimal (byte / 16) && is_decimal (byte % 16)
-
--- the number of a byte's two digits
-abbrev pub number_of : ℕ → ℕ
-number_of byte = byte / 16 * 10 + byte % 16
 
 -- the two digits of a year as a year: 00 to 49 are 2000 to 2049, 50 to 99 are 1950 to 1999
 abbrev pub year_of : ℕ → ℕ

@@ -1,6 +1,6 @@
 -- The bits of the terminal verification results (EMV 4.3 Book 3 Annex C5) and of the transaction status
 -- information (Annex C6). Bytes are counted from 1 at the left, and the bits of a byte from 8 at the left to 1.
-use Rattle.std.specs.Prelude.{ℕ, ◌+◌, ◌-◌, ◌*◌, ◌^◌, ◌==◌, Bool, not, List, [], ◌∷◌, codes, drop, bit_and}
+use Rattle.std.specs.Prelude.{ℕ, ◌+◌, ◌-◌, ◌*◌, ◌^◌, ◌==◌, ◌≤◌, Bool, false, not, ◌||◌, List, [], ◌∷◌, codes, drop, bit_and, slice_index, IsBitSet}
 use Rattle.std.specs.Int.{to_be_bytes, w64}
 
 -- the place of a bit, counted from 0 at the right, among so many bytes
@@ -62,6 +62,16 @@ tsi_bits =
     ∷ (codes "TERMINAL_RISK_MANAGEMENT", tsi_bit 1 4)
     ∷ (codes "SCRIPT_PROCESSING", tsi_bit 1 3) ∷ []
 
--- whether some bit stands in both numbers
-abbrev pub have_common_bit : ℕ → ℕ → Bool
-have_common_bit n m = not (bit_and n m == 0)
+-- the bit of this number, of the byte of this number, stands in an object's bytes
+abbrev pub StandsIn : List ℕ → ℕ → ℕ → Type 0
+StandsIn bytes byte bit = IsBitSet (slice_index bytes (byte - 1)) (bit - 1)
+
+-- from `least` to `most`
+abbrev pub IsWithin : ℕ → ℕ → ℕ → Type 0
+IsWithin least most n = (least ≤ n) × (n ≤ most)
+
+-- whether some bit stands in both of two objects' bytes, which have the same number of bytes
+abbrev pub have_common_bit : List ℕ → List ℕ → Bool
+have_common_bit [] codes = false
+have_common_bit (byte ∷ bytes) [] = false
+have_common_bit (byte ∷ bytes) (code ∷ codes) = not (bit_and byte code == 0) || have_common_bit bytes codes

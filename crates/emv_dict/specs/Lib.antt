@@ -1,7 +1,9 @@
+pub mod Bcd
 pub mod Date
 pub mod Dictionary
 pub mod Digits
 pub mod Flags
+pub mod Kinds
 pub mod Listing
 pub mod Name
 pub mod Nibbles

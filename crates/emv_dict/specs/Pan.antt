@@ -1,6 +1,6 @@
 -- The primary account number as the object 5A holds it: 13 to 16 digits of this profile, filled on the
 -- right with F (EMV 4.3 Book 3 Annex A).
-use Rattle.std.specs.Prelude.{ℕ, ◌==◌, Bool, not, nat_le, ◌&&◌, if◌then◌else◌, IsTrue, List, length, take, drop, find, Option, Some, None, Result, Ok, Err}
+use Rattle.std.specs.Prelude.{ℕ, ◌+◌, ◌*◌, ◌==◌, Bool, not, nat_le, ◌&&◌, if◌then◌else◌, IsTrue, List, [], ◌∷◌, length, take, drop, find, Option, Some, None, Result, Ok, Err}
 use Rattle.std.specs.List.{position_or_len}
 use Rattle.std.specs.Option.{option_or}
 use Rattle.emv_dict.specs.Nibbles.{nibbles, is_decimal}
@@ -44,3 +44,9 @@ faultless_pan ns None = sized_pan (before_filler ns)
 -- the account number of a field, or the field's first fault
 unfoldable pub pan_of : List ℕ → Result (List ℕ) PanFault
 pan_of field = faultless_pan (nibbles field) (stray_nibble (nibbles field))
+
+-- the digits two a byte in the fewest bytes, the last of an odd number with the filler behind
+unfoldable pub pan_field : List ℕ → List ℕ
+pan_field [] = []
+pan_field (high ∷ []) = (high * 16 + 15) ∷ []
+pan_field (high ∷ low ∷ rest) = (high * 16 + low) ∷ pan_field rest

@@ -1,5 +1,7 @@
-ghost use Rattle.std.specs.Prelude.{◌≡◌, ◌<◌};
-ghost use Rattle.emv_dict.specs.Date.{date_of, has_digits, number_of, year_of, is_earlier};
+ghost use Rattle.std.specs.Prelude.{◌≡◌};
+ghost use Rattle.emv_dict.specs.Date.{date_of, year_of, is_earlier};
+
+use crate::bcd::{has_digits, two_digit_number};
 
 /// A calendar date, as of the objects 9A, 5F24 and 5F25.
 #[derive(Clone, Copy, PartialEq, Eq, Debug)]
@@ -20,16 +22,16 @@ impl Date {
         ensures { result ≡ date_of bytes }
     {
         let [year, month, day] = bytes;
-        if !is_digits(year) || !is_digits(month) || !is_digits(day) {
+        if !has_digits(year) || !has_digits(month) || !has_digits(day) {
             return None;
         }
-        let month = number(month);
-        let day = number(day);
+        let month = two_digit_number(month);
+        let day = two_digit_number(day);
         if month < 1 || month > 12 || day < 1 || day > 31 {
             return None;
         }
         Some(Date {
-            year: full_year(number(year)),
+            year: full_year(two_digit_number(year)),
             month,
             day,
         })
@@ -44,20 +46,6 @@ impl Date {
                 && (self.month < other.month
                     || (self.month == other.month && self.day < other.day)))
     }
-}
-
-/// Whether both halves of the byte are decimal digits.
-fn is_digits(byte: u8) -> bool
-    ensures { result ≡ has_digits byte }
-{
-    byte / 16 <= 9 && byte % 16 <= 9
-}
-
-/// The number of the byte's two digits.
-fn number(byte: u8) -> u8
-    ensures { result ≡ number_of byte }
-{
-    byte / 16 * 10 + byte % 16
 }
 
 /// The year of its last two digits.

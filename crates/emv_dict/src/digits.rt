@@ -1,5 +1,5 @@
 ghost use Rattle.std.specs.Prelude.{◌≡◌, ◌+◌, ◌<◌, ◌≤◌, ◌↔◌, [], ◌∷◌, ◌++◌, length, IsTrue, IsSome, IfSome};
-ghost use Rattle.emv_dict.specs.Digits.{AreDigits, AllDecimal};
+ghost use Rattle.emv_dict.specs.Digits.{AreDigits, AllDecimal, is_pin_length as pin_length_test};
 
 use arrayvec::ArrayVec;
 use std::marker::Model;
@@ -100,4 +100,11 @@ fn are_decimal(numbers: &[u8]) -> bool
     ensures { IsTrue result ↔ AllDecimal numbers.now }
 {
     numbers.iter().all(|number| *number <= 9)
+}
+
+/// Whether a PIN has so many digits: 4 to 12 (ISO 9564-1).
+pub fn is_pin_length(count: usize) -> bool
+    ensures { result ≡ pin_length_test count }
+{
+    4 <= count && count <= 12
 }

@@ -1,5 +1,6 @@
-ghost use Rattle.std.specs.Prelude.{◌≡◌, false};
+ghost use Rattle.std.specs.Prelude.{◌≡◌, ◌/◌, ◌*◌, ◌↔◌, Some, None, IfSome, false};
 ghost use Rattle.emv_dict.specs.declared.ending.Ending.TheVariants.{Declined};
+ghost use Rattle.emv_dict.specs.Kinds.{kind_byte, kind_of, is_above as is_higher};
 
 use ber_tlv::Tag;
 
@@ -13,6 +14,47 @@ pub enum Kind {
     Tc,
     /// The issuer is to decide.
     Arqc,
+}
+
+impl Kind {
+    /// The kind as the reference control parameter P1 of GENERATE AC and as the two high bits of the
+    /// cryptogram information data (EMV 4.3 Book 3 sections 6.5.5.2 and 6.5.5.4).
+    pub fn byte(self) -> u8
+        ensures byte { result ≡ kind_byte self }
+        ensures read_again { kind_of result ≡ Some self }
+    {
+        match self {
+            Kind::Aac => 0x00,
+            Kind::Tc => 0x40,
+            Kind::Arqc => 0x80,
+        }
+    }
+
+    /// The kind that the two high bits of a byte name, or `None` where both are set.
+    pub fn of(byte: u8) -> Option<Kind>
+        ensures kind { result ≡ kind_of byte }
+        ensures bits { IfSome result (λ kind. kind_byte kind ≡ byte / 64 * 64) }
+        ensures both { (result ≡ None) ↔ (byte / 64 ≡ 3) }
+    {
+        match byte / 64 {
+            0 => Some(Kind::Aac),
+            1 => Some(Kind::Tc),
+            2 => Some(Kind::Arqc),
+            _ => None,
+        }
+    }
+
+    /// Whether this kind is above the other in the order TC, ARQC, AAC: a card that is asked for a
+    /// kind may answer it or one below (EMV 4.3 Book 3 section 10.8).
+    pub fn is_above(self, asked: Kind) -> bool
+        ensures { result ≡ is_higher self asked }
+    {
+        match self {
+            Kind::Aac => false,
+            Kind::Arqc => asked == Kind::Aac,
+            Kind::Tc => asked != Kind::Tc,
+        }
+    }
 }
 
 /// The steps of a payment, in their order (EMV 4.3 Book 3 section 8).

@@ -2,6 +2,7 @@
 //! terminal's flags of Annex C, and the plain types that the terminal, the card and the issuer share.
 #![tactic(auto)]
 
+pub mod bcd;
 pub mod date;
 pub mod dictionary;
 pub mod digits;
@@ -13,13 +14,16 @@ pub mod purchase;
 pub mod tsi;
 pub mod tvr;
 
+pub use bcd::{
+    MOST_AMOUNT, amount_bytes, amount_of, has_digits, is_code, two_digit_number, two_digits,
+};
 pub use date::Date;
 pub use dictionary::{Format, Origin, Row, tag_row};
-pub use digits::Digits;
+pub use digits::{Digits, is_pin_length};
 pub use ending::{Cause, Ending, Kind, Step};
 pub use name::Name;
 pub use nibble::nibble_at;
-pub use pan::{PanFault, pan_digits};
+pub use pan::{PanFault, is_pan_length, pan_digits, pan_field};
 pub use purchase::{AidRow, Logged, Purchase, Settings};
 pub use tsi::Tsi;
 pub use tvr::Tvr;

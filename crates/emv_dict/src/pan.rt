@@ -1,10 +1,11 @@
-ghost use Rattle.std.specs.Prelude.{◌≡◌, ◌*◌, ◌<◌, ◌≤◌, length, take, drop, find, not, IfNone};
+ghost use Rattle.std.specs.Prelude.{◌≡◌, Ok, ◌+◌, ◌++◌, ◌*◌, ◌<◌, ◌≤◌, length, take, drop, find, not, IfNone};
 ghost use Rattle.emv_dict.specs.Digits.{AllDecimal};
 ghost use Rattle.emv_dict.specs.Nibbles.{nibbles, is_decimal};
-ghost use Rattle.emv_dict.specs.Pan.{pan_of, is_filler, filler_place, before_filler, stray_nibble, is_pan_length as pan_length_test};
+ghost use Rattle.emv_dict.specs.Pan.{HasPanLength, pan_of, pan_field as field_of, is_filler, filler_place, before_filler, stray_nibble, is_pan_length as pan_length_test};
 
 use crate::digits::Digits;
 use crate::nibble::nibble_at;
+use arrayvec::ArrayVec;
 
 /// Why a field is no primary account number.
 #[derive(Clone, Copy, PartialEq, Eq, Debug)]
@@ -33,8 +34,37 @@ pub fn pan_digits(field: &[u8]) -> Result<Digits, PanFault>
     Ok(first_digits(field, count))
 }
 
+/// The object 5A of a primary account number: two digits a byte in the fewest bytes, an odd number of
+/// digits with the hexadecimal digit F behind (EMV 4.3 Book 3 Annex A).
+#[tactic(auto, unfolding(crate::specs::Pan::pan_field), using(crate::proofs::PanFields::read_back))]
+pub fn pan_field(digits: &Digits) -> ArrayVec<u8, 10>
+    ensures field { result.items ≡ field_of digits.now }
+    ensures read_again { HasPanLength digits.now → pan_of result.items ≡ Ok digits.now }
+{
+    let mut field = ArrayVec::new();
+    append_packed(&mut field, digits.as_slice());
+    field
+}
+
+/// Appends the digits two a byte, the last of an odd number with an F.
+#[tactic(auto, unfolding(crate::specs::Pan::pan_field))]
+fn append_packed(field: &mut ArrayVec<u8, 10>, digits: &[u8])
+    requires room { 2 * length field.old.items + length digits.now ≤ 19 }
+    requires decimal { AllDecimal digits.now }
+    ensures { field.new.items ≡ field.old.items ++ field_of digits.now }
+{
+    match digits {
+        [] => {}
+        [last] => field.push(*last * 16 + 15),
+        [high, low, rest @ ..] => {
+            field.push(*high * 16 + *low);
+            append_packed(field, rest);
+        }
+    }
+}
+
 /// Whether an account number of this profile has so many digits.
-fn is_pan_length(count: usize) -> bool
+pub fn is_pan_length(count: usize) -> bool
     ensures { result ≡ pan_length_test count }
 {
     13 <= count && count <= 16

@@ -70,40 +70,81 @@ fn dictionary_is_the_table_read_by_hand(rt: HostRuntime) {
     assert_eq!(rt; listed, 48);
 }
 
+/// EMV 4.3 Book 3 Annex C5, read by hand: the flag, the number of its byte and the byte with its bit.
+const RESULTS: [(Tvr, usize, u8); 22] = [
+    (Tvr::OFFLINE_DATA_AUTHENTICATION_NOT_PERFORMED, 1, 0x80),
+    (Tvr::ICC_DATA_MISSING, 1, 0x20),
+    (Tvr::EXCEPTION_FILE, 1, 0x10),
+    (Tvr::VERSIONS_DIFFER, 2, 0x80),
+    (Tvr::EXPIRED, 2, 0x40),
+    (Tvr::NOT_YET_EFFECTIVE, 2, 0x20),
+    (Tvr::SERVICE_NOT_ALLOWED, 2, 0x10),
+    (Tvr::NEW_CARD, 2, 0x08),
+    (Tvr::VERIFICATION_NOT_SUCCESSFUL, 3, 0x80),
+    (Tvr::UNRECOGNISED_CVM, 3, 0x40),
+    (Tvr::PIN_TRY_LIMIT_EXCEEDED, 3, 0x20),
+    (Tvr::PIN_PAD_NOT_PRESENT_OR_NOT_WORKING, 3, 0x10),
+    (Tvr::PIN_NOT_ENTERED, 3, 0x08),
+    (Tvr::ONLINE_PIN_ENTERED, 3, 0x04),
+    (Tvr::FLOOR_LIMIT_EXCEEDED, 4, 0x80),
+    (Tvr::LOWER_CONSECUTIVE_LIMIT_EXCEEDED, 4, 0x40),
+    (Tvr::UPPER_CONSECUTIVE_LIMIT_EXCEEDED, 4, 0x20),
+    (Tvr::RANDOMLY_SELECTED, 4, 0x10),
+    (Tvr::MERCHANT_FORCED_ONLINE, 4, 0x08),
+    (Tvr::ISSUER_AUTHENTICATION_FAILED, 5, 0x40),
+    (Tvr::SCRIPT_FAILED_BEFORE_FINAL_CRYPTOGRAM, 5, 0x20),
+    (Tvr::SCRIPT_FAILED_AFTER_FINAL_CRYPTOGRAM, 5, 0x10),
+];
+
+/// EMV 4.3 Book 3 Annex C6, read by hand: the flag and the two bytes.
+const INFORMATION: [(Tsi, [u8; 2]); 5] = [
+    (Tsi::CARDHOLDER_VERIFICATION, [0x40, 0]),
+    (Tsi::CARD_RISK_MANAGEMENT, [0x20, 0]),
+    (Tsi::ISSUER_AUTHENTICATION, [0x10, 0]),
+    (Tsi::TERMINAL_RISK_MANAGEMENT, [0x08, 0]),
+    (Tsi::SCRIPT_PROCESSING, [0x04, 0]),
+];
+
 #[test]
 fn flags_are_the_annexes_bits(rt: HostRuntime) {
-    let results = [
-        (
-            Tvr::OFFLINE_DATA_AUTHENTICATION_NOT_PERFORMED,
-            [0x80, 0, 0, 0, 0],
-        ),
-        (Tvr::ICC_DATA_MISSING, [0x20, 0, 0, 0, 0]),
-        (Tvr::EXCEPTION_FILE, [0x10, 0, 0, 0, 0]),
-        (Tvr::VERSIONS_DIFFER, [0, 0x80, 0, 0, 0]),
-        (Tvr::NEW_CARD, [0, 0x08, 0, 0, 0]),
-        (Tvr::ONLINE_PIN_ENTERED, [0, 0, 0x04, 0, 0]),
-        (Tvr::FLOOR_LIMIT_EXCEEDED, [0, 0, 0, 0x80, 0]),
-        (Tvr::MERCHANT_FORCED_ONLINE, [0, 0, 0, 0x08, 0]),
-        (Tvr::ISSUER_AUTHENTICATION_FAILED, [0, 0, 0, 0, 0x40]),
-        (
-            Tvr::SCRIPT_FAILED_AFTER_FINAL_CRYPTOGRAM,
-            [0, 0, 0, 0, 0x10],
-        ),
-    ];
-    for (bit, bytes) in results {
-        assert_eq!(rt; bit.bytes(), bytes);
-        assert_eq!(rt; Tvr::from_bytes(bytes), bit);
+    for (flag, number, byte) in RESULTS {
+        let mut bytes = [0; 5];
+        if let Some(place) = bytes.get_mut(number.saturating_sub(1)) {
+            *place = byte;
+        }
+        assert_eq!(rt; flag.bytes(), bytes, "byte {number}");
+        assert_eq!(rt; Tvr::from_bytes(bytes), flag);
+        assert!(rt; flag.meets(bytes) && !flag.meets([0; 5]));
+    }
+    for (flag, bytes) in INFORMATION {
+        assert_eq!(rt; flag.bytes(), bytes);
+        assert_eq!(rt; Tsi::from_bytes(bytes), flag);
     }
     let seen = Tvr::from_bytes([0x80, 0, 0x40, 0, 0]);
-    assert!(rt; seen.meets(&Tvr::from_bytes([0, 0, 0xC0, 0, 0])));
-    assert!(rt; !seen.meets(&Tvr::from_bytes([0x7F, 0xFF, 0xBF, 0xFF, 0xFF])));
-    for (bit, bytes) in [
-        (Tsi::CARDHOLDER_VERIFICATION, [0x40, 0]),
-        (Tsi::SCRIPT_PROCESSING, [0x04, 0]),
-    ] {
-        assert_eq!(rt; bit.bytes(), bytes);
-        assert_eq!(rt; Tsi::from_bytes(bytes), bit);
+    assert!(rt; seen.meets([0, 0, 0xC0, 0, 0]));
+    assert!(rt; !seen.meets([0x7F, 0xFF, 0xBF, 0xFF, 0xFF]));
+}
+
+#[test]
+fn kinds_and_amounts_are_bytes(rt: HostRuntime) {
+    for (kind, byte) in [(Kind::Aac, 0x00), (Kind::Tc, 0x40), (Kind::Arqc, 0x80)] {
+        assert_eq!(rt; kind.byte(), byte);
+        assert_eq!(rt; Kind::of(byte | 0x08), Some(kind));
     }
+    assert_eq!(rt; Kind::of(0xC0), None);
+    assert!(rt; Kind::Tc.is_above(Kind::Arqc) && Kind::Arqc.is_above(Kind::Aac));
+    assert!(rt; !Kind::Aac.is_above(Kind::Aac) && !Kind::Arqc.is_above(Kind::Tc));
+    for (amount, bytes) in [
+        (0, [0; 6]),
+        (2500, [0, 0, 0, 0, 0x25, 0]),
+        (123_456_789_012, [0x12, 0x34, 0x56, 0x78, 0x90, 0x12]),
+        (MOST_AMOUNT, [0x99; 6]),
+    ] {
+        assert_eq!(rt; amount_bytes(amount), bytes);
+        assert_eq!(rt; amount_of(bytes), amount);
+    }
+    assert_eq!(rt; amount_of([0, 0, 0, 0, 0, 0xFF]), 165);
+    assert!(rt; is_code([0x08, 0x40]) && !is_code([0x18, 0x40]) && !is_code([0x08, 0x4A]));
 }
 
 #[test]
@@ -118,6 +159,8 @@ fn account_numbers_are_read_up_to_their_filler(rt: HostRuntime) {
         pan_digits(thirteen),
         Ok(digits(&rt, &[4, 7, 6, 1, 7, 3, 9, 0, 0, 1, 0, 1, 0]))
     );
+    let thirteen_digits = digits(&rt, &[4, 7, 6, 1, 7, 3, 9, 0, 0, 1, 0, 1, 0]);
+    assert_eq!(rt; pan_field(&thirteen_digits).as_slice(), &thirteen[..7]);
     let refused: [(&[u8], PanFault); 6] = [
         (&[0x47, 0x61, 0x73, 0x90, 0x01, 0x01], PanFault::Length(12)),
         (

@@ -1,6 +1,6 @@
-ghost use Rattle.std.specs.Prelude.{⊤, ◌≡◌};
+ghost use Rattle.std.specs.Prelude.{⊤, ◌≡◌, ◌≢◌, ◌↔◌, ℕ, bit_and};
 ghost use Rattle.std.specs.Int.{to_be_bytes, w16};
-ghost use Rattle.emv_dict.specs.Flags.{tsi_bits};
+ghost use Rattle.emv_dict.specs.Flags.{tsi_bit, tsi_bits, IsWithin, StandsIn};
 
 use bitflags::{Flag, Flags, bitflag_items};
 
@@ -44,7 +44,10 @@ impl Flags for Tsi {
 impl Tsi {
     /// The two bytes of the data object 9B, its first byte first.
     pub fn bytes(&self) -> [u8; 2]
-        ensures { result ≡ to_be_bytes w16 self.now.0 }
+        ensures bytes { result ≡ to_be_bytes w16 self.now.0 }
+        // Each bit of each byte stands exactly where the number has the bit of that name.
+        ensures bits { (byte bit : ℕ) → IsWithin 1 2 byte → IsWithin 1 8 bit
+            → StandsIn result byte bit ↔ (bit_and self.now.0 (tsi_bit byte bit) ≢ 0) }
     {
         self.0.to_be_bytes()
     }

@@ -1,5 +1,5 @@
-ghost use Rattle.std.specs.Prelude.{⊤, ◌≡◌, ◌<◌, ◌^◌};
-ghost use Rattle.emv_dict.specs.Flags.{tvr_bits, tvr_bytes, have_common_bit};
+ghost use Rattle.std.specs.Prelude.{⊤, ◌≡◌, ◌≢◌, ◌<◌, ◌^◌, ◌↔◌, ℕ, bit_and};
+ghost use Rattle.emv_dict.specs.Flags.{tvr_bit, tvr_bits, tvr_bytes, IsWithin, StandsIn, have_common_bit};
 
 use bitflags::{Flag, Flags, bitflag_items};
 
@@ -61,7 +61,10 @@ impl Flags for Tvr {
 impl Tvr {
     /// The five bytes of the data object 95, its first byte first.
     pub fn bytes(&self) -> [u8; 5]
-        ensures { result ≡ tvr_bytes self.now.0 }
+        ensures bytes { result ≡ tvr_bytes self.now.0 }
+        // Each bit of each byte stands exactly where the number has the bit of that name.
+        ensures bits { (byte bit : ℕ) → IsWithin 1 5 byte → IsWithin 1 8 bit
+            → StandsIn result byte bit ↔ (bit_and self.now.0 (tvr_bit byte bit) ≢ 0) }
     {
         let all = self.0.to_be_bytes();
         [all[3], all[4], all[5], all[6], all[7]]
@@ -77,10 +80,12 @@ impl Tvr {
         Tvr(u64::from_be_bytes([0, 0, 0, a, b, c, d, e]))
     }
 
-    /// Whether some bit of the number stands in the action code too (EMV 4.3 Book 3 section 10.7).
-    pub fn meets(&self, code: &Tvr) -> bool
-        ensures { result ≡ have_common_bit self.now.0 code.now.0 }
+    /// Whether some bit of the results stands in the action code too (EMV 4.3 Book 3 section 10.7).
+    pub fn meets(&self, code: [u8; 5]) -> bool
+        ensures { result ≡ have_common_bit (tvr_bytes self.now.0) code }
     {
-        self.0 & code.0 != 0
+        let [a, b, c, d, e] = self.bytes();
+        let [v, w, x, y, z] = code;
+        a & v != 0 || b & w != 0 || c & x != 0 || d & y != 0 || e & z != 0
     }
 }
