@@ -1,5 +1,5 @@
 -- A card's totals by its history: they count over the whole list of its decisions.
-use Rattle.std.specs.Prelude.{ℕ, ◌+◌, ◌-◌, ◌==◌, Bool, false, ◌||◌, if◌then◌else◌, List, [], ◌∷◌, map, filter, filter_map, count_by, sum_by, Option, is_some, unwrap_or}
+use Rattle.std.specs.Prelude.{◌≡◌, ℕ, ◌+◌, ◌-◌, ◌==◌, Bool, false, ◌||◌, if◌then◌else◌, List, [], ◌∷◌, map, filter, filter_map, count_by, sum_by, Option, is_some, unwrap_or}
 use Rattle.std.specs.List.{list_any}
 use Rattle.card_state.specs.declared.decision.Decision.{Decision}
 use Rattle.card_state.specs.declared.state.AppState.{AppState}
@@ -64,3 +64,9 @@ totals opening ds = record {
   blocked = opening.blocked || list_any (λ d. blocks_card d.decision) ds;
   apps = record { items = apps_totals 0 opening.apps.items ds };
 }
+
+-- an application's state in which nothing is counted yet and no issuer authentication has failed
+pub record IsUnused (s : AppState) : Type 0 where
+  pub count : s.count ≡ 0
+  pub sum : s.sum ≡ 0
+  pub auth_failed : s.auth_failed ≡ false

@@ -1,4 +1,5 @@
-ghost use Rattle.std.specs.Prelude.{◌≡◌, ◌+◌, ◌<◌, [], ◌∷◌, ◌++◌, List, length, slice_get, slice_set, Some, ◌||◌};
+ghost use Rattle.std.specs.Prelude.{◌≡◌, ◌+◌, ◌^◌, ◌<◌, [], ◌∷◌, ◌++◌, List, length, slice_get, slice_set, Some, ◌||◌};
+ghost use Rattle.std.specs.List.{All};
 ghost use Rattle.std.specs.Option.{ForSome};
 ghost use Rattle.card_state.specs.declared.state.AppState.{AppState as App};
 ghost use Rattle.card_state.specs.declared.state.CardState.{CardState as Card};
@@ -7,6 +8,7 @@ ghost use Rattle.card_state.specs.Totals.{totals};
 ghost use Rattle.card_state.specs.declared.decision.Decision.TheVariants.{Script, Second};
 ghost use Rattle.card_state.specs.Change.{changed as changed_state, MayDecide, WithinLimits};
 ghost use Rattle.card_state.specs.Decisions.{Decided, blocks_card};
+ghost use Rattle.card_state.specs.Fits.{FitsFields};
 
 use crate::decision::{Decision, How, Scripted};
 use crate::state::{AppState, CardState};
@@ -24,6 +26,7 @@ pub fn apply(state: &mut CardState, app: u8, decision: &Decision)
     ensures card { state.new.blocked ≡ (state.old.blocked || blocks_card decision.now) }
     ensures app { (s : App) → slice_get state.old.apps.items app ≡ Some s
         → state.new.apps.items ≡ slice_set state.old.apps.items app (changed_state s decision.now) }
+    ensures fits { FitsFields decision.now }
 {
     change(state, app, decision);
 }
@@ -35,6 +38,7 @@ fn change(state: &mut CardState, app: u8, decision: &Decision)
     ensures card { state.new.blocked ≡ (state.old.blocked || blocks_card decision.now) }
     ensures app { (s : App) → slice_get state.old.apps.items app ≡ Some s
         → state.new.apps.items ≡ slice_set state.old.apps.items app (changed_state s decision.now) }
+    ensures fits { FitsFields decision.now }
 {
     let index = usize::from(app);
     state.blocked = is_blocked_after(state.blocked, decision);
@@ -51,7 +55,8 @@ fn is_blocked_after(blocked: bool, decision: &Decision) -> bool
 /// The state of an application after one more decision, which it has to allow.
 pub fn changed(app: &AppState, decision: &Decision) -> AppState
     requires { MayDecide app.now decision.now }
-    ensures { result ≡ changed_state app.now decision.now }
+    ensures changed { result ≡ changed_state app.now decision.now }
+    ensures fits { FitsFields decision.now }
 {
     match decision {
         Decision::Started => AppState {
@@ -120,7 +125,10 @@ fn decided(app: &AppState, kind: Kind, how: How, amount: u64) -> AppState
 
 /// The state with a new PIN, whose tries are restored to the limit.
 fn with_pin(app: &AppState, pin: [u8; 8], limit: u8) -> AppState
-    ensures { result ≡ record app.now { tries = limit; pin = pin } }
+    ensures changed { result ≡ record app.now { tries = limit; pin = pin } }
+    ensures limit { limit < 2 ^ 8 }
+    ensures size { length pin ≡ 8 }
+    ensures bytes { All (λ b. b < 2 ^ 8) pin }
 {
     AppState {
         tries: limit,
@@ -131,7 +139,8 @@ fn with_pin(app: &AppState, pin: [u8; 8], limit: u8) -> AppState
 
 /// The state after an issuer's script command.
 fn scripted(app: &AppState, command: &Scripted) -> AppState
-    ensures { result ≡ changed_state app.now (Script command.now) }
+    ensures changed { result ≡ changed_state app.now (Script command.now) }
+    ensures fits { FitsFields (Script command.now) }
 {
     match command {
         Scripted::Block => AppState {

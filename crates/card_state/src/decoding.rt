@@ -1,7 +1,11 @@
 ghost use Rattle.std.specs.Prelude.{◌≡◌, ◌+◌, ◌*◌, ◌≤◌, ◌↔◌, ◌∷◌, IsTrue, List, length, take, drop, flat_map, Some, IfSome};
 ghost use Rattle.std.specs.List.{All};
 ghost use Rattle.std.specs.Int.{from_be_bytes, w16, w64};
+ghost use Rattle.card_state.specs.Allowed.{Allowed};
+ghost use Rattle.card_state.specs.Decisions.{Decided};
 ghost use Rattle.card_state.specs.Encoding.{app_bytes, encoding, IsAppState, IsCardState};
+ghost use Rattle.card_state.specs.Fits.{AllFit};
+ghost use Rattle.card_state.specs.Totals.{totals};
 ghost use Rattle.card_state.specs.Layout.{fields_of, IsHead};
 ghost use Rattle.card_state.specs.declared.state.AppState.{AppState as App};
 ghost use Rattle.card_state.specs.declared.state.CardState.{CardState as Card};
@@ -11,6 +15,18 @@ use arrayvec::ArrayVec;
 
 /// The state whose encoding these bytes are, or `None` where they are the encoding of no state.
 pub fn decode(bytes: &[u8]) -> Option<CardState>
+    ensures reads { (state : Card) → IsCardState state → encoding state ≡ bytes.now → result ≡ Some state }
+    ensures bytes { IfSome result (λ state. encoding state ≡ bytes.now) }
+    // A state that was stored is read back, whatever its history: the totals of allowed decisions whose
+    // numbers fit their fields.
+    ensures stored { (opening : Card) (ds : List Decided) → IsCardState opening → Allowed opening ds → AllFit ds
+        → encoding (totals opening ds) ≡ bytes.now → result ≡ Some (totals opening ds) }
+{
+    read_state(bytes)
+}
+
+/// The state of these bytes.
+fn read_state(bytes: &[u8]) -> Option<CardState>
     ensures reads { (state : Card) → IsCardState state → encoding state ≡ bytes.now → result ≡ Some state }
     ensures bytes { IfSome result (λ state. encoding state ≡ bytes.now) }
 {

@@ -1,10 +1,7 @@
-use Rattle.std.proofs.Common.{◌≡◌, ◌≤◌, length, ap, arith}
-use Rattle.card_state.specs.Encoding.{encoding}
-use Rattle.card_state.proofs.Heads.{encoding_size}
+use Rattle.card_state.specs.Totals.{totals}
+use Rattle.card_state.proofs.Encodable.{totals-encodable}
 use Rattle.card_state.proofs.decoding.decode.Goals as goal
 
-pub returns-in_default-clause-reads : goal.returns-in_default-clause-reads
-returns-in_default-clause-reads c = λ state is same.
-    let least : 3 ≤ length (encoding state) = encoding_size state in
-    let sizes : length (encoding state) ≡ length c.args.bytes.now = ap length same in
-    absurd (omega arith)
+pub returns-clause-stored : goal.returns-clause-stored
+returns-clause-stored c opening ds opened allowed fit same =
+    c.read_state.ensures.reads (totals opening ds) (totals-encodable opening ds opened allowed fit) same
