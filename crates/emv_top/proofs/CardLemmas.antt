@@ -1,5 +1,5 @@
 -- A card that goes on by one command.
-use Rattle.std.proofs.Common.{◌≡◌, ℕ, List, [], ◌∷◌, ◌++◌, Some, None, refl, ap, sym, ◌∙◌, arith}
+use Rattle.std.proofs.Common.{◌≡◌, ℕ, List, [], ◌∷◌, ◌++◌, Some, None, ap, sym, ◌∙◌, arith}
 use Rattle.std.specs.declared.option.Option.{Option}
 use Rattle.std.proofs.lemmas.List.{append-nil}
 use Rattle.apdu_core.specs.Response.{response_bytes}
@@ -9,7 +9,7 @@ use Rattle.card_state.specs.declared.decision.Decision.{Decision}
 use Rattle.card_state.specs.declared.state.AppState.{AppState}
 use Rattle.card_state.proofs.TotalsLemmas.{totals-push}
 use Rattle.emv_top.specs.CardApp.{ReplyData, reply_in, card_reply, card_answer, opening_state}
-use Rattle.emv_top.specs.CardSession.{Exchange, event_of, phase_of}
+use Rattle.emv_top.specs.CardSession.{Exchange, event_of}
 use Rattle.emv_top.specs.Form.{FormData}
 use Rattle.emv_top.specs.PhaseAfter.{phase_after}
 use Rattle.emv_top.specs.SeenCard.{CardStands, IsReply, decisions_in, state_decided}

@@ -1,12 +1,11 @@
 -- An object that is put behind those of lower tags.
-use Rattle.std.proofs.Common.{◌≡◌, ℕ, ◌+◌, ◌*◌, ◌<◌, ◌≤◌, List, [], ◌∷◌, ◌++◌, length, Bool, true, false, Option, None, Result, Ok, refl, ap, arith}
-use Rattle.std.specs.Prelude.{◌==◌, nat_lt, nat_le, is_some, if◌then◌else◌}
+use Rattle.std.proofs.Common.{◌≡◌, ℕ, ◌+◌, ◌*◌, ◌<◌, ◌≤◌, List, [], ◌∷◌, ◌++◌, length, false, None, Ok, refl, ap, arith}
+use Rattle.std.specs.Prelude.{◌==◌, nat_lt, nat_le}
 use Rattle.std.specs.List.{AllByRecursion}
 use Rattle.std.proofs.lemmas.Bool.Decides.{nat_tests}
 use Rattle.std.proofs.lemmas.List.Sums.{sum_by-cons}
 use Rattle.env_map.specs.Entries.{Entries, value_of, with_entry, size_of_values}
 use Rattle.env_map.specs.Put.{put_of}
-use Rattle.env_map.specs.declared.env.EnvFault.{EnvFault}
 
 -- each tag is below this one
 abbrev AllBelow : ℕ → Entries → Type 0

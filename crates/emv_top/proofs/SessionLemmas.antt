@@ -1,10 +1,9 @@
 -- A session with one more exchange.
-use Rattle.std.proofs.Common.{◌≡◌, ℕ, List, [], ◌∷◌, ◌++◌, Bool, true, false, Some, None, refl, ap, sym, ◌∙◌}
+use Rattle.std.proofs.Common.{◌≡◌, List, [], ◌∷◌, ◌++◌, Bool, true, false, Some, None, refl, ap, ◌∙◌}
 use Rattle.std.specs.Prelude.{if◌then◌else◌}
 use Rattle.std.specs.declared.option.Option.{Option}
 use Rattle.emv_top.specs.CardSession.{Exchange, event_of, is_selection, is_start, made, or_here, or_later, behind_last, behind_first, first_made, phase_made, phase_started, phase_selected, phase_of}
-use Rattle.emv_top.specs.PhaseAfter.{phase_after, phase_after_start, phase_after_cryptogram}
-use Rattle.emv_top.specs.declared.phase.Phase.{Phase}
+use Rattle.emv_top.specs.PhaseAfter.{phase_after}
 use Rattle.emv_top.specs.declared.phase.Event.{Event}
 use Rattle.emv_top.specs.declared.phase.Event.TheVariants.{Selection, Start, Cryptogram}
 

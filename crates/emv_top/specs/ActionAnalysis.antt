@@ -1,5 +1,6 @@
 -- Terminal action analysis (EMV 4.3 Book 3 section 10.7) of a terminal that never goes online.
-use Rattle.std.specs.Prelude.{ℕ, List, [], ◌∷◌, ◌==◌, ◌||◌, not, Bool, false, length, replicate, Option, Some, None, bit_and, bit_or, if◌then◌else◌}
+use Rattle.std.specs.Prelude.{ℕ, List, [], ◌∷◌, ◌==◌, length, replicate, Option, Some, None, bit_or, if◌then◌else◌}
+use Rattle.emv_dict.specs.Flags.{have_common_bit}
 use Rattle.emv_dict.specs.declared.ending.Kind.{Kind}
 use Rattle.emv_dict.specs.declared.ending.Kind.TheVariants.{Aac, Tc}
 use Rattle.env_map.specs.Entries.{Entries, value_of}
@@ -15,12 +16,6 @@ unfoldable pub joined : List ℕ → List ℕ → List ℕ
 joined [] bs = []
 joined (a ∷ more) [] = []
 joined (a ∷ more) (b ∷ bs) = bit_or a b ∷ joined more bs
-
--- whether some bit stands in both
-unfoldable pub have_common_bit : List ℕ → List ℕ → Bool
-have_common_bit [] bs = false
-have_common_bit (a ∷ more) [] = false
-have_common_bit (a ∷ more) (b ∷ bs) = not (bit_and a b == 0) || have_common_bit more bs
 
 -- the action codes of issuer and terminal together: an absent denial code (9F0E) denies nothing, an
 -- absent default code (9F0D) has all bits

@@ -1,5 +1,5 @@
 -- The card's first cryptogram (EMV 4.3 Book 2 section 8.1, Book 3 section 6.5.5).
-use Rattle.std.specs.Prelude.{ℕ, List, [], ◌∷◌, ◌++◌, ◌+◌, ◌*◌, ◌==◌, not, Bool, false, length, take, drop, replicate, slice_index, Option, Some, None, if◌then◌else◌}
+use Rattle.std.specs.Prelude.{ℕ, List, [], ◌∷◌, ◌++◌, ◌%◌, ◌==◌, ◌&&◌, false, take, drop, replicate, slice_index, Option, Some, None, if◌then◌else◌}
 use Rattle.std.specs.Int.{to_be_bytes, w16}
 use Rattle.std.specs.Str.{bytes_eq}
 use Rattle.app_cryptogram.specs.Cryptograms.{ac_of}
@@ -12,27 +12,16 @@ use Rattle.card_state.specs.Encoding.{flags_of}
 use Rattle.card_state.specs.declared.decision.Decision.{Decision}
 use Rattle.card_state.specs.declared.decision.Decision.TheVariants.{First}
 use Rattle.card_state.specs.declared.state.AppState.{AppState}
-use Rattle.emv_dict.specs.Nibbles.{nibbles}
+use Rattle.emv_dict.specs.Bcd.{number_in}
+use Rattle.emv_dict.specs.Kinds.{kind_byte, kind_of}
 use Rattle.emv_dict.specs.declared.ending.Kind.{Kind}
-use Rattle.emv_dict.specs.declared.ending.Kind.TheVariants.{Aac, Tc, Arqc}
 use Rattle.object_lists.specs.DolEntries.{DolEntry, place_of}
 use Rattle.emv_top.specs.CardPolicy.{first_of}
 use Rattle.emv_top.specs.Payment.{PayData}
 
--- the kind in P1 and in the cryptogram information data
-abbrev pub kind_byte : Kind → ℕ
-kind_byte Aac = 0x00
-kind_byte Tc = 0x40
-kind_byte Arqc = 0x80
-
--- the kind that P1 asks for, with P2 00
+-- the kind that P1 asks for with its two high bits, the others and P2 zero
 abbrev pub kind_asked : ℕ → ℕ → Option Kind
-kind_asked p1 p2 =
-    if not (p2 == 0) then None
-    else if p1 == 0x00 then Some Aac
-    else if p1 == 0x40 then Some Tc
-    else if p1 == 0x80 then Some Arqc
-    else None
+kind_asked p1 p2 = if (p2 == 0) && (p1 % 64 == 0) then kind_of p1 else None
 
 -- the data of the first entry of this tag and length
 abbrev pub data_from : ℕ → List ℕ → Option ℕ → List ℕ
@@ -42,20 +31,12 @@ data_from count filled (Some place) = take count (drop place filled)
 unfoldable pub data_at : ℕ → ℕ → List DolEntry → List ℕ → List ℕ
 data_at tag count dol filled = data_from count filled (place_of tag count dol)
 
--- the number of decimal digits, the first digit the highest; each byte has two of them
-abbrev pub number_from : ℕ → List ℕ → ℕ
-number_from before [] = before
-number_from before (digit ∷ digits) = number_from (before * 10 + digit) digits
-
-unfoldable pub amount_of : List ℕ → ℕ
-amount_of bytes = number_from 0 (nibbles bytes)
-
 -- the card's own currency
 abbrev pub own_currency : List ℕ
 own_currency = 0x08 ∷ 0x40 ∷ []
 
 abbrev pub own_amount : PayData → List ℕ → ℕ
-own_amount pay filled = amount_of (data_at 0x9F02 6 pay.cdol1 filled)
+own_amount pay filled = number_in (data_at 0x9F02 6 pay.cdol1 filled)
 
 -- the kind that the card makes, by the amount and the currency of the data
 unfoldable pub first_kind : PayData → AppState → Kind → List ℕ → Kind

@@ -15,7 +15,7 @@ use Rattle.object_lists.specs.Filled.{dol_data}
 use Rattle.object_lists.specs.declared.dol.DolFault.{DolFault}
 use Rattle.report_text.specs.declared.line.EndParts.{EndParts}
 use Rattle.emv_top.specs.ActionAnalysis.{wanted}
-use Rattle.emv_top.specs.CardCryptogram.{kind_byte}
+use Rattle.emv_dict.specs.Kinds.{kind_byte}
 use Rattle.emv_top.specs.Marks.{Mark, AcData, IsRead, IsAsked, IsAnswered, tvr_bytes, parts_of}
 use Rattle.emv_top.specs.OnlineStep.{ac_read}
 use Rattle.emv_top.specs.Select.{opening}

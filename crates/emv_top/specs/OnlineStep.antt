@@ -1,5 +1,5 @@
 -- What an answer to GENERATE AC says (EMV 4.3 Book 3 sections 6.5.5.4 and 10.8): format 1.
-use Rattle.std.specs.Prelude.{ℕ, ◌+◌, ◌*◌, ◌/◌, ◌==◌, ◌&&◌, not, Bool, true, false, nat_le, List, [], ◌∷◌, length, take, drop, slice_index, Option, Some, None, Result, Ok, Err, if◌then◌else◌}
+use Rattle.std.specs.Prelude.{ℕ, ◌==◌, ◌&&◌, Bool, true, false, nat_le, List, length, take, drop, slice_index, Option, Some, None, Result, Ok, Err, if◌then◌else◌}
 use Rattle.std.specs.Int.{from_be_bytes, w16}
 use Rattle.apdu_core.specs.Response.{ResponseData, response_of}
 use Rattle.ber_tlv.specs.Item.{ItemData}
@@ -7,18 +7,11 @@ use Rattle.ber_tlv.specs.Left.{items_of, fault_of}
 use Rattle.ber_tlv.specs.declared.item.TlvFault.{TlvFault}
 use Rattle.emv_dict.specs.declared.ending.Cause.{Cause}
 use Rattle.emv_dict.specs.declared.ending.Cause.TheVariants.{Answer, Status, Coding, Value, Kind as WrongKind}
+use Rattle.emv_dict.specs.Kinds.{kind_of}
 use Rattle.emv_dict.specs.declared.ending.Kind.{Kind}
 use Rattle.emv_dict.specs.declared.ending.Kind.TheVariants.{Aac, Tc, Arqc}
 use Rattle.emv_top.specs.Marks.{AcData}
 use Rattle.emv_top.specs.Templates.{sole_value, place_or_zero}
-
--- the two high bits of the cryptogram information data
-abbrev pub kind_in : ℕ → Option Kind
-kind_in information =
-    if information / 64 == 0 then Some Aac
-    else if information / 64 == 1 then Some Tc
-    else if information / 64 == 2 then Some Arqc
-    else None
 
 -- a terminal that never goes online takes a decline, and an approval where it asked for one
 abbrev pub may_answer : Kind → Kind → Bool
@@ -39,7 +32,7 @@ ac_of_kind asked value (Some kind) =
 abbrev pub ac_value : Kind → Option (List ℕ) → Result (List ItemData) TlvFault → Result AcData Cause
 ac_value asked None items = Err (Coding (place_or_zero (fault_of items)))
 ac_value asked (Some value) items =
-    if nat_le 11 (length value) && nat_le (length value) 43 then ac_of_kind asked value (kind_in (slice_index value 0))
+    if nat_le 11 (length value) && nat_le (length value) 43 then ac_of_kind asked value (kind_of (slice_index value 0))
     else Err (Value (record { 0 = 0x80 }))
 
 unfoldable pub ac_in : Kind → List ℕ → Result AcData Cause

@@ -1,6 +1,5 @@
 -- The phase of a card after one more exchange.
-use Rattle.std.specs.Prelude.{true, false, Option, Some, None, if◌then◌else◌}
-use Rattle.emv_top.specs.CardSession.{phase_made}
+use Rattle.std.specs.Prelude.{Option, Some, None, if◌then◌else◌}
 use Rattle.emv_top.specs.declared.phase.Phase.{Phase}
 use Rattle.emv_top.specs.declared.phase.Phase.TheVariants.{Idle, Selected, Started, Online, Closed}
 use Rattle.emv_top.specs.declared.phase.Event.{Event}

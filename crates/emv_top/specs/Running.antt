@@ -7,7 +7,7 @@ use Rattle.card_state.specs.declared.state.AppState.{AppState}
 use Rattle.emv_ports.specs.Growth.{AppendsFront}
 use Rattle.emv_top.specs.CardSession.{Exchange}
 use Rattle.emv_top.specs.Complete.{Complete}
-use Rattle.emv_top.specs.Dialogue.{Dealing, dialogue}
+use Rattle.emv_top.specs.Dialogue.{dialogue}
 use Rattle.emv_top.specs.Form.{FormData}
 use Rattle.emv_top.specs.Run.{Reached, replies, exchange_text, session_text}
 use Rattle.emv_top.specs.SeenCard.{CardStands}

@@ -1,6 +1,6 @@
 -- Selection to the end of reading in its course, as a contract sees it: what the terminal does with
 -- further answers.
-use Rattle.std.specs.Prelude.{ℕ, List, ◌+◌, ◌-◌, ⊤}
+use Rattle.std.specs.Prelude.{ℕ, List, ◌+◌, ◌-◌}
 use Rattle.emv_top.specs.Initiate.{initiating}
 use Rattle.emv_top.specs.Reading.{reading}
 use Rattle.emv_top.specs.SeenReading.{left_of, steps_of}

@@ -1,12 +1,13 @@
 //! Terminal action analysis (EMV 4.3 Book 3 section 10.7) of a terminal that never goes online.
 ghost use Rattle.std.specs.Prelude.{◌≡◌};
 ghost use Rattle.std.specs.Option.{option_map};
+ghost use Rattle.emv_dict.specs.Flags.{tvr_bytes};
 ghost use Rattle.env_map.specs.Entries.{value_of};
-ghost use Rattle.emv_top.specs.ActionAnalysis.{wanted as wanted_kind, joined as joined_codes, have_common_bit as common_bit, given_code as code_given, denial_of, default_of};
+ghost use Rattle.emv_top.specs.ActionAnalysis.{wanted as wanted_kind, joined as joined_codes, given_code as code_given, denial_of, default_of};
 ghost use Rattle.emv_top.specs.Profile.{denial_code, default_code};
 
 use ber_tlv::Tag;
-use emv_dict::Kind;
+use emv_dict::{Kind, Tvr};
 use env_map::Env;
 
 /// The terminal's own action codes: denial and default.
@@ -14,16 +15,15 @@ const DENIAL: [u8; 5] = [0x00, 0x10, 0x00, 0x00, 0x00];
 
 const DEFAULT: [u8; 5] = [0x70, 0x68, 0xbc, 0xf8, 0x00];
 
-/// The kind of cryptogram that the terminal asks for: `tvr` are the bytes of its verification results,
-/// `card` the objects of the card, among them the issuer's action codes.
+/// The kind of cryptogram that the terminal asks for: `tvr` are its verification results, `card` the objects of the card, among them the issuer's action codes.
 #[tactic(auto, unfolding(crate::specs::ActionAnalysis::wanted))]
-pub fn wanted(tvr: [u8; 5], card: &Env) -> Kind
-    ensures { result ≡ wanted_kind tvr card.now }
+pub fn wanted(tvr: Tvr, card: &Env) -> Kind
+    ensures { result ≡ wanted_kind (tvr_bytes tvr.0) card.now }
 {
-    if have_common_bit(tvr, denial_code(card)) {
+    if tvr.meets(denial_code(card)) {
         return Kind::Aac;
     }
-    if have_common_bit(tvr, default_code(card)) {
+    if tvr.meets(default_code(card)) {
         return Kind::Aac;
     }
     Kind::Tc
@@ -61,14 +61,4 @@ fn joined(first: [u8; 5], second: [u8; 5]) -> [u8; 5]
     let [a, b, c, d, e] = first;
     let [f, g, h, i, j] = second;
     [a | f, b | g, c | h, d | i, e | j]
-}
-
-/// Whether some bit stands in both.
-#[tactic(auto, unfolding(crate::specs::ActionAnalysis::have_common_bit))]
-fn have_common_bit(first: [u8; 5], second: [u8; 5]) -> bool
-    ensures { result ≡ common_bit first second }
-{
-    let [a, b, c, d, e] = first;
-    let [f, g, h, i, j] = second;
-    a & f != 0 || b & g != 0 || c & h != 0 || d & i != 0 || e & j != 0
 }

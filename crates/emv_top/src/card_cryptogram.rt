@@ -5,7 +5,7 @@ ghost use Rattle.arrayvec.specs.ArrayVec.{array_vec_len};
 ghost use Rattle.card_state.specs.Change.{MayDecide};
 ghost use Rattle.object_lists.specs.DolEntries.{total_of};
 ghost use Rattle.emv_top.specs.CardApp.{cryptogram_row, cryptogram_for};
-ghost use Rattle.emv_top.specs.CardCryptogram.{kind_byte, kind_asked, data_at, amount_of, first_kind, decision_for, body_for, iad_of, ac_fields, cryptogram_body, card_key};
+ghost use Rattle.emv_top.specs.CardCryptogram.{kind_asked, data_at, first_kind, decision_for, body_for, iad_of, ac_fields, cryptogram_body, card_key};
 ghost use Rattle.emv_top.specs.SeenCard.{IsReply};
 ghost use Rattle.emv_top.specs.SeenForm.{seen_form};
 ghost use Rattle.emv_top.specs.SeenPayment.{seen_payment};
@@ -21,36 +21,21 @@ use arrayvec::ArrayVec;
 use ber_tlv::Tag;
 use card_keys::{master_key, session_ac};
 use card_state::{AppState, Decision, changed, flags};
-use emv_dict::Kind;
+use emv_dict::{Kind, amount_of};
 use object_lists::{Dol, place, total};
 use triple_des::Key16;
 
 /// The application's currency: US dollars.
 const CURRENCY: [u8; 2] = [0x08, 0x40];
 
-/// The kind in P1 of GENERATE AC and in the cryptogram information data.
-pub fn kind_byte(kind: Kind) -> u8
-    ensures { result ≡ kind_byte kind }
-{
-    match kind {
-        Kind::Aac => 0x00,
-        Kind::Tc => 0x40,
-        Kind::Arqc => 0x80,
-    }
-}
-
-/// The kind that P1 asks for, with P2 00.
+/// The kind that P1 asks for with its two high bits, the others and P2 zero.
 fn kind_asked(p1: u8, p2: u8) -> Option<Kind>
     ensures { result ≡ kind_asked p1 p2 }
 {
-    if p2 != 0x00 {
-        return None;
-    }
-    match p1 {
-        0x00 => Some(Kind::Aac),
-        0x40 => Some(Kind::Tc),
-        0x80 => Some(Kind::Arqc),
-        _ => None,
+    if p2 == 0 && p1 % 64 == 0 {
+        Kind::of(p1)
+    } else {
+        None
     }
 }
 
@@ -162,13 +147,7 @@ fn write_cryptogram(
     put(
         out,
         Tag(0x80),
-        joined(
-            kind_byte(kind),
-            state.counter.to_be_bytes(),
-            cryptogram,
-            iad,
-        )
-        .as_slice(),
+        joined(kind.byte(), state.counter.to_be_bytes(), cryptogram, iad).as_slice(),
     );
 }
 
@@ -210,7 +189,7 @@ fn issuer_data(kind: Kind, state: &AppState) -> [u8; 6]
 {
     [
         0x01,
-        kind_byte(kind),
+        kind.byte(),
         flags(state),
         state.count,
         state.tries,
@@ -251,25 +230,4 @@ fn field<const N: usize>(dol: &Dol, tag: Tag, filled: &[u8]) -> [u8; N]
         bytes.copy_from_slice(&filled[start..start + N]);
     }
     bytes
-}
-
-/// The number of twelve digits, two a byte; a half byte above 9 counts as its value.
-#[tactic(auto, unfolding(crate::specs::CardCryptogram::amount_of, emv_dict::specs::Nibbles::nibbles))]
-fn amount_of(bytes: [u8; 6]) -> u64
-    ensures { result ≡ amount_of bytes }
-{
-    let [a, b, c, d, e, f] = bytes;
-    two_digits(a) * 10_000_000_000
-        + two_digits(b) * 100_000_000
-        + two_digits(c) * 1_000_000
-        + two_digits(d) * 10_000
-        + two_digits(e) * 100
-        + two_digits(f)
-}
-
-fn two_digits(byte: u8) -> u64
-    ensures value { result ≡ byte / 16 * 10 + byte % 16 }
-    ensures small { result ≤ 165 }
-{
-    u64::from(byte / 16 * 10 + byte % 16)
 }

@@ -1,11 +1,10 @@
 //! The values of a card's objects that are tried once the records are read (EMV 4.3 Book 3 Annex A).
 ghost use Rattle.std.specs.Prelude.{◌≡◌, ℕ, List, map, option_map};
-ghost use Rattle.emv_dict.specs.Date.{has_digits as digits_test};
 ghost use Rattle.emv_top.specs.Checked.{checked, first_wrong, passes, passes_if_there, wrong_cause, is_object_list as list_test};
 ghost use Rattle.emv_top.specs.SeenChecked.{seen_row};
 
 use ber_tlv::Tag;
-use emv_dict::{Cause, Date, pan_digits};
+use emv_dict::{Cause, Date, has_digits, is_code, pan_digits};
 use env_map::Env;
 use object_lists::read_dol;
 
@@ -88,7 +87,7 @@ fn passes(check: Check, value: &[u8]) -> bool
     match check {
         Check::AccountNumber => pan_digits(value).is_ok(),
         Check::Day => is_day(value),
-        Check::Code => is_code(value),
+        Check::Code => is_country_or_currency(value),
         Check::TwoDigits => is_two_digits(value),
         Check::ObjectList => is_object_list(value),
         Check::VerificationList => value.len() >= 8 && value.len() % 2 == 0,
@@ -105,11 +104,11 @@ fn is_day(value: &[u8]) -> bool
     }
 }
 
-fn is_code(value: &[u8]) -> bool
+fn is_country_or_currency(value: &[u8]) -> bool
     ensures { result ≡ passes Check.Code value.now }
 {
     match value {
-        [first, second] => *first <= 9 && has_digits(*second),
+        [first, second] => is_code([*first, *second]),
         _ => false,
     }
 }
@@ -121,13 +120,6 @@ fn is_two_digits(value: &[u8]) -> bool
         [byte] => has_digits(*byte),
         _ => false,
     }
-}
-
-/// Whether both halves of the byte are decimal digits.
-fn has_digits(byte: u8) -> bool
-    ensures { result ≡ digits_test byte }
-{
-    byte / 16 <= 9 && byte % 16 <= 9
 }
 
 fn is_object_list(value: &[u8]) -> bool

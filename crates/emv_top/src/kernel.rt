@@ -9,7 +9,6 @@ ghost use Rattle.emv_top.specs.SeenKernel.{dealing_of, is_asking, rank_of};
 ghost use Rattle.emv_top.specs.SeenOpening.{told_next, rank_next};
 
 use crate::action_analysis::wanted;
-use crate::card_cryptogram::kind_byte;
 use crate::online_step::{Ac, read_ac};
 use crate::opening::{Opening, OpeningNext};
 use crate::terminal_data::{NO_VERIFICATION, code_for, results_read, terminal_data};
@@ -159,7 +158,7 @@ fn begin_first<'a>(aid: &[u8], amount: u64, card: &Env) -> Kernel<'a>
     ensures told { (later : List (List ℕ)) → dealing_of result later ≡ paying aid.now amount card.now later }
     ensures left { rank_of result ≤ 1 }
 {
-    let kind = wanted(results_read().bytes(), card);
+    let kind = wanted(results_read(), card);
     let dol = first_list(card);
     let terminal = terminal_data(aid, amount, kind);
     let mut filled = ArrayVec::new();
@@ -207,7 +206,7 @@ fn generate_command(kind: Kind, filled: &[u8]) -> Out
     let command = Command {
         class: 0x80,
         ins: 0xae,
-        p1: kind_byte(kind),
+        p1: kind.byte(),
         p2: 0x00,
         body: filled,
         expects: Some(0),

@@ -1,6 +1,7 @@
 //! The card's answer to GENERATE AC (EMV 4.3 Book 3 sections 6.5.5 and 10.8), in format 1.
 ghost use Rattle.std.specs.Prelude.{◌≡◌, ◌≤◌, length, slice_index, Ok, Err, MatchResult};
-ghost use Rattle.emv_top.specs.OnlineStep.{ac_read, ac_in, ac_of_kind, kind_in, may_answer};
+ghost use Rattle.emv_dict.specs.Kinds.{kind_of};
+ghost use Rattle.emv_top.specs.OnlineStep.{ac_read, ac_in, ac_of_kind, may_answer};
 ghost use Rattle.emv_top.specs.SeenAc.{seen_ac};
 
 use crate::templates::{place_or_zero, sole_value};
@@ -54,31 +55,19 @@ fn read_body(body: &[u8], asked: Kind) -> Result<Ac, Cause>
 /// The kind must be one that may answer the one asked for.
 fn read_value(value: &[u8], asked: Kind) -> Result<Ac, Cause>
     requires { 11 ≤ length value.now }
-    ensures { let read = ac_of_kind asked value.now (kind_in (slice_index value.now 0)) in
+    ensures { let read = ac_of_kind asked value.now (kind_of (slice_index value.now 0)) in
         MatchResult result (λ ac. read ≡ Ok (seen_ac ac)) (λ cause. read ≡ Err cause) }
 {
     let [information, high, low, a, b, c, d, e, f, g, h, ..] = value else {
         unreachable!();
     };
-    match kind_in(*information) {
+    match Kind::of(*information) {
         Some(kind) if may_answer(asked, kind) => Ok(Ac {
             kind,
             counter: u16::from_be_bytes([*high, *low]),
             cryptogram: [*a, *b, *c, *d, *e, *f, *g, *h],
         }),
         _ => Err(Cause::Kind(*information)),
-    }
-}
-
-/// The kind in the two high bits of the cryptogram information data.
-fn kind_in(information: u8) -> Option<Kind>
-    ensures { result ≡ kind_in information }
-{
-    match information / 64 {
-        0 => Some(Kind::Aac),
-        1 => Some(Kind::Tc),
-        2 => Some(Kind::Arqc),
-        _ => None,
     }
 }
 
