@@ -1,3 +1,5 @@
+pub mod Added
+pub mod Below
 pub mod Boxes
 pub mod ByteLists
 pub mod Bytes

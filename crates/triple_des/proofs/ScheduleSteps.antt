@@ -6,7 +6,7 @@ use Rattle.triple_des.specs.declared.tables.TheConstants.{SHIFTS}
 use Rattle.triple_des.specs.Bits.{bits, pick, bits_of}
 use Rattle.triple_des.specs.Tables.{shift_table, first_choice_table, second_choice_table}
 use Rattle.triple_des.specs.Des.{turned, schedule, round_keys}
-use Rattle.triple_des.proofs.Boxes.{all_below, below_at}
+use Rattle.triple_des.proofs.Below.{all_below, below_at}
 use Rattle.triple_des.proofs.Words.{bits_cat, bits_mod}
 use Rattle.triple_des.proofs.Halves.{take-bits, drop-bits}
 
