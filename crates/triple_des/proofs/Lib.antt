@@ -6,7 +6,7 @@ pub mod Bytes
 pub mod ChainSteps
 pub mod Ciphered
 pub mod Halves
-pub mod Picks
+pub mod Nibbles
 pub mod ScheduleSteps
 pub mod Undone
 pub mod WordRounds

@@ -6,7 +6,7 @@ ghost use Rattle.triple_des.specs.Bits.{bits, pick};
 ghost use Rattle.triple_des.specs.Tables.{box_tables, permutation_table};
 ghost use Rattle.triple_des.specs.Des.{selected, placed, cipher_function, rounds, cipher, enciphered};
 
-use crate::permuting::permute;
+use crate::permuting::permute_by;
 use crate::tables::{FINAL, INITIAL, MERGED};
 
 /// P of the 32 bits in which the four that a selection function gives for six (FIPS 46-3) stand at their
@@ -61,9 +61,9 @@ fn run_rounds(keys: &[u64], left: u32, right: u32) -> (u32, u32)
 fn encipher_word(keys: &[u64], block: u64) -> u64
     ensures { bits 64 result ≡ cipher (map (bits 48) keys.now) (bits 64 block) }
 {
-    let start = permute(block, 64, &INITIAL);
+    let start = permute_by(&INITIAL, block);
     let (left, right) = run_rounds(keys, (start >> 32) as u32, (start % (1 << 32)) as u32);
-    permute(u64::from(right) * (1 << 32) + u64::from(left), 64, &FINAL)
+    permute_by(&FINAL, u64::from(right) * (1 << 32) + u64::from(left))
 }
 
 /// A block enciphered under round keys, of which the lowest 48 bits count.

@@ -1,30 +1,115 @@
-//! The tables of FIPS 46-3. Bits are numbered from 1 at the left.
+//! The tables of FIPS 46-3, in the form in which words are looked up. Bits are numbered from 1 at the left.
 
-/// IP, the initial permutation.
-pub const INITIAL: [u8; 64] = [
-    58, 50, 42, 34, 26, 18, 10, 2, 60, 52, 44, 36, 28, 20, 12, 4, 62, 54, 46, 38, 30, 22, 14, 6,
-    64, 56, 48, 40, 32, 24, 16, 8, 57, 49, 41, 33, 25, 17, 9, 1, 59, 51, 43, 35, 27, 19, 11, 3, 61,
-    53, 45, 37, 29, 21, 13, 5, 63, 55, 47, 39, 31, 23, 15, 7,
+/// The bit of a word of so many bits that stands at a place; no bit at place 0.
+macro_rules! bit {
+    ($width:expr, 0) => { 0 };
+    ($width:expr, $place:expr) => { 1 << ($width - $place) };
+}
+
+/// For each value of four bits the word into which a permutation takes them, from the place that each of
+/// the four is taken to, or 0 where it is left out.
+macro_rules! nibble {
+    ($width:expr; $first:tt, $second:tt, $third:tt, $fourth:tt) => {
+        nibble!(bit!($width, $first), bit!($width, $second), bit!($width, $third), bit!($width, $fourth))
+    };
+    ($first:expr, $second:expr, $third:expr, $fourth:expr) => {
+        [
+            0,
+            $fourth,
+            $third,
+            $third | $fourth,
+            $second,
+            $second | $fourth,
+            $second | $third,
+            $second | $third | $fourth,
+            $first,
+            $first | $fourth,
+            $first | $third,
+            $first | $third | $fourth,
+            $first | $second,
+            $first | $second | $fourth,
+            $first | $second | $third,
+            $first | $second | $third | $fourth,
+        ]
+    };
+}
+
+/// IP, the initial permutation of a block.
+pub static INITIAL: [[u64; 16]; 16] = [
+    nibble!(64; 40, 8, 48, 16),
+    nibble!(64; 56, 24, 64, 32),
+    nibble!(64; 39, 7, 47, 15),
+    nibble!(64; 55, 23, 63, 31),
+    nibble!(64; 38, 6, 46, 14),
+    nibble!(64; 54, 22, 62, 30),
+    nibble!(64; 37, 5, 45, 13),
+    nibble!(64; 53, 21, 61, 29),
+    nibble!(64; 36, 4, 44, 12),
+    nibble!(64; 52, 20, 60, 28),
+    nibble!(64; 35, 3, 43, 11),
+    nibble!(64; 51, 19, 59, 27),
+    nibble!(64; 34, 2, 42, 10),
+    nibble!(64; 50, 18, 58, 26),
+    nibble!(64; 33, 1, 41, 9),
+    nibble!(64; 49, 17, 57, 25),
 ];
 
-/// The inverse of IP, the final permutation.
-pub const FINAL: [u8; 64] = [
-    40, 8, 48, 16, 56, 24, 64, 32, 39, 7, 47, 15, 55, 23, 63, 31, 38, 6, 46, 14, 54, 22, 62, 30,
-    37, 5, 45, 13, 53, 21, 61, 29, 36, 4, 44, 12, 52, 20, 60, 28, 35, 3, 43, 11, 51, 19, 59, 27,
-    34, 2, 42, 10, 50, 18, 58, 26, 33, 1, 41, 9, 49, 17, 57, 25,
+/// The inverse of IP, the final permutation of a block.
+pub static FINAL: [[u64; 16]; 16] = [
+    nibble!(64; 58, 50, 42, 34),
+    nibble!(64; 26, 18, 10, 2),
+    nibble!(64; 60, 52, 44, 36),
+    nibble!(64; 28, 20, 12, 4),
+    nibble!(64; 62, 54, 46, 38),
+    nibble!(64; 30, 22, 14, 6),
+    nibble!(64; 64, 56, 48, 40),
+    nibble!(64; 32, 24, 16, 8),
+    nibble!(64; 57, 49, 41, 33),
+    nibble!(64; 25, 17, 9, 1),
+    nibble!(64; 59, 51, 43, 35),
+    nibble!(64; 27, 19, 11, 3),
+    nibble!(64; 61, 53, 45, 37),
+    nibble!(64; 29, 21, 13, 5),
+    nibble!(64; 63, 55, 47, 39),
+    nibble!(64; 31, 23, 15, 7),
 ];
 
-/// PC-1, which takes the two halves of the schedule from the key.
-pub const FIRST_CHOICE: [u8; 56] = [
-    57, 49, 41, 33, 25, 17, 9, 1, 58, 50, 42, 34, 26, 18, 10, 2, 59, 51, 43, 35, 27, 19, 11, 3, 60,
-    52, 44, 36, 63, 55, 47, 39, 31, 23, 15, 7, 62, 54, 46, 38, 30, 22, 14, 6, 61, 53, 45, 37, 29,
-    21, 13, 5, 28, 20, 12, 4,
+/// PC-1, which takes the two halves of the schedule from the key and leaves its parity bits out.
+pub static FIRST_CHOICE: [[u64; 16]; 16] = [
+    nibble!(56; 8, 16, 24, 56),
+    nibble!(56; 52, 44, 36, 0),
+    nibble!(56; 7, 15, 23, 55),
+    nibble!(56; 51, 43, 35, 0),
+    nibble!(56; 6, 14, 22, 54),
+    nibble!(56; 50, 42, 34, 0),
+    nibble!(56; 5, 13, 21, 53),
+    nibble!(56; 49, 41, 33, 0),
+    nibble!(56; 4, 12, 20, 28),
+    nibble!(56; 48, 40, 32, 0),
+    nibble!(56; 3, 11, 19, 27),
+    nibble!(56; 47, 39, 31, 0),
+    nibble!(56; 2, 10, 18, 26),
+    nibble!(56; 46, 38, 30, 0),
+    nibble!(56; 1, 9, 17, 25),
+    nibble!(56; 45, 37, 29, 0),
 ];
 
 /// PC-2, which takes a round key from the two halves of the schedule.
-pub const SECOND_CHOICE: [u8; 48] = [
-    14, 17, 11, 24, 1, 5, 3, 28, 15, 6, 21, 10, 23, 19, 12, 4, 26, 8, 16, 7, 27, 20, 13, 2, 41, 52,
-    31, 37, 47, 55, 30, 40, 51, 45, 33, 48, 44, 49, 39, 56, 34, 53, 46, 42, 50, 36, 29, 32,
+pub static SECOND_CHOICE: [[u64; 16]; 14] = [
+    nibble!(48; 5, 24, 7, 16),
+    nibble!(48; 6, 10, 20, 18),
+    nibble!(48; 0, 12, 3, 15),
+    nibble!(48; 23, 1, 9, 19),
+    nibble!(48; 2, 0, 14, 22),
+    nibble!(48; 11, 0, 13, 4),
+    nibble!(48; 0, 17, 21, 8),
+    nibble!(48; 47, 31, 27, 48),
+    nibble!(48; 35, 41, 0, 46),
+    nibble!(48; 28, 0, 39, 32),
+    nibble!(48; 25, 44, 0, 37),
+    nibble!(48; 34, 43, 29, 36),
+    nibble!(48; 38, 45, 33, 26),
+    nibble!(48; 42, 0, 30, 40),
 ];
 
 /// By how many places the halves of the schedule are turned to the left for each round.
