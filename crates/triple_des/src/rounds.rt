@@ -63,7 +63,8 @@ fn encipher_word(keys: &[u64], block: u64) -> u64
 {
     let start = permute_by(&INITIAL, block);
     let (left, right) = run_rounds(keys, (start >> 32) as u32, (start % (1 << 32)) as u32);
-    permute_by(&FINAL, u64::from(right) * (1 << 32) + u64::from(left))
+    let last = u64::from(right) * (1 << 32) + u64::from(left);
+    permute_by(&FINAL, last)
 }
 
 /// A block enciphered under round keys, of which the lowest 48 bits count.
