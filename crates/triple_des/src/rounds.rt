@@ -9,8 +9,9 @@ ghost use Rattle.triple_des.specs.Des.{selected, placed, cipher_function, rounds
 use crate::permuting::permute_by;
 use crate::tables::{FINAL, INITIAL, MERGED};
 
-/// P of the 32 bits in which the four that a selection function gives for six (FIPS 46-3) stand at their
-/// places and all others are 0. The boxes S1 to S8 are counted from 0.
+/// P of 32 bits in which the four that a selection function gives stand at its four places and all others
+/// are 0 (FIPS 46-3, "the cipher function f"). `number` counts the functions S1 to S8 from 0, `six` is the
+/// six bits as a number, the first one the highest.
 pub fn merged(number: u8, six: u8) -> u32
     requires boxes { number < 8 }
     requires bits { six < 64 }
@@ -29,7 +30,7 @@ fn ringed(half: u32) -> u64
     half % 2 * (1 << 33) + half * 2 + half / (1 << 31)
 }
 
-/// The cipher function f of a right half and a round key.
+/// The cipher function f of a right half and a round key, of which the lowest 48 bits count.
 fn mix(right: u32, key: u64) -> u32
     ensures { bits 32 result ≡ cipher_function (bits 32 right) (bits 48 key) }
 {
