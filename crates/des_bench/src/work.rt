@@ -1,5 +1,5 @@
 ghost use Rattle.std.specs.Prelude.{◌≡◌, ◌*◌, IfOk, replicate};
-ghost use Rattle.triple_des.specs.Des.{enciphered};
+ghost use Rattle.triple_des.specs.Des.{enciphered, des};
 ghost use Rattle.triple_des.specs.Mac.{mac};
 ghost use Rattle.des_bench.specs.Work.{repeated};
 
@@ -16,6 +16,18 @@ pub fn enciphered_over(des: &Des, count: u32) -> [u8; 8]
         block = next;
     }
     block
+}
+
+/// A block of zeros, enciphered so many times over, each time under the block itself as the key.
+pub fn keyed_over(count: u32) -> [u8; 8]
+    ensures { result ≡ repeated count (λ key. des key key) (replicate 8 0) }
+{
+    let mut key = [0; 8];
+    for _turn in 0..count {
+        let next = Des::new(key).encipher(key);
+        key = next;
+    }
+    key
 }
 
 /// The message authentication code of so many blocks of zeros.
@@ -42,5 +54,6 @@ mod tests {
             code_of_zeros(rt.alloc(), &key, 1000).ok(),
             Some(0xcae1_a1ff_502d_c012u64.to_be_bytes())
         );
+        assert_eq!(rt; keyed_over(1000), 0xcb14_9e75_d7c3_de01u64.to_be_bytes());
     }
 }

@@ -1,5 +1,5 @@
 -- Lists of bytes and lists of bits.
-use Rattle.std.proofs.Common.{◌≡◌, ℕ, zero, suc, ◌+◌, ◌*◌, ◌%◌, ◌^◌, ◌<◌, ◌≤◌, List, [], ◌∷◌, ◌++◌, length, get_or, take, drop, refl, ap, sym, ◌∙◌, arith, subst}
+use Rattle.std.proofs.Common.{◌≡◌, ℕ, zero, suc, ◌+◌, ◌*◌, ◌%◌, ◌^◌, ◌<◌, ◌≤◌, List, [], ◌∷◌, ◌++◌, length, get_or, take, drop, replicate, refl, ap, sym, ◌∙◌, arith, subst}
 use Rattle.std.specs.Int.{bit_at}
 use Rattle.std.specs.List.{flat_map}
 use Rattle.std.proofs.lemmas.Grind.{pow_more}
@@ -18,6 +18,11 @@ small_append [] ys small others i = others i
 small_append (x ∷ xs) ys small others zero = small 0
 small_append (x ∷ xs) ys small others (suc i) = small_append xs ys (λ k. small (suc k)) others i
 
+pub small_zeros : (n i : ℕ) → get_or (replicate n 0) i 0 < 2
+small_zeros zero i = omega arith
+small_zeros (suc n) zero = omega arith
+small_zeros (suc n) (suc i) = small_zeros n i
+
 small_take : (n : ℕ) (xs : List ℕ) → ((k : ℕ) → get_or xs k 0 < 2) → (i : ℕ) → get_or (take n xs) i 0 < 2
 small_take zero xs small i = omega arith
 small_take (suc n) [] small i = omega arith
@@ -27,7 +32,7 @@ small_take (suc n) (x ∷ xs) small (suc i) = small_take n xs (λ k. small (suc 
 small_drop : (n : ℕ) (xs : List ℕ) → ((k : ℕ) → get_or xs k 0 < 2) → (i : ℕ) → get_or (drop n xs) i 0 < 2
 small_drop n xs small i = subst (λ (b : ℕ). b < 2) (sym (get_or-drop n xs i 0)) (small (n + i))
 
-small_bits : (n x i : ℕ) → get_or (bits n x) i 0 < 2
+pub small_bits : (n x i : ℕ) → get_or (bits n x) i 0 < 2
 unfolding bits
 small_bits zero x i = omega arith
 small_bits (suc n) x zero = bit_at-lt x n

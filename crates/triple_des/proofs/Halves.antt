@@ -2,7 +2,6 @@
 use Rattle.std.proofs.Common.{◌≡◌, ℕ, ◌+◌, ◌*◌, ◌/◌, ◌%◌, ◌^◌, ◌<◌, List, [], ◌∷◌, ◌++◌, take, drop, refl, ap, sym, ◌∙◌, arith}
 use Rattle.std.specs.Int.{bit_at}
 use Rattle.std.proofs.lemmas.List.{take_at, drop_at}
-use Rattle.std.proofs.Math.Nat.{mod-lt}
 use Rattle.triple_des.specs.Bits.{bits}
 use Rattle.triple_des.specs.Des.{halves_of, swapped, turned}
 use Rattle.triple_des.proofs.Words.{length-bits, bits_split, bits_mod, bits_cat, bits_push}
@@ -21,11 +20,8 @@ halves_of-bits x =
     ap (λ (l : List ℕ). (l, drop 32 (bits 64 x))) (take-bits 32 32 x)
     ∙ ap (λ (l : List ℕ). (bits 32 (x / 2 ^ 32), l)) (drop-bits 32 32 x ∙ sym (bits_mod 32 x 32 (omega arith)))
 
-pub bits-swapped : (left right : ℕ) → bits 64 (right % 2 ^ 32 * 2 ^ 32 + left % 2 ^ 32) ≡ swapped (bits 32 left, bits 32 right)
-bits-swapped left right =
-    bits_cat 32 32 (right % 2 ^ 32) (left % 2 ^ 32) (mod-lt left (omega arith))
-    ∙ ap (λ (l : List ℕ). l ++ bits 32 (left % 2 ^ 32)) (bits_mod 32 right 32 (omega arith))
-    ∙ ap (λ (l : List ℕ). bits 32 right ++ l) (bits_mod 32 left 32 (omega arith))
+pub bits-swapped : (left right : ℕ) → left < 2 ^ 32 → bits 64 (right * 2 ^ 32 + left) ≡ swapped (bits 32 left, bits 32 right)
+bits-swapped left right small = bits_cat 32 32 right left small
 
 first_bit : (x : ℕ) → turned 1 (bits 28 x) ≡ bits 27 x ++ bit_at x 27 ∷ []
 unfolding bits

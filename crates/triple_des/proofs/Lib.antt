@@ -1,10 +1,12 @@
+pub mod Added
+pub mod Below
 pub mod Boxes
 pub mod ByteLists
 pub mod Bytes
 pub mod ChainSteps
 pub mod Ciphered
 pub mod Halves
-pub mod Picks
+pub mod Nibbles
 pub mod ScheduleSteps
 pub mod Undone
 pub mod WordRounds

@@ -6,7 +6,7 @@ use Rattle.triple_des.specs.declared.tables.TheConstants.{SHIFTS}
 use Rattle.triple_des.specs.Bits.{bits, pick, bits_of}
 use Rattle.triple_des.specs.Tables.{shift_table, first_choice_table, second_choice_table}
 use Rattle.triple_des.specs.Des.{turned, schedule, round_keys}
-use Rattle.triple_des.proofs.Boxes.{all_below, below_at}
+use Rattle.triple_des.proofs.Below.{all_below, below_at}
 use Rattle.triple_des.proofs.Words.{bits_cat, bits_mod}
 use Rattle.triple_des.proofs.Halves.{take-bits, drop-bits}
 
@@ -53,11 +53,11 @@ schedule_end keys i left right all long =
     ∙ ap (λ (ks : List ℕ). map (bits 48) ks) (take_all 16 keys (omega (arith, long)))
 
 -- the round keys, from the word that the first choice gives
-pub round_keys_parts : (key : List ℕ) (word chosen : ℕ) (keys : List (List ℕ)) → bits 64 word ≡ bits_of key → bits 56 chosen ≡ pick first_choice_table (bits 64 word) → keys ≡ schedule shift_table (bits 28 (chosen / 2 ^ 28)) (bits 28 (chosen % 2 ^ 28)) → keys ≡ round_keys key
+pub round_keys_parts : (key : List ℕ) (word chosen : ℕ) (keys : List (List ℕ)) → bits 64 word ≡ bits_of key → bits 56 chosen ≡ pick first_choice_table (bits 64 word) → keys ≡ schedule shift_table (bits 28 (chosen / 2 ^ 28 % 2 ^ 28)) (bits 28 (chosen % 2 ^ 28)) → keys ≡ round_keys key
 unfolding round_keys
 round_keys_parts key word chosen keys word_is chosen_is keys_are =
     let from_key : bits 56 chosen ≡ pick first_choice_table (bits_of key) =
     chosen_is ∙ ap (λ (l : List ℕ). pick first_choice_table l) word_is in
     keys_are
-    ∙ ap (λ (l : List ℕ). schedule shift_table l (bits 28 (chosen % 2 ^ 28))) (sym (take-bits 28 28 chosen) ∙ ap (λ (l : List ℕ). take 28 l) from_key)
+    ∙ ap (λ (l : List ℕ). schedule shift_table l (bits 28 (chosen % 2 ^ 28))) (bits_mod 28 (chosen / 2 ^ 28) 28 (omega arith) ∙ sym (take-bits 28 28 chosen) ∙ ap (λ (l : List ℕ). take 28 l) from_key)
     ∙ ap (λ (l : List ℕ). schedule shift_table (take 28 (pick first_choice_table (bits_of key))) l) (bits_mod 28 chosen 28 (omega arith) ∙ sym (drop-bits 28 28 chosen) ∙ ap (λ (l : List ℕ). drop 28 l) from_key)

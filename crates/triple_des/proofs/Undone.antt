@@ -8,7 +8,7 @@ use Rattle.std.proofs.lemmas.List.Sums.{fold-append}
 use Rattle.triple_des.specs.Bits.{pick, xor, bits_of, bytes_of}
 use Rattle.triple_des.specs.Tables.{initial_table, final_table, permutation_table}
 use Rattle.triple_des.specs.Des.{cipher_function, round, rounds, halves_of, swapped, cipher, enciphered, deciphered}
-use Rattle.triple_des.proofs.Boxes.{all_below, below_at}
+use Rattle.triple_des.proofs.Below.{all_below, below_at}
 use Rattle.triple_des.proofs.ByteLists.{small_append, length-bits_of, small_bits_of, bytes_of-bits_of, bits_of-bytes_of}
 
 -- a list of bits

@@ -20,10 +20,10 @@ unfolding rounds
 rounds_end keys i left right past = at_drop_all (λ (ks : List ℕ). rounds (map (bits 48) ks) (bits 32 left, bits 32 right)) keys i past
 
 -- the cipher, from its parts on words
-pub cipher_parts : (keys : List (List ℕ)) (block start left right final : ℕ) → bits 64 start ≡ pick initial_table (bits 64 block) → (bits 32 left, bits 32 right) ≡ rounds keys (bits 32 (start / 2 ^ 32), bits 32 (start % 2 ^ 32)) → bits 64 final ≡ pick final_table (bits 64 (right % 2 ^ 32 * 2 ^ 32 + left % 2 ^ 32)) → bits 64 final ≡ cipher keys (bits 64 block)
+pub cipher_parts : (keys : List (List ℕ)) (block start left right final : ℕ) → bits 64 start ≡ pick initial_table (bits 64 block) → (bits 32 left, bits 32 right) ≡ rounds keys (bits 32 (start / 2 ^ 32), bits 32 (start % 2 ^ 32)) → left < 2 ^ 32 → bits 64 final ≡ pick final_table (bits 64 (right * 2 ^ 32 + left)) → bits 64 final ≡ cipher keys (bits 64 block)
 unfolding cipher
-cipher_parts keys block start left right final start_is halves_are final_is =
+cipher_parts keys block start left right final start_is halves_are small final_is =
     final_is
-    ∙ ap (λ (l : List ℕ). pick final_table l) (bits-swapped left right)
+    ∙ ap (λ (l : List ℕ). pick final_table l) (bits-swapped left right small)
     ∙ ap (λ (h : List ℕ × List ℕ). pick final_table (swapped h)) (halves_are
     ∙ ap (λ (h : List ℕ × List ℕ). rounds keys h) (sym (halves_of-bits start) ∙ ap (λ (l : List ℕ). halves_of l) start_is))

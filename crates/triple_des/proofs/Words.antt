@@ -1,5 +1,5 @@
 -- A word seen as its bits.
-use Rattle.std.proofs.Common.{◌≡◌, ℕ, zero, suc, ◌+◌, ◌-◌, ◌*◌, ◌/◌, ◌%◌, ◌^◌, ◌<◌, ◌≤◌, List, [], ◌∷◌, ◌++◌, length, get_or, refl, ap, sym, ◌∙◌, arith, bit_xor}
+use Rattle.std.proofs.Common.{◌≡◌, ℕ, zero, suc, ◌+◌, ◌*◌, ◌/◌, ◌%◌, ◌^◌, ◌<◌, ◌≤◌, List, [], ◌∷◌, ◌++◌, length, refl, ap, sym, ◌∙◌, arith, bit_xor}
 use Rattle.std.specs.Int.{bit_at}
 use Rattle.std.proofs.lemmas.Nat.{div-mul-add, pow-add, div-add-mod'}
 use Rattle.std.proofs.lemmas.Nat.Bits.{bit_at-suc, bit_at_lowest, bit_at_cat_low, bit_at_xor}
@@ -19,14 +19,6 @@ bits_same (suc n) x y same =
     let first : bit_at x n ≡ bit_at y n = same n (omega arith) in
     let rest : bits n x ≡ bits n y = bits_same n x y (λ i below. same i (omega arith)) in
     cc
-
-pub get_or-bits : (n x i : ℕ) → i < n → get_or (bits n x) i 0 ≡ bit_at x (n - 1 - i)
-unfolding bits
-get_or-bits zero x i below = absurd (omega arith)
-get_or-bits (suc n) x zero below = ap (λ (k : ℕ). bit_at x k) (let e : n ≡ suc n - 1 - 0 = omega arith in e)
-get_or-bits (suc n) x (suc i) below =
-    let e : n - 1 - i ≡ suc n - 1 - suc i = omega arith in
-    get_or-bits n x i (omega arith) ∙ ap (λ (k : ℕ). bit_at x k) e
 
 -- one bit more at the right
 pub bits_push : (n x bit : ℕ) → bit < 2 → bits (suc n) (x * 2 + bit) ≡ bits n x ++ bit ∷ []

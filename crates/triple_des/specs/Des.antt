@@ -1,5 +1,5 @@
 -- The data encryption standard, FIPS 46-3, on lists of bits. A key and a block are lists of eight bytes.
-use Rattle.std.specs.Prelude.{ℕ, List, [], ◌∷◌, ◌++◌, take, drop, reverse, slice_index, slice_index_or}
+use Rattle.std.specs.Prelude.{ℕ, List, [], ◌∷◌, ◌++◌, ◌-◌, ◌*◌, take, drop, replicate, reverse, slice_index, slice_index_or}
 use Rattle.std.specs.List.{fold}
 use Rattle.triple_des.specs.Bits.{bits, number, pick, xor, bits_of, bytes_of}
 use Rattle.triple_des.specs.Tables.{initial_table, final_table, expansion_table, permutation_table}
@@ -20,6 +20,10 @@ selected box six = bits 4 (slice_index (slice_index_or box (row_of six) []) (col
 unfoldable pub substituted : List (List (List ℕ)) → List ℕ → List ℕ
 substituted [] bs = []
 substituted (box ∷ boxes) bs = selected box (take 6 bs) ++ substituted boxes (drop 6 bs)
+
+-- four bits where the box of this number, counted from 0, gives them, and 0 at the other places of 32
+unfoldable pub placed : ℕ → List ℕ → List ℕ
+placed number four = replicate (4 * number) 0 ++ (four ++ replicate (28 - 4 * number) 0)
 
 -- f(R, K): P of the boxes of E(R) xor K
 unfoldable pub cipher_function : List ℕ → List ℕ → List ℕ

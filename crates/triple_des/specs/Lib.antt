@@ -1,4 +1,5 @@
 pub mod Bits
+pub mod Nibbles
 pub mod Tables
 pub mod Des
 pub mod TripleDes

@@ -1,19 +1,18 @@
-ghost use Rattle.std.specs.Prelude.{◌≡◌, IsTrue, ◌≤◌, ◌<◌, ◌^◌, ◌&&◌, nat_le, length};
-ghost use Rattle.std.specs.List.{list_all};
+ghost use Rattle.std.specs.Prelude.{◌≡◌, ℕ, List, ◌*◌, ◌≤◌, length};
 ghost use Rattle.triple_des.specs.Bits.{bits, pick};
+ghost use Rattle.triple_des.specs.Nibbles.{AreTables};
 
-/// The bits of a word that a table names, as a word: the word has `width` bits, and the table counts
-/// them from 1 at the highest.
-pub fn permute(word: u64, width: u32, table: &[u8]) -> u64
-    requires few { length table.now ≤ 64 }
-    requires wide { width ≤ 64 }
-    requires places { IsTrue (list_all (λ place. nat_le 1 place && nat_le place width) table.now) }
-    ensures fits { result < 2 ^ length table.now }
-    ensures bits { bits (length table.now) result ≡ pick table.now (bits width word) }
+/// The bits of a word that a table of places names, as a word, by a table for each four bits of the word,
+/// the highest first.
+pub fn permute_by(tables: &[[u64; 16]], word: u64) -> u64
+    requires { length tables.now ≤ 16 }
+    ensures { (places : List ℕ) → AreTables places tables.now
+        → bits (length places) result ≡ pick places (bits (4 * length tables.now) word) }
 {
     let mut out = 0;
-    for place in table {
-        out = out * 2 + ((word >> (width - u32::from(*place))) & 1);
+    for index in 0..tables.len() {
+        let four = (word >> (4 * index)) % 16;
+        out ^= tables[tables.len() - 1 - index][four as usize];
     }
     out
 }

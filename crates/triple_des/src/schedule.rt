@@ -5,7 +5,7 @@ ghost use Rattle.triple_des.specs.Bits.{bits};
 ghost use Rattle.triple_des.specs.Tables.{shift_table};
 ghost use Rattle.triple_des.specs.Des.{turned, schedule, round_keys};
 
-use crate::permuting::permute;
+use crate::permuting::permute_by;
 use crate::tables::{FIRST_CHOICE, SECOND_CHOICE, SHIFTS};
 
 /// A half of the schedule, turned to the left by one place.
@@ -44,7 +44,7 @@ fn schedule_halves(left: u64, right: u64) -> [u64; 16]
     for index in 0..16 {
         left = turn(left, SHIFTS[index]);
         right = turn(right, SHIFTS[index]);
-        keys[index] = permute(left * (1 << 28) + right, 56, &SECOND_CHOICE);
+        keys[index] = permute_by(&SECOND_CHOICE, left * (1 << 28) + right);
     }
     keys
 }
@@ -53,6 +53,6 @@ fn schedule_halves(left: u64, right: u64) -> [u64; 16]
 pub fn schedule_key(key: [u8; 8]) -> [u64; 16]
     ensures { map (bits 48) result ≡ round_keys key }
 {
-    let chosen = permute(u64::from_be_bytes(key), 64, &FIRST_CHOICE);
-    schedule_halves(chosen >> 28, chosen % (1 << 28))
+    let chosen = permute_by(&FIRST_CHOICE, u64::from_be_bytes(key));
+    schedule_halves((chosen >> 28) % (1 << 28), chosen % (1 << 28))
 }

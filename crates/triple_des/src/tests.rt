@@ -447,6 +447,14 @@ fn single_des_meets_its_vectors(rt: HostRuntime) {
     }
 }
 
+/// What P makes of the bits of a box, read off the standard's tables by hand: S1 gives 14 for 0, which P
+/// takes to the places 9, 17 and 23; S8 gives 11 for 63, which it takes to 5, 15 and 21.
+#[test]
+fn boxes_by_hand(rt: HostRuntime) {
+    assert_eq!(rt; merged(0, 0), 0x0080_8200);
+    assert_eq!(rt; merged(7, 63), 0x0802_0800);
+}
+
 #[test]
 fn triple_des_meets_its_vectors(rt: HostRuntime) {
     for (bytes, block, wanted) in DOUBLE {

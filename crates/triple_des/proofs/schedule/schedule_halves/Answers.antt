@@ -1,6 +1,7 @@
 use Rattle.std.proofs.Common.{sym, ◌∙◌, arith}
 use Rattle.std.proofs.lemmas.List.{length-set}
 use Rattle.triple_des.specs.Tables.{second_choice_table}
+use Rattle.triple_des.proofs.Nibbles.{second_choice_tables}
 use Rattle.triple_des.proofs.ScheduleSteps.{shift_bounds, schedule_step, schedule_end}
 use Rattle.triple_des.proofs.schedule.schedule_halves.Goals as goal
 
@@ -17,11 +18,11 @@ loop-index-preserved c =
     let i = c.loop-index.index in
     let before = c.loop-index.invariant in
     record {
-      sized = length-set keys i c.permute.result ∙ before.sized;
+      sized = length-set keys i c.permute_by.result ∙ before.sized;
       left_fits = c.turn-left.ensures.fits;
       right_fits = c.turn-right.ensures.fits;
       so_far =
-          schedule_step keys i c.loop-index.left c.loop-index.right c.turn-left.result c.turn-right.result c.permute.result c.loop-index-test.true before.sized c.turn-left.ensures.bits c.turn-right.ensures.bits c.turn-right.ensures.fits c.permute.ensures.bits
+          schedule_step keys i c.loop-index.left c.loop-index.right c.turn-left.result c.turn-right.result c.permute_by.result c.loop-index-test.true before.sized c.turn-left.ensures.bits c.turn-right.ensures.bits c.turn-right.ensures.fits (c.permute_by.ensures second_choice_table second_choice_tables)
           ∙ before.so_far;
     }
 
