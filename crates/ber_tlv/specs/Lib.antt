@@ -1,6 +1,8 @@
+pub mod Direct
 pub mod Item
 pub mod Items
 pub mod Left
+pub mod Place
 pub mod Seen
 pub mod Tag
 pub mod Walked

@@ -1,9 +1,11 @@
-ghost use Rattle.std.specs.Prelude.{◌≡◌, ℕ, ◌+◌, ◌-◌, ◌<◌, ◌≤◌, ◌↔◌, List, length, take, Ok, Err, IfOk, IfErr, IfSome, IfNone, OnErr};
+ghost use Rattle.std.specs.Prelude.{◌≡◌, ℕ, ◌+◌, ◌-◌, ◌<◌, ◌≤◌, ◌↔◌, List, length, take, Ok, Err, IfOk, IfErr, IfSome, IfNone, OnErr, IsTrue};
 ghost use Rattle.ber_tlv.specs.Items.{Zeros, Begins, NextItem, NextFault, Items, FaultBehind};
 ghost use Rattle.ber_tlv.specs.Left.{items_behind, items_of, fault_of};
 ghost use Rattle.ber_tlv.specs.Walked.{walk_behind};
 ghost use Rattle.ber_tlv.specs.Seen.{CursorData, seen, then_rest, then_walk};
 ghost use Rattle.ber_tlv.specs.Item.{ItemData};
+ghost use Rattle.ber_tlv.specs.Place.{Within};
+ghost use Rattle.ber_tlv.specs.Tag.{is_readable};
 
 use crate::item::{Item, TlvFault, item_at};
 use std::marker::Model;
@@ -41,6 +43,9 @@ impl<'a> Cursor<'a> {
         ensures end { IfOk result (λ found. IfNone found
             (Zeros self.old.bytes self.old.place (length self.old.bytes))) }
         ensures fault { IfErr result (NextFault self.old.bytes self.old.place) }
+        // Only a readable tag can stand there.
+        ensures readable { IfOk result (λ found. IfSome found (λ item. IsTrue (is_readable item.tag.0))) }
+        ensures fault_place { IfErr result (Within self.old.bytes self.old.place) }
         ensures ends { IfOk result (λ found. IfNone found (self.new.place ≡ length self.new.bytes)) }
         // What the step gave, with what is left behind it, is what was left before.
         ensures left { then_rest result (items_behind self.new.bytes self.new.place)
@@ -62,6 +67,13 @@ impl<'a> Cursor<'a> {
         let (item, next) = item_at(self.bytes, start)?;
         self.place = next;
         Ok(Some(item))
+    }
+
+    /// The place that the cursor has come to: behind the object that `next` gave last.
+    pub(crate) fn place(&self) -> usize
+        ensures { result ≡ self.now.place }
+    {
+        self.place
     }
 
     /// A cursor over the objects that the value of `item` is made of, where `item` is the object
@@ -87,6 +99,7 @@ pub fn first_fault(bytes: &[u8]) -> Option<TlvFault>
     ensures list { (items : List ItemData) → (items_of bytes.now ≡ Ok items) ↔ Items bytes.now 0 items }
     ensures fault { (fault : TlvFault) → (items_of bytes.now ≡ Err fault)
         ↔ ((items : List ItemData) × FaultBehind bytes.now 0 items fault) }
+    ensures fault_place { IfSome result (Within bytes.now 0) }
 {
     let mut cursor = Cursor::new(bytes);
     loop {

@@ -1,6 +1,10 @@
-ghost use Rattle.std.specs.Prelude.{◌≡◌, ◌+◌, ◌*◌, ◌<◌, ◌≤◌, length, Ok, Err, IfOk, MatchResult};
+ghost use Rattle.std.specs.Prelude.{◌≡◌, ◌+◌, ◌*◌, ◌/◌, ◌%◌, ◌<◌, ◌≤◌, length, Ok, Err, IfOk, IfErr, IsTrue, MatchResult, Some, slice_get};
 ghost use Rattle.ber_tlv.specs.Item as spec;
+ghost use Rattle.ber_tlv.specs.Items.{Begins};
+ghost use Rattle.ber_tlv.specs.Place as place_spec;
+ghost use Rattle.ber_tlv.specs.Place.{Within};
 ghost use Rattle.ber_tlv.specs.Seen.{seen};
+ghost use Rattle.ber_tlv.specs.Tag.{is_readable};
 
 use crate::tag::Tag;
 
@@ -24,9 +28,34 @@ pub enum TlvFault {
     LongTag(usize),
 }
 
+impl TlvFault {
+    /// The place of the fault: its byte's number in the whole string, from 0.
+    pub fn place(self) -> usize
+        ensures { result ≡ place_spec.place_of self }
+    {
+        match self {
+            TlvFault::Truncated(place) => place,
+            TlvFault::BadLength(place) => place,
+            TlvFault::LongTag(place) => place,
+        }
+    }
+}
+
+/// The place of a fault, or 0 where there is none.
+pub fn place_or_zero(fault: Option<TlvFault>) -> usize
+    ensures { result ≡ place_spec.place_or_zero fault }
+{
+    match fault {
+        Some(fault) => fault.place(),
+        None => 0,
+    }
+}
+
 #[tactic(auto, unfolding(crate::specs::Item::byte_at))]
 fn byte_at(bytes: &[u8], start: usize, place: usize) -> Result<u8, TlvFault>
     ensures exact { result ≡ spec.byte_at bytes.now start place }
+    ensures there { IfOk result (λ byte. slice_get bytes.now place ≡ Some byte) }
+    ensures fault_place { IfErr result (λ fault. start < length bytes.now → Within bytes.now start fault) }
     ensures within { IfOk result (λ _. place < length bytes.now) }
 {
     bytes.get(place).copied().ok_or(TlvFault::Truncated(start))
@@ -36,7 +65,10 @@ fn byte_at(bytes: &[u8], start: usize, place: usize) -> Result<u8, TlvFault>
 fn third_tag_byte(bytes: &[u8], start: usize, front: u32) -> Result<(u32, usize), TlvFault>
     requires known { start + 1 < length bytes.now }
     requires small { front < 65536 }
+    requires third { (front / 256 % 32 ≡ 31) × (128 ≤ front % 256) }
     ensures exact { result ≡ spec.third_tag_byte bytes.now start front }
+    ensures fault_place { IfErr result (λ fault. start < length bytes.now → Within bytes.now start fault) }
+    ensures readable { IfOk result (λ r. IsTrue (is_readable r.0)) }
     ensures within { IfOk result (λ r. (start < r.1) × (r.1 ≤ length bytes.now)) }
 {
     let third = byte_at(bytes, start, start + 2)?;
@@ -49,8 +81,11 @@ fn third_tag_byte(bytes: &[u8], start: usize, front: u32) -> Result<(u32, usize)
 
 #[tactic(auto, unfolding(crate::specs::Item::second_tag_byte))]
 fn second_tag_byte(bytes: &[u8], start: usize, first: u8) -> Result<(u32, usize), TlvFault>
-    requires { start < length bytes.now }
+    requires known { start < length bytes.now }
+    requires second { first % 32 ≡ 31 }
     ensures exact { result ≡ spec.second_tag_byte bytes.now start first }
+    ensures fault_place { IfErr result (λ fault. start < length bytes.now → Within bytes.now start fault) }
+    ensures readable { IfOk result (λ r. IsTrue (is_readable r.0)) }
     ensures within { IfOk result (λ r. (start < r.1) × (r.1 ≤ length bytes.now)) }
 {
     let second = byte_at(bytes, start, start + 1)?;
@@ -65,6 +100,8 @@ fn second_tag_byte(bytes: &[u8], start: usize, first: u8) -> Result<(u32, usize)
 #[tactic(auto, unfolding(crate::specs::Item::tag_at))]
 fn tag_at(bytes: &[u8], start: usize) -> Result<(u32, usize), TlvFault>
     ensures exact { result ≡ spec.tag_at bytes.now start }
+    ensures fault_place { IfErr result (λ fault. start < length bytes.now → Within bytes.now start fault) }
+    ensures readable { IfOk result (λ r. Begins bytes.now start → IsTrue (is_readable r.0)) }
     ensures within { IfOk result (λ r. (start < r.1) × (r.1 ≤ length bytes.now)) }
 {
     let first = byte_at(bytes, start, start)?;
@@ -91,6 +128,7 @@ pub fn read_tag(bytes: &[u8], start: usize) -> Result<(Tag, usize), TlvFault>
 fn one_byte_length(bytes: &[u8], start: usize, place: usize) -> Result<(usize, usize), TlvFault>
     requires { place < length bytes.now }
     ensures exact { result ≡ spec.one_byte_length bytes.now start place }
+    ensures fault_place { IfErr result (λ fault. start < length bytes.now → Within bytes.now start fault) }
     ensures within { IfOk result (λ r. (place < r.1) × (r.1 ≤ length bytes.now) × (r.0 < 65536)) }
 {
     let low = byte_at(bytes, start, place + 1)?;
@@ -101,6 +139,7 @@ fn one_byte_length(bytes: &[u8], start: usize, place: usize) -> Result<(usize, u
 fn two_byte_length(bytes: &[u8], start: usize, place: usize) -> Result<(usize, usize), TlvFault>
     requires { place < length bytes.now }
     ensures exact { result ≡ spec.two_byte_length bytes.now start place }
+    ensures fault_place { IfErr result (λ fault. start < length bytes.now → Within bytes.now start fault) }
     ensures within { IfOk result (λ r. (place < r.1) × (r.1 ≤ length bytes.now) × (r.0 < 65536)) }
 {
     let high = byte_at(bytes, start, place + 1)?;
@@ -117,6 +156,7 @@ fn long_length(
 ) -> Result<(usize, usize), TlvFault>
     requires { place < length bytes.now }
     ensures exact { result ≡ spec.long_length bytes.now start place first }
+    ensures fault_place { IfErr result (λ fault. start ≤ place → start < length bytes.now → Within bytes.now start fault) }
     ensures within { IfOk result (λ r. (place < r.1) × (r.1 ≤ length bytes.now) × (r.0 < 65536)) }
 {
     if first == 0x81 {
@@ -131,6 +171,7 @@ fn long_length(
 #[tactic(auto, unfolding(crate::specs::Item::length_at))]
 fn length_at(bytes: &[u8], start: usize, place: usize) -> Result<(usize, usize), TlvFault>
     ensures exact { result ≡ spec.length_at bytes.now start place }
+    ensures fault_place { IfErr result (λ fault. start ≤ place → start < length bytes.now → Within bytes.now start fault) }
     ensures within { IfOk result (λ r. (place < r.1) × (r.1 ≤ length bytes.now) × (r.0 < 65536)) }
 {
     let first = byte_at(bytes, start, place)?;
@@ -153,6 +194,8 @@ fn value_at<'a>(
     ensures exact { MatchResult result
         (λ r. spec.value_at bytes.now start tag place count ≡ Ok (seen r.0, r.1))
         (λ fault. spec.value_at bytes.now start tag place count ≡ Err fault) }
+    ensures fault_place { IfErr result (λ fault. start < length bytes.now → Within bytes.now start fault) }
+    ensures tag { IfOk result (λ r. r.0.tag.0 ≡ tag) }
     ensures within { IfOk result (λ r. (place + length r.0.value.now ≡ r.1) × (r.1 ≤ length bytes.now)) }
 {
     if count > bytes.len() - place {
@@ -176,6 +219,8 @@ pub(crate) fn item_at<'a>(bytes: &'a [u8], start: usize) -> Result<(Item<'a>, us
     ensures exact { MatchResult result
         (λ r. spec.item_at bytes.now start ≡ Ok (seen r.0, r.1))
         (λ fault. spec.item_at bytes.now start ≡ Err fault) }
+    ensures fault_place { IfErr result (λ fault. start < length bytes.now → Within bytes.now start fault) }
+    ensures readable { IfOk result (λ r. Begins bytes.now start → IsTrue (is_readable r.0.tag.0)) }
     ensures within { IfOk result (λ r. (start + 2 + length r.0.value.now ≤ r.1) × (r.1 ≤ length bytes.now)) }
 {
     let (tag, length_place) = tag_at(bytes, start)?;

@@ -3,13 +3,15 @@
 #![tactic(auto)]
 
 pub mod cursor;
+pub mod direct;
 pub mod item;
 pub mod tag;
 pub mod walk;
 pub mod write;
 
 pub use cursor::{Cursor, first_fault};
-pub use item::{Item, TlvFault, read_tag};
+pub use direct::{first_value, sole_value, template_fault};
+pub use item::{Item, TlvFault, place_or_zero, read_tag};
 pub use tag::{Tag, is_constructed, is_readable};
 pub use walk::deep_fault;
 pub use write::{Full, tag_bytes, write_item, written_length};
