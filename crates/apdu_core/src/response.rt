@@ -3,8 +3,8 @@ ghost use Rattle.apdu_core.specs.Response.{response_bytes, response_of};
 ghost use Rattle.apdu_core.specs.Seen.{seen_response};
 
 use crate::ApduFault;
-use crate::command::append;
 use arrayvec::ArrayVec;
+use ber_tlv::append;
 
 /// The bytes of a response: at most 256 body bytes and the status.
 pub type Answer = ArrayVec<u8, 258>;

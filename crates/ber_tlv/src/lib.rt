@@ -2,6 +2,7 @@
 //! bytes and definite lengths of one to three bytes.
 #![tactic(auto)]
 
+pub mod buffer;
 pub mod cursor;
 pub mod direct;
 pub mod item;
@@ -9,6 +10,7 @@ pub mod tag;
 pub mod walk;
 pub mod write;
 
+pub use buffer::append;
 pub use cursor::{Cursor, first_fault};
 pub use direct::{first_value, sole_value, template_fault};
 pub use item::{Item, TlvFault, place_or_zero, read_tag};

@@ -1,9 +1,9 @@
 ghost use Rattle.std.specs.Prelude.{◌≡◌, ℕ, ◌+◌, ◌<◌, ◌≤◌, ◌^◌, ◌↔◌, ◌++◌, List, length, IsTrue, IsOk, OnOk, OnErr, IfErr, Ok};
-ghost use Rattle.arrayvec.specs.ArrayVec.{array_vec_len};
 ghost use Rattle.ber_tlv.specs.Item.{item_at};
 ghost use Rattle.ber_tlv.specs.Tag as tag_spec;
 ghost use Rattle.ber_tlv.specs.Written as spec;
 
+use crate::buffer::append;
 use crate::tag::Tag;
 use arrayvec::ArrayVec;
 
@@ -94,13 +94,4 @@ fn length_bytes(count: usize) -> ArrayVec<u8, 3>
         );
     }
     bytes
-}
-
-fn append<const N: usize>(out: &mut ArrayVec<u8, N>, bytes: &[u8])
-    requires { array_vec_len out.old + length bytes.now ≤ N }
-    ensures { out.new.items ≡ out.old.items ++ bytes.now }
-{
-    if out.try_extend_from_slice(bytes).is_err() {
-        unreachable!();
-    }
 }

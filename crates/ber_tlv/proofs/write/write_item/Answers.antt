@@ -8,9 +8,9 @@ unfolding written
 returns-clause-read_again g c =
     let appended : c.append-3.new.out.items ≡ c.args.out.now.items ++ written c.args.tag.0 c.args.value.now =
     rw (
-      c.append-3.ensures,
-      c.append-2.ensures,
-      c.append.ensures,
+      c.append-3.ensures.items,
+      c.append-2.ensures.items,
+      c.append.ensures.items,
       c.deref-2.ensures.0,
       c.deref.ensures.0,
       c.length_bytes.ensures,
