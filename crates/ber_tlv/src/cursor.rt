@@ -1,11 +1,11 @@
-ghost use Rattle.std.specs.Prelude.{◌≡◌, ℕ, ◌+◌, ◌-◌, ◌<◌, ◌≤◌, ◌↔◌, List, length, take, Ok, Err, IfOk, IfErr, IfSome, IfNone, OnErr, IsTrue};
+ghost use Rattle.std.specs.Prelude.{◌≡◌, ℕ, ◌+◌, ◌-◌, ◌<◌, ◌≤◌, ◌↔◌, List, length, take, Ok, Err, IfOk, IfErr, IfSome, IfNone, OnErr};
 ghost use Rattle.ber_tlv.specs.Items.{Zeros, Begins, NextItem, NextFault, Items, FaultBehind};
 ghost use Rattle.ber_tlv.specs.Left.{items_behind, items_of, fault_of};
 ghost use Rattle.ber_tlv.specs.Walked.{walk_behind};
 ghost use Rattle.ber_tlv.specs.Seen.{CursorData, seen, then_rest, then_walk};
 ghost use Rattle.ber_tlv.specs.Item.{ItemData};
 ghost use Rattle.ber_tlv.specs.Place.{Within};
-ghost use Rattle.ber_tlv.specs.Tag.{is_readable};
+ghost use Rattle.ber_tlv.specs.Tag.{IsReadable};
 
 use crate::item::{Item, TlvFault, item_at};
 use std::marker::Model;
@@ -37,6 +37,7 @@ impl<'a> Cursor<'a> {
     /// The next data object, `None` at the end, or why no object stands where one should. Bytes 00
     /// before, between and after objects are passed over. After a fault each further call gives
     /// the same fault.
+    #[tactic(auto, unfolding(crate::specs::Tag::IsReadable))]
     pub fn next(&mut self) -> Result<Option<Item<'a>>, TlvFault>
         ensures item { IfOk result (λ found. IfSome found (λ item.
             NextItem self.old.bytes self.old.place (seen item) self.new.place)) }
@@ -44,7 +45,7 @@ impl<'a> Cursor<'a> {
             (Zeros self.old.bytes self.old.place (length self.old.bytes))) }
         ensures fault { IfErr result (NextFault self.old.bytes self.old.place) }
         // Only a readable tag can stand there.
-        ensures readable { IfOk result (λ found. IfSome found (λ item. IsTrue (is_readable item.tag.0))) }
+        ensures readable { IfOk result (λ found. IfSome found (λ item. IsReadable item.tag.0)) }
         ensures fault_place { IfErr result (Within self.old.bytes self.old.place) }
         ensures ends { IfOk result (λ found. IfNone found (self.new.place ≡ length self.new.bytes)) }
         // What the step gave, with what is left behind it, is what was left before.

@@ -1,3 +1,5 @@
+pub mod CardRead
 pub mod DolEntries
 pub mod DolSeen
 pub mod Filled
+pub mod Forms

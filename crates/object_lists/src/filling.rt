@@ -8,17 +8,8 @@ ghost use Rattle.object_lists.specs.Filled as spec;
 use crate::dol::{Dol, Entry, total};
 use arrayvec::ArrayVec;
 use ber_tlv::{Full, Tag, is_constructed};
-use emv_dict::{Digits, Format, Origin, tag_row};
+use emv_dict::{Format, Origin, tag_row};
 use env_map::Env;
-
-/// What a terminal has of a card: its data objects, the application interchange profile and the
-/// digits of the primary account number.
-#[derive(Drop)]
-pub struct CardData {
-    pub env: Env,
-    pub aip: [u8; 2],
-    pub pan: Digits,
-}
 
 /// The most bytes that filled data has.
 const MOST: usize = 252;
