@@ -74,6 +74,10 @@ tag_read front rest tag false false one two readable =
     let one_byte : tag / 65536 % 256 ≡ tag / 65536 = three_bytes tag first.0 in
     rw (one, two, one_byte) (tag_of_three front rest (tag / 65536) (tag / 256 % 256) (tag % 256) tag (omega arith) first.1 two_and_more facts.1)
 
+-- a readable tag's bytes are read again
+pub tag_again : (tag : ℕ) → IsTrue (is_readable tag) → (front rest : List ℕ) → tag_at (front ++ (tag_bytes tag ++ rest)) (length front) ≡ Ok (tag, length front + length (tag_bytes tag))
+tag_again tag readable front rest = tag_read front rest tag _ _ refl refl readable
+
 length_read : (front rest : List ℕ) (start count : ℕ) (p q : Bool) → nat_lt count 128 ≡ p → nat_lt count 256 ≡ q → length_at (front ++ (length_bytes count ++ rest)) start (length front) ≡ Ok (count, length front + length (length_bytes count))
 length_read front rest start count true q one two = rw one (length_of_one front rest start count one)
 length_read front rest start count false true one two = rw (one, two) (length_of_two front rest start count)

@@ -1,0 +1,218 @@
+-- No spelling of an object that can be read is shorter than the one that is written.
+use Rattle.std.proofs.Common.{◌≡◌, ℕ, zero, suc, Bool, true, false, ◌+◌, ◌-◌, ◌*◌, ◌/◌, ◌%◌, ◌<◌, ◌≤◌, ◌==◌, nat_lt, nat_le, if◌then◌else◌, List, [], ◌∷◌, ◌++◌, length, drop, Option, Some, None, Result, Ok, Err, slice_get, refl, arith, sym, ap, ◌∙◌, inl, inr, length-append, length-drop}
+use Rattle.std.proofs.lemmas.Bool.Decides.{nat_tests}
+use Rattle.std.proofs.lemmas.Option.{get_or_from_slice_get}
+use Rattle.std.specs.List.{slice_range}
+use Rattle.std.proofs.lemmas.List.{length-take}
+use Rattle.ber_tlv.specs.Item.{AreBytes, ItemData, or_cut, byte_at, tag_at, second_tag_byte, third_tag_byte, length_at, long_length, one_byte_length, two_byte_length, value_at, item_at}
+use Rattle.ber_tlv.specs.Written.{tag_bytes, length_bytes, written}
+use Rattle.ber_tlv.specs.declared.item.TlvFault.{TlvFault}
+use Rattle.ber_tlv.proofs.ItemBounds.{step-ok, chosen-ok, Lies, item_at-lies}
+
+-- a byte that was read
+record ReadByte (bytes : List ℕ) (place byte : ℕ) : Type 0 where
+  there : slice_get bytes place ≡ Some byte
+  small : byte < 256
+
+or_cut-ok : (start byte : ℕ) (found : Option ℕ) → or_cut start found ≡ Ok byte → found ≡ Some byte
+or_cut-ok start byte (Some other) e = cc
+or_cut-ok start byte None e = cc
+
+byte_at-read : (bytes : List ℕ) (start place byte : ℕ) → AreBytes bytes → byte_at bytes start place ≡ Ok byte → ReadByte bytes place byte
+unfolding byte_at
+byte_at-read bytes start place byte all e =
+    let there = or_cut-ok start byte (slice_get bytes place) e in
+    let value = get_or_from_slice_get bytes place byte 0 there in
+    let small = all place in
+    record { there = there; small = omega arith }
+
+drop-at : (bytes : List ℕ) (place byte : ℕ) → slice_get bytes place ≡ Some byte → drop place bytes ≡ byte ∷ drop (place + 1) bytes
+drop-at [] place byte e = cc
+drop-at (x ∷ bytes) zero byte e = cc
+drop-at (x ∷ bytes) (suc place) byte e = drop-at bytes place byte e ∙ ap (λ n. byte ∷ drop n (x ∷ bytes)) {x = suc (place + 1)} (omega arith)
+
+both-ok : (m n k l : ℕ) → ◌≡◌ {A = Result (ℕ × ℕ) TlvFault} (Ok (m, n)) (Ok (k, l)) → (m ≡ k) × (n ≡ l)
+both-ok m n k l e = let pair : ◌≡◌ {A = ℕ × ℕ} (m, n) (k, l) = cc e in (ap (λ p. p.0) pair, ap (λ p. p.1) pair)
+
+-- what was read as this tag, from a place to the next one, is its spelling
+pub record Spelled (bytes : List ℕ) (start tag next : ℕ) : Type 0 where
+  pub passed : start + length (tag_bytes tag) ≡ next
+  pub same : drop start bytes ≡ tag_bytes tag ++ drop next bytes
+
+spelled_by : (bytes : List ℕ) (start tag next : ℕ) (piece : List ℕ) (end : ℕ) → tag_bytes tag ≡ piece → start + length piece ≡ end → end ≡ next
+    → drop start bytes ≡ piece ++ drop end bytes → Spelled bytes start tag next
+spelled_by bytes start tag next piece end spelling passed same_end same = record {
+  passed = rw (spelling, ← same_end) passed;
+  same = rw (spelling, ← same_end) same;
+}
+
+one_byte : (x : ℕ) → x < 256 → tag_bytes x ≡ x ∷ []
+one_byte x small = grind (arith, nat_tests)
+
+pub two_bytes : (x y : ℕ) → x < 256 → y < 256 → x % 32 ≡ 31 → tag_bytes (x * 256 + y) ≡ x ∷ y ∷ []
+two_bytes x y first second more =
+    let above : nat_lt (x * 256 + y) 256 ≡ false = grind (arith, nat_tests) in
+    let below : nat_lt (x * 256 + y) 65536 ≡ true = grind (arith, nat_tests) in
+    let high : (x * 256 + y) / 256 ≡ x = omega arith in
+    let low : (x * 256 + y) % 256 ≡ y = omega arith in
+    rw (above, below, high, low) refl
+
+three_bytes : (x y z : ℕ) → x < 256 → y < 256 → z < 256 → x % 32 ≡ 31 → tag_bytes ((x * 256 + y) * 256 + z) ≡ x ∷ y ∷ z ∷ []
+three_bytes x y z first second third more =
+    let above : nat_lt ((x * 256 + y) * 256 + z) 256 ≡ false = grind (arith, nat_tests) in
+    let above_two : nat_lt ((x * 256 + y) * 256 + z) 65536 ≡ false = grind (arith, nat_tests) in
+    let high : ((x * 256 + y) * 256 + z) / 65536 % 256 ≡ x = omega arith in
+    let middle : ((x * 256 + y) * 256 + z) / 256 % 256 ≡ y = omega arith in
+    let low : ((x * 256 + y) * 256 + z) % 256 ≡ z = omega arith in
+    rw (above, above_two, high, middle, low) refl
+
+third_tag_byte-spelled : (bytes : List ℕ) (start x y tag next : ℕ) → AreBytes bytes → x < 256 → y < 256 → x % 32 ≡ 31 → drop start bytes ≡ x ∷ y ∷ drop (start + 2) bytes
+    → third_tag_byte bytes start (x * 256 + y) ≡ Ok (tag, next) → Spelled bytes start tag next
+unfolding third_tag_byte
+third_tag_byte-spelled bytes start x y tag next all first second more front e =
+    let step = step-ok (byte_at bytes start (start + 2)) _ (tag, next) e in
+    let third = byte_at-read bytes start (start + 2) step.0 all step.1 in
+    elim (chosen-ok (nat_lt step.0 128) _ _ (tag, next) step.2) [
+      | inl (short, found) ↦
+          let same = both-ok _ _ _ _ found in
+          let bytes_are = three_bytes x y step.0 first second third.small more in
+          let spelling = ap tag_bytes (sym same.0) ∙ bytes_are in
+          spelled_by bytes start tag next (x ∷ y ∷ step.0 ∷ []) (start + 3) spelling refl same.1
+          (front ∙ ap (λ r. x ∷ y ∷ r) (drop-at bytes (start + 2) step.0 third.there ∙ ap (λ n. step.0 ∷ drop n bytes) {x = start + 2 + 1} {y = start + 3} (omega arith)))
+      | inr long ↦ cc
+    ]
+
+second_tag_byte-spelled : (bytes : List ℕ) (start x tag next : ℕ) → AreBytes bytes → x < 256 → x % 32 ≡ 31 → drop start bytes ≡ x ∷ drop (start + 1) bytes
+    → second_tag_byte bytes start x ≡ Ok (tag, next) → Spelled bytes start tag next
+unfolding second_tag_byte
+second_tag_byte-spelled bytes start x tag next all first more front e =
+    let step = step-ok (byte_at bytes start (start + 1)) _ (tag, next) e in
+    let second = byte_at-read bytes start (start + 1) step.0 all step.1 in
+    let front_two = front ∙ ap (λ r. x ∷ r) (drop-at bytes (start + 1) step.0 second.there ∙ ap (λ n. step.0 ∷ drop n bytes) {x = start + 1 + 1} {y = start + 2} (omega arith)) in
+    elim (chosen-ok (nat_lt step.0 128) _ _ (tag, next) step.2) [
+      | inl (short, found) ↦
+          let same = both-ok _ _ _ _ found in
+          let spelling = ap tag_bytes (sym same.0) ∙ two_bytes x step.0 first second.small more in
+          spelled_by bytes start tag next (x ∷ step.0 ∷ []) (start + 2) spelling refl same.1 front_two
+      | inr long ↦ third_tag_byte-spelled bytes start x step.0 tag next all first second.small more front_two long
+    ]
+
+pub tag_at-spelled : (bytes : List ℕ) (start tag next : ℕ) → AreBytes bytes → tag_at bytes start ≡ Ok (tag, next) → Spelled bytes start tag next
+unfolding tag_at
+tag_at-spelled bytes start tag next all e =
+    let step = step-ok (byte_at bytes start start) _ (tag, next) e in
+    let first = byte_at-read bytes start start step.0 all step.1 in
+    let front = drop-at bytes start step.0 first.there in
+    elim (chosen-ok (step.0 % 32 == 31) _ _ (tag, next) step.2) [
+      | inl (more, found) ↦ second_tag_byte-spelled bytes start step.0 tag next all first.small (grind arith) front found
+      | inr found ↦
+          let same = both-ok _ _ _ _ found in
+          let spelling = ap tag_bytes (sym same.0) ∙ one_byte step.0 first.small in
+          spelled_by bytes start tag next (step.0 ∷ []) (start + 1) spelling refl same.1 front
+    ]
+
+short_count : (count : ℕ) → count < 256 → length (length_bytes count) ≤ 2
+short_count count small = grind (arith, nat_tests)
+
+shortest_count : (count : ℕ) → count < 128 → length (length_bytes count) ≡ 1
+shortest_count count small = grind (arith, nat_tests)
+
+pub any_count : (count : ℕ) → length (length_bytes count) ≤ 3
+any_count count = grind (arith, nat_tests)
+
+one_byte_length-least : (bytes : List ℕ) (start place count next : ℕ) → AreBytes bytes → one_byte_length bytes start place ≡ Ok (count, next) → place + length (length_bytes count) ≤ next
+unfolding one_byte_length
+one_byte_length-least bytes start place count next all e =
+    let step = step-ok (byte_at bytes start (place + 1)) _ (count, next) e in
+    let low = byte_at-read bytes start (place + 1) step.0 all step.1 in
+    let same = both-ok _ _ _ _ step.2 in
+    let is_count = same.0 in
+    let end = same.1 in
+    let small = low.small in
+    let few = short_count count (omega arith) in
+    omega arith
+
+two_byte_length-least : (bytes : List ℕ) (start place count next : ℕ) → two_byte_length bytes start place ≡ Ok (count, next) → place + length (length_bytes count) ≤ next
+unfolding two_byte_length
+two_byte_length-least bytes start place count next e =
+    let high = step-ok (byte_at bytes start (place + 1)) _ (count, next) e in
+    let low = step-ok (byte_at bytes start (place + 2)) _ (count, next) high.2 in
+    let same = both-ok _ _ _ _ low.2 in
+    let end = same.1 in
+    let few = any_count count in
+    omega arith
+
+long_length-least : (bytes : List ℕ) (start place first count next : ℕ) → AreBytes bytes → long_length bytes start place first ≡ Ok (count, next) → place + length (length_bytes count) ≤ next
+unfolding long_length
+long_length-least bytes start place first count next all e =
+    elim (chosen-ok (first == 129) _ _ (count, next) e) [
+      | inl (test, one) ↦ one_byte_length-least bytes start place count next all one
+      | inr more ↦ elim (chosen-ok (first == 130) _ _ (count, next) more) [
+        | inl (test, two) ↦ two_byte_length-least bytes start place count next two
+        | inr bad ↦ cc
+      ]
+    ]
+
+length_at-least : (bytes : List ℕ) (start place count next : ℕ) → AreBytes bytes → length_at bytes start place ≡ Ok (count, next) → place + length (length_bytes count) ≤ next
+unfolding length_at
+length_at-least bytes start place count next all e =
+    let step = step-ok (byte_at bytes start place) _ (count, next) e in
+    elim (chosen-ok (nat_lt step.0 128) _ _ (count, next) step.2) [
+      | inl (short, found) ↦
+          let same = both-ok _ _ _ _ found in
+          let is_count = same.0 in
+          let end = same.1 in
+          let below : step.0 < 128 = grind (arith, nat_tests) in
+          let one = shortest_count count (omega arith) in
+          omega arith
+      | inr long ↦ long_length-least bytes start place step.0 count next all long
+    ]
+
+-- what `value_at` gives
+record Given (tag place count : ℕ) (item : ItemData) (next : ℕ) : Type 0 where
+  same_tag : item.tag ≡ tag
+  same_end : place + count ≡ next
+
+value_at-given : (bytes : List ℕ) (start tag place count : ℕ) (item : ItemData) (next : ℕ) → value_at bytes start tag place count ≡ Ok (item, next) → Given tag place count item next
+unfolding value_at
+value_at-given bytes start tag place count item next e =
+    elim (chosen-ok (nat_le (place + count) (length bytes)) _ _ _ e) [
+      | inl (fits, stands) ↦
+          let pair : ◌≡◌ {A = ItemData × ℕ} (record { tag = tag; value = slice_range bytes place (place + count); start = start }, place + count) (item, next) = cc stands in
+          record { same_tag = sym (ap (λ p. p.0.tag) pair); same_end = ap (λ p. p.1) pair }
+      | inr cut ↦ cc
+    ]
+
+value_at-counts : (bytes : List ℕ) (start tag place count : ℕ) (item : ItemData) (next : ℕ) → value_at bytes start tag place count ≡ Ok (item, next) → length item.value ≡ count
+unfolding value_at
+value_at-counts bytes start tag place count item next e =
+    elim (chosen-ok (nat_le (place + count) (length bytes)) _ _ _ e) [
+      | inl (fits, stands) ↦
+          let pair : ◌≡◌ {A = ItemData × ℕ} (record { tag = tag; value = slice_range bytes place (place + count); start = start }, place + count) (item, next) = cc stands in
+          let same_value : slice_range bytes place (place + count) ≡ item.value = ap (λ p. p.0.value) pair in
+          let within : place + count ≤ length bytes = grind arith in
+          let counted : length (slice_range bytes place (place + count)) ≡ count = simp (length-take, length-drop) (omega arith) in
+          sym (ap length same_value) ∙ counted
+      | inr cut ↦ cc
+    ]
+
+written_by : (tag : ℕ) (value : List ℕ) (same_tag count : ℕ) → tag ≡ same_tag → length value ≡ count
+    → length (written tag value) ≡ length (tag_bytes same_tag) + length (length_bytes count) + count
+unfolding written
+written_by tag value same_tag count e counts =
+    rw (← e, ← counts) (simp length-append (omega arith))
+
+-- an object's bytes are at least as many as those that are written for it
+pub item_at-least : (bytes : List ℕ) (start : ℕ) (item : ItemData) (next : ℕ) → AreBytes bytes → item_at bytes start ≡ Ok (item, next) → start + length (written item.tag item.value) ≤ next
+unfolding item_at
+item_at-least bytes start item next all e =
+    let tag = step-ok (tag_at bytes start) _ (item, next) e in
+    let count = step-ok (length_at bytes start tag.0.1) _ (item, next) tag.2 in
+    let of_tag = tag_at-spelled bytes start tag.0.0 tag.0.1 all tag.1 in
+    let of_length = length_at-least bytes start tag.0.1 count.0.0 count.0.1 all count.1 in
+    let given = value_at-given bytes start tag.0.0 count.0.1 count.0.0 item next count.2 in
+    let counts = value_at-counts bytes start tag.0.0 count.0.1 count.0.0 item next count.2 in
+    let of_value = given.same_end in
+    let passed = of_tag.passed in
+    let whole = written_by item.tag item.value tag.0.0 count.0.0 given.same_tag counts in
+    omega arith
