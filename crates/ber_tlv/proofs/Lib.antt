@@ -4,4 +4,4 @@ pub mod ReadAgain
 pub mod Reading
 pub mod Walking
 pub mod WalkBounds
-pub mod Shortest
+pub mod Spelling

@@ -4,6 +4,7 @@ pub mod Items
 pub mod Left
 pub mod Place
 pub mod Seen
+pub mod Spelled
 pub mod Tag
 pub mod Walked
 pub mod Written

@@ -1,9 +1,10 @@
-ghost use Rattle.std.specs.Prelude.{◌≡◌, ◌+◌, ◌*◌, ◌/◌, ◌%◌, ◌<◌, ◌≤◌, length, Ok, Err, IfOk, IfErr, IsTrue, MatchResult, Some, slice_get};
+ghost use Rattle.std.specs.Prelude.{◌≡◌, ◌+◌, ◌*◌, ◌/◌, ◌%◌, ◌<◌, ◌≤◌, length, Ok, Err, IfOk, IfErr, IsTrue, MatchResult, Some, drop, slice_get};
 ghost use Rattle.ber_tlv.specs.Item as spec;
 ghost use Rattle.ber_tlv.specs.Items.{Begins};
 ghost use Rattle.ber_tlv.specs.Place as place_spec;
 ghost use Rattle.ber_tlv.specs.Place.{Within};
 ghost use Rattle.ber_tlv.specs.Seen.{seen};
+ghost use Rattle.ber_tlv.specs.Spelled.{Spelled, StopsTag};
 ghost use Rattle.ber_tlv.specs.Tag.{is_readable};
 
 use crate::tag::Tag;
@@ -118,6 +119,10 @@ pub fn read_tag(bytes: &[u8], start: usize) -> Result<(Tag, usize), TlvFault>
     ensures exact { MatchResult result
         (λ r. spec.tag_at bytes.now start ≡ Ok (r.0.0, r.1))
         (λ fault. spec.tag_at bytes.now start ≡ Err fault) }
+    // The bytes passed over are the tag's own, and where none is read the bytes are cut within a tag, or
+    // begin one of more than three bytes.
+    ensures spelled { IfOk result (λ r. Spelled bytes.now start r.0.0 r.1) }
+    ensures stops { IfErr result (λ fault. StopsTag fault start (drop start bytes.now)) }
     ensures within { IfOk result (λ r. (start < r.1) × (r.1 ≤ length bytes.now)) }
 {
     let (number, next) = tag_at(bytes, start)?;

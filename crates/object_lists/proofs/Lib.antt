@@ -1,1 +1,2 @@
 pub mod DolReading
+pub mod DolSpelling

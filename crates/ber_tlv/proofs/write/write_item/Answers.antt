@@ -1,7 +1,7 @@
 use Rattle.std.proofs.Common.{◌≡◌, ◌++◌, append_assoc}
 use Rattle.ber_tlv.specs.Written.{written}
 use Rattle.ber_tlv.proofs.ReadAgain.{appended_read}
-use Rattle.ber_tlv.proofs.Shortest.{item_at-least}
+use Rattle.ber_tlv.proofs.Spelling.{item_at-least}
 use Rattle.ber_tlv.proofs.write.write_item.Goals as goal
 
 pub returns-clause-read_again : goal.returns-clause-read_again

@@ -1,10 +1,13 @@
--- No spelling of an object that can be read is shorter than the one that is written.
-use Rattle.std.proofs.Common.{◌≡◌, ℕ, zero, suc, Bool, true, false, ◌+◌, ◌-◌, ◌*◌, ◌/◌, ◌%◌, ◌<◌, ◌≤◌, ◌==◌, nat_lt, nat_le, if◌then◌else◌, List, [], ◌∷◌, ◌++◌, length, drop, Option, Some, None, Result, Ok, Err, slice_get, refl, arith, sym, ap, ◌∙◌, inl, inr, length-append, length-drop}
+-- The bytes that a reading passes over: a tag's are its own, and an object's are at least as many as
+-- those that are written for it.
+use Rattle.std.proofs.Common.{◌≡◌, ℕ, zero, suc, Bool, true, false, ◌+◌, ◌-◌, ◌*◌, ◌/◌, ◌%◌, ◌<◌, ◌≤◌, ◌==◌, nat_lt, nat_le, if◌then◌else◌, List, [], ◌∷◌, ◌++◌, length, drop, Option, Some, None, Result, Ok, Err, slice_get, refl, arith, sym, ap, ◌∙◌, ◌⊎◌, inl, inr, subst, length-append, length-drop, append-nil}
 use Rattle.std.proofs.lemmas.Bool.Decides.{nat_tests}
 use Rattle.std.proofs.lemmas.Option.{get_or_from_slice_get}
 use Rattle.std.specs.List.{slice_range}
 use Rattle.std.proofs.lemmas.List.{length-take}
-use Rattle.ber_tlv.specs.Item.{AreBytes, ItemData, or_cut, byte_at, tag_at, second_tag_byte, third_tag_byte, length_at, long_length, one_byte_length, two_byte_length, value_at, item_at}
+use Rattle.ber_tlv.specs.Item.{AreBytes, ItemData, ◌>>=◌, or_cut, byte_at, tag_at, second_tag_byte, third_tag_byte, length_at, long_length, one_byte_length, two_byte_length, value_at, item_at}
+use Rattle.ber_tlv.specs.Spelled.{Spelled, IsCutTag, HasLongTag, StopsTag}
+use Rattle.ber_tlv.specs.declared.item.TlvFault.TheVariants.{Truncated, LongTag}
 use Rattle.ber_tlv.specs.Written.{tag_bytes, length_bytes, written}
 use Rattle.ber_tlv.specs.declared.item.TlvFault.{TlvFault}
 use Rattle.ber_tlv.proofs.ItemBounds.{step-ok, chosen-ok, Lies, item_at-lies}
@@ -26,18 +29,13 @@ byte_at-read bytes start place byte all e =
     let small = all place in
     record { there = there; small = omega arith }
 
-drop-at : (bytes : List ℕ) (place byte : ℕ) → slice_get bytes place ≡ Some byte → drop place bytes ≡ byte ∷ drop (place + 1) bytes
+pub drop-at : (bytes : List ℕ) (place byte : ℕ) → slice_get bytes place ≡ Some byte → drop place bytes ≡ byte ∷ drop (place + 1) bytes
 drop-at [] place byte e = cc
 drop-at (x ∷ bytes) zero byte e = cc
 drop-at (x ∷ bytes) (suc place) byte e = drop-at bytes place byte e ∙ ap (λ n. byte ∷ drop n (x ∷ bytes)) {x = suc (place + 1)} (omega arith)
 
 both-ok : (m n k l : ℕ) → ◌≡◌ {A = Result (ℕ × ℕ) TlvFault} (Ok (m, n)) (Ok (k, l)) → (m ≡ k) × (n ≡ l)
 both-ok m n k l e = let pair : ◌≡◌ {A = ℕ × ℕ} (m, n) (k, l) = cc e in (ap (λ p. p.0) pair, ap (λ p. p.1) pair)
-
--- what was read as this tag, from a place to the next one, is its spelling
-pub record Spelled (bytes : List ℕ) (start tag next : ℕ) : Type 0 where
-  pub passed : start + length (tag_bytes tag) ≡ next
-  pub same : drop start bytes ≡ tag_bytes tag ++ drop next bytes
 
 spelled_by : (bytes : List ℕ) (start tag next : ℕ) (piece : List ℕ) (end : ℕ) → tag_bytes tag ≡ piece → start + length piece ≡ end → end ≡ next
     → drop start bytes ≡ piece ++ drop end bytes → Spelled bytes start tag next
@@ -109,6 +107,92 @@ tag_at-spelled bytes start tag next all e =
           let same = both-ok _ _ _ _ found in
           let spelling = ap tag_bytes (sym same.0) ∙ one_byte step.0 first.small in
           spelled_by bytes start tag next (step.0 ∷ []) (start + 1) spelling refl same.1 front
+    ]
+
+or_cut-err : (start : ℕ) (found : Option ℕ) (fault : TlvFault) → or_cut start found ≡ Err fault → (found ≡ None) × (fault ≡ Truncated start)
+or_cut-err start None fault e = (refl, cc)
+or_cut-err start (Some byte) fault e = cc
+
+-- a step that fails, or the step behind it
+step-err : {A B : Type 0} (r : Result A TlvFault) (f : A → Result B TlvFault) (fault : TlvFault) → (r >>= f) ≡ Err fault
+    → (r ≡ Err fault) ⊎ ((a : A) × (r ≡ Ok a) × (f a ≡ Err fault))
+step-err (Ok a) f fault e = inr (a, refl, e)
+step-err (Err other) f fault e = inl cc
+
+choice-err : {A : Type 0} (test : Bool) (x y : Result A TlvFault) (fault : TlvFault) → (if test then x else y) ≡ Err fault
+    → ((test ≡ true) × (x ≡ Err fault)) ⊎ ((test ≡ false) × (y ≡ Err fault))
+choice-err true x y fault e = inl (refl, e)
+choice-err false x y fault e = inr (refl, e)
+
+pub drop-past : (bytes : List ℕ) (place : ℕ) → slice_get bytes place ≡ None → drop place bytes ≡ []
+drop-past [] zero e = refl
+drop-past [] (suc place) e = refl
+drop-past (x ∷ bytes) zero e = cc
+drop-past (x ∷ bytes) (suc place) e = drop-past bytes place e
+
+-- a place where no byte stands: the bytes before it are cut, and these are missing
+cut_at : (bytes : List ℕ) (start place : ℕ) (front more : List ℕ) (tag : ℕ) (fault : TlvFault) → or_cut start (slice_get bytes place) ≡ Err fault → drop start bytes ≡ front ++ drop place bytes
+    → tag_bytes tag ≡ front ++ more → 0 < length more → StopsTag fault start (drop start bytes)
+cut_at bytes start place front more tag fault e same spelling missing =
+    let past = or_cut-err start (slice_get bytes place) fault e in
+    let whole : drop start bytes ≡ front = same ∙ ap (λ r. front ++ r) (drop-past bytes place past.0) ∙ append-nil front in
+    let cut : IsCutTag (drop start bytes) = record { tag = tag; more = more; spells = rw whole (sym spelling); missing = missing } in
+    let P : TlvFault → Type 0 = λ f. StopsTag f start (drop start bytes) in
+    subst P (sym past.1) (refl, cut)
+
+third_tag_byte-stops : (bytes : List ℕ) (start x y : ℕ) (fault : TlvFault) → AreBytes bytes → x < 256 → y < 256 → x % 32 ≡ 31 → 128 ≤ y → drop start bytes ≡ x ∷ y ∷ drop (start + 2) bytes
+    → third_tag_byte bytes start (x * 256 + y) ≡ Err fault → StopsTag fault start (drop start bytes)
+unfolding third_tag_byte byte_at
+third_tag_byte-stops bytes start x y fault all first second more more_second front e =
+    elim (step-err (byte_at bytes start (start + 2)) _ fault e) [
+      | inl cut ↦ cut_at bytes start (start + 2) (x ∷ y ∷ []) (0 ∷ []) ((x * 256 + y) * 256 + 0) fault cut front (three_bytes x y 0 first second (omega arith) more) (omega arith)
+      | inr (third, read, later) ↦ elim (choice-err (nat_lt third 128) _ _ fault later) [
+        | inl (short, found) ↦ cc
+        | inr (long, found) ↦
+            let there = byte_at-read bytes start (start + 2) third all read in
+            let tag : HasLongTag (drop start bytes) = record {
+              first = x;
+              second = y;
+              third = third;
+              behind = drop (start + 2 + 1) bytes;
+              splits = front ∙ ap (λ r. x ∷ y ∷ r) (drop-at bytes (start + 2) third there.there);
+              more = more;
+              more_second = more_second;
+              more_third = grind (arith, nat_tests);
+            } in
+            let P : TlvFault → Type 0 = λ f. StopsTag f start (drop start bytes) in
+            let is_long : LongTag start ≡ fault = cc in
+            subst P is_long (refl, tag)
+      ]
+    ]
+
+second_tag_byte-stops : (bytes : List ℕ) (start x : ℕ) (fault : TlvFault) → AreBytes bytes → x < 256 → x % 32 ≡ 31 → drop start bytes ≡ x ∷ drop (start + 1) bytes
+    → second_tag_byte bytes start x ≡ Err fault → StopsTag fault start (drop start bytes)
+unfolding second_tag_byte byte_at
+second_tag_byte-stops bytes start x fault all first more front e =
+    elim (step-err (byte_at bytes start (start + 1)) _ fault e) [
+      | inl cut ↦ cut_at bytes start (start + 1) (x ∷ []) (0 ∷ []) (x * 256 + 0) fault cut front (two_bytes x 0 first (omega arith) more) (omega arith)
+      | inr (second, read, later) ↦ elim (choice-err (nat_lt second 128) _ _ fault later) [
+        | inl (short, found) ↦ cc
+        | inr (long, found) ↦
+            let there = byte_at-read bytes start (start + 1) second all read in
+            let front_two = front ∙ ap (λ r. x ∷ r) (drop-at bytes (start + 1) second there.there ∙ ap (λ n. second ∷ drop n bytes) {x = start + 1 + 1} {y = start + 2} (omega arith)) in
+            third_tag_byte-stops bytes start x second fault all first there.small more (grind (arith, nat_tests)) front_two found
+      ]
+    ]
+
+pub tag_at-stops : (bytes : List ℕ) (start : ℕ) (fault : TlvFault) → AreBytes bytes → tag_at bytes start ≡ Err fault → StopsTag fault start (drop start bytes)
+unfolding tag_at byte_at
+tag_at-stops bytes start fault all e =
+    elim (step-err (byte_at bytes start start) _ fault e) [
+      | inl cut ↦ cut_at bytes start start [] (0 ∷ []) 0 fault cut refl refl (omega arith)
+      | inr (first, read, later) ↦
+          let there = byte_at-read bytes start start first all read in
+          let front = drop-at bytes start first there.there in
+          elim (choice-err (first % 32 == 31) _ _ fault later) [
+            | inl (more, found) ↦ second_tag_byte-stops bytes start first fault all there.small (grind arith) front found
+            | inr (short, found) ↦ cc
+          ]
     ]
 
 short_count : (count : ℕ) → count < 256 → length (length_bytes count) ≤ 2
