@@ -1,7 +1,11 @@
-ghost use Rattle.std.specs.Prelude.{◌≡◌, ◌+◌, ◌≤◌, [], length, drop, Ok, Err, IfOk, IfErr, MatchResult};
+ghost use Rattle.std.specs.Prelude.{◌≡◌, ◌≢◌, ◌+◌, ◌≤◌, [], length, take, drop, Ok, Err, IfOk, IfErr, IfSome, IfNone, MatchResult};
+ghost use Rattle.std.specs.List.{AllByRecursion};
+ghost use Rattle.env_map.specs.Entries.{Entries};
 ghost use Rattle.object_lists.specs.DolEntries.{DolEntry, dol_of, total_of, place_of};
 ghost use Rattle.object_lists.specs.DolEntries as spec;
 ghost use Rattle.object_lists.specs.DolSeen.{seen, all_seen};
+ghost use Rattle.object_lists.specs.EntryAt.{EntryAt};
+ghost use Rattle.object_lists.specs.Filled.{dol_data, entry_data};
 ghost use Rattle.object_lists.specs.DolSpelled.{dol_bytes, SpelledEntry, StopsEntry, FaultBehindEntries};
 
 use arrayvec::ArrayVec;
@@ -125,7 +129,13 @@ fn total_among(entries: &[Entry]) -> u32
 
 /// Where the data of the first entry with this tag and length begins in the filled data.
 pub fn place(dol: &Dol, tag: Tag, len: u8) -> Option<usize>
-    ensures { result ≡ place_of tag.0 len dol.now }
+    ensures place { result ≡ place_of tag.0 len dol.now }
+    ensures found { IfSome result (EntryAt dol.now (record { tag = tag.0; count = len })) }
+    ensures none { IfNone result (AllByRecursion (λ entry. entry ≢ record { tag = tag.0; count = len }) dol.now) }
+    // Whatever the maps have, the filled data have that entry's data there.
+    ensures data { IfSome result (λ place. (card terminal : Entries)
+        → take len (drop place (dol_data dol.now card terminal))
+        ≡ entry_data card terminal (record { tag = tag.0; count = len })) }
 {
     place_among(dol.entries(), tag, len)
 }
