@@ -1,14 +1,15 @@
 -- What `template_fault_behind` gives at the end, at an object and at a fault.
-use Rattle.std.proofs.Common.{◌≡◌, ℕ, zero, suc, Bool, true, false, ◌+◌, ◌-◌, ◌<◌, ◌==◌, if◌then◌else◌, List, length, Option, Some, None, option_map, Result, Ok, Err, slice_get, refl, arith, ap, ◌∙◌}
+use Rattle.std.proofs.Common.{◌≡◌, ℕ, zero, suc, Bool, true, false, ◌+◌, ◌-◌, ◌<◌, ◌==◌, if◌then◌else◌, List, length, Option, Some, None, option_map, Result, Ok, Err, slice_get, refl, arith, ap, sym, ◌∙◌, eq-eqb, subst, [], ◌∷◌, IsNone, ◌↔◌}
 use Rattle.std.proofs.lemmas.Option.{slice_get_past}
 use Rattle.std.specs.Option.{option_or}
-use Rattle.ber_tlv.specs.Direct.{fault_inside, fault_at_object, fault_by_byte, template_fault_from, template_fault_behind}
+use Rattle.ber_tlv.specs.Direct.{fault_inside, fault_at_object, fault_by_byte, template_fault_from, template_fault_behind, template_fault, AreListsInside, IsWhole}
 use Rattle.ber_tlv.specs.Item.{ItemData, item_at}
 use Rattle.ber_tlv.specs.Left.{items_of, fault_of}
 use Rattle.ber_tlv.specs.Place.{moved}
-use Rattle.ber_tlv.specs.Items.{Zeros, Begins, NextItem, NextFault}
+use Rattle.ber_tlv.specs.Items.{Zeros, Begins, NextItem, NextFault, Items, FaultBehind}
 use Rattle.ber_tlv.specs.declared.item.TlvFault.{TlvFault}
 use Rattle.ber_tlv.proofs.ItemBounds.{item_at-lies}
+use Rattle.ber_tlv.proofs.Reading.{reads_list, reads_fault}
 
 fault_by_byte-same : (byte : Option ℕ) (p q u v : Option TlvFault) → p ≡ q → u ≡ v → fault_by_byte byte p u ≡ fault_by_byte byte q v
 fault_by_byte-same byte p q u v e f = cc
@@ -93,3 +94,58 @@ pub fault_other : (tag : ℕ) (bytes : List ℕ) (place : ℕ) (item : ItemData)
     → (item.tag == tag) ≡ false → template_fault_behind tag bytes place ≡ template_fault_behind tag bytes next
 fault_other tag bytes place item next step other =
     fault-item tag bytes place item next step ∙ rw other refl
+
+if_inside_found : (found : Option TlvFault) (front : ℕ) {behind : Option TlvFault} → option_or (option_map (moved front) found) behind ≡ None → (true ≡ true → found ≡ None) × (behind ≡ None)
+if_inside_found None front e = (λ t. refl, e)
+if_inside_found (Some fault) front e = cc
+
+is_none-none : (found : Option TlvFault) → IsNone found → found ≡ None
+is_none-none None none = refl
+is_none-none (Some fault) none = cc
+
+if_inside : (test : Bool) (item : ItemData) (next : ℕ) {behind : Option TlvFault} → option_or (if test then option_map (moved (next - length item.value)) (fault_of (items_of item.value)) else None) behind ≡ None
+    → (test ≡ true → fault_of (items_of item.value) ≡ None) × (behind ≡ None)
+if_inside true item next e = if_inside_found (fault_of (items_of item.value)) (next - length item.value) e
+if_inside false item next e = (λ t. cc, e)
+
+-- a whole list without a fault inside
+none_at_item : (tag : ℕ) (bytes : List ℕ) (place : ℕ) (item : ItemData) (next : ℕ) → NextItem bytes place item next → (item.tag ≡ tag → fault_of (items_of item.value) ≡ None)
+    → template_fault_behind tag bytes place ≡ template_fault_behind tag bytes next
+none_at_item tag bytes place item next step none = by_test (item.tag == tag) refl where
+    by_test : (test : Bool) → (item.tag == tag) ≡ test → template_fault_behind tag bytes place ≡ template_fault_behind tag bytes next
+    by_test true same = fault_passed tag bytes place item next step (none (grind arith))
+    by_test false other = fault_other tag bytes place item next step other
+
+whole-none : (tag : ℕ) (bytes : List ℕ) (place : ℕ) (items : List ItemData) → Items bytes place items → AreListsInside tag items → template_fault_behind tag bytes place ≡ None
+whole-none tag bytes place [] zeros inside = fault-end tag bytes place zeros
+whole-none tag bytes place (item ∷ items) (next, step, rest) inside =
+    none_at_item tag bytes place item next step inside.0 ∙ whole-none tag bytes next items rest inside.1
+
+none-whole : (tag : ℕ) (bytes : List ℕ) (place : ℕ) (items : List ItemData) → Items bytes place items → template_fault_behind tag bytes place ≡ None → AreListsInside tag items
+none-whole tag bytes place [] zeros e = tt
+none-whole tag bytes place (item ∷ items) (next, step, rest) e =
+    let both = if_inside (item.tag == tag) item next (sym (fault-item tag bytes place item next step) ∙ e) in
+    (λ same. both.0 (eq-eqb item.tag tag same), none-whole tag bytes next items rest both.1)
+
+fault-some : (tag : ℕ) (bytes : List ℕ) (place : ℕ) (items : List ItemData) (fault : TlvFault) → FaultBehind bytes place items fault → template_fault_behind tag bytes place ≡ None → ⊥
+fault-some tag bytes place [] fault broken e = let found = fault-fault tag bytes place fault broken in cc
+fault-some tag bytes place (item ∷ items) fault (next, step, rest) e =
+    fault-some tag bytes next items fault rest (if_inside (item.tag == tag) item next (sym (fault-item tag bytes place item next step) ∙ e)).1
+
+whole_of_reading : (tag : ℕ) (bytes : List ℕ) (reading : Result (List ItemData) TlvFault) → items_of bytes ≡ reading → template_fault tag bytes ≡ None → IsWhole tag bytes
+whole_of_reading tag bytes (Ok items) is_list e =
+    record { items = items; listed = is_list; inside = none-whole tag bytes 0 items ((reads_list bytes items).0 is_list) e }
+whole_of_reading tag bytes (Err fault) is_fault e =
+    let behind = (reads_fault bytes fault).0 is_fault in
+    absurd (fault-some tag bytes 0 behind.0 fault behind.1 e)
+
+-- no fault exactly where the bytes are whole
+no_fault-whole : (tag : ℕ) (bytes : List ℕ) → IsNone (template_fault tag bytes) ↔ IsWhole tag bytes
+no_fault-whole tag bytes =
+    (λ none. whole_of_reading tag bytes (items_of bytes) refl (is_none-none (template_fault tag bytes) none),
+    λ whole. rw (whole-none tag bytes 0 whole.items ((reads_list bytes whole.items).0 whole.listed) whole.inside) refl)
+
+pub whole_where_none : (result : Option TlvFault) (tag : ℕ) (bytes : List ℕ) → result ≡ template_fault tag bytes → IsNone result ↔ IsWhole tag bytes
+whole_where_none result tag bytes e =
+    let P : Option TlvFault → Type 0 = λ r. IsNone r ↔ IsWhole tag bytes in
+    subst P (sym e) (no_fault-whole tag bytes)

@@ -5,3 +5,4 @@ pub mod Reading
 pub mod Walking
 pub mod WalkBounds
 pub mod Spelling
+pub mod SoleItem

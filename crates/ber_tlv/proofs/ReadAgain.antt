@@ -45,7 +45,7 @@ length_of_three : (front rest : List ℕ) (start x y count : ℕ) → x * 256 + 
 unfolding length_at long_length two_byte_length byte_at
 length_of_three front rest start x y count whole = rw (at_first front (x ∷ y ∷ rest) 130, at_second front (y ∷ rest) 130 x, at_third front rest 130 x y, whole) refl
 
-both : (a b : Bool) → (a && b) ≡ true → (a ≡ true) × (b ≡ true)
+pub both : (a b : Bool) → (a && b) ≡ true → (a ≡ true) × (b ≡ true)
 both true b e = (refl, e)
 both false b e = cc
 

@@ -1,6 +1,7 @@
 -- The data objects that stand directly in a byte string, and those directly in its templates (EMV 4.3
 -- Book 3 Annex B).
-use Rattle.std.specs.Prelude.{ℕ, zero, suc, ◌+◌, ◌-◌, ◌==◌, if◌then◌else◌, List, [], ◌∷◌, length, Option, Some, None, option_map, Result, Ok, Err, slice_get}
+use Rattle.std.specs.Prelude.{◌≡◌, ℕ, zero, suc, ◌+◌, ◌-◌, ◌==◌, if◌then◌else◌, List, [], ◌∷◌, length, Option, Some, None, option_map, Result, Ok, Err, slice_get}
+use Rattle.std.specs.List.{AllByRecursion}
 use Rattle.std.specs.Option.{option_or}
 use Rattle.ber_tlv.specs.Item.{ItemData, item_at}
 use Rattle.ber_tlv.specs.Left.{items_of, fault_of}
@@ -58,3 +59,13 @@ template_fault_behind tag bytes place = template_fault_from (suc (length bytes))
 -- in each of its objects of this tag
 abbrev pub template_fault : ℕ → List ℕ → Option TlvFault
 template_fault tag bytes = template_fault_behind tag bytes 0
+
+-- the objects of this tag among these are lists of objects in turn
+abbrev pub AreListsInside : ℕ → List ItemData → Type 0
+AreListsInside tag items = AllByRecursion (λ item. item.tag ≡ tag → fault_of (items_of item.value) ≡ None) items
+
+-- the bytes are a list of objects, and so is the value of each one of this tag
+pub record IsWhole (tag : ℕ) (bytes : List ℕ) : Type 0 where
+  pub items : List ItemData
+  pub listed : items_of bytes ≡ Ok items
+  pub inside : AreListsInside tag items

@@ -1,7 +1,9 @@
-ghost use Rattle.std.specs.Prelude.{◌≡◌, ◌+◌, ◌-◌, ◌≤◌, ◌<◌, ◌^◌, length, Some, Ok, Err, IfSome, IsTrue, MatchResult, option_map};
-ghost use Rattle.ber_tlv.specs.Direct.{found_value, sole_value, template_fault};
+ghost use Rattle.std.specs.Prelude.{◌≡◌, ◌+◌, ◌-◌, ◌≤◌, ◌<◌, ◌^◌, length, Some, Ok, Err, IfSome, IsNone, IsTrue, ℕ, List, ◌↔◌, MatchResult, option_map};
+ghost use Rattle.ber_tlv.specs.Direct.{found_value, sole_value, template_fault, IsWhole};
 ghost use Rattle.ber_tlv.specs.Direct as spec;
 ghost use Rattle.ber_tlv.specs.Left.{items_of};
+ghost use Rattle.ber_tlv.specs.Tag.{is_readable};
+ghost use Rattle.ber_tlv.specs.Written.{written};
 ghost use Rattle.ber_tlv.specs.Place.{place_of, moved, Within};
 
 use crate::cursor::{Cursor, first_fault};
@@ -34,6 +36,9 @@ pub fn first_value(bytes: &[u8], tag: Tag) -> Result<Option<&[u8]>, TlvFault>
 /// before and behind it aside (EMV 4.3 Book 3 Annex B).
 pub fn sole_value(bytes: &[u8], tag: Tag) -> Option<&[u8]>
     ensures exact { option_map (λ value. value.now) result ≡ sole_value tag.0 (items_of bytes.now) }
+    // An object as it is written is given back.
+    ensures written { (value : List ℕ) → IsTrue (is_readable tag.0) → bytes.now ≡ written tag.0 value
+        → sole_value tag.0 (items_of bytes.now) ≡ Some value }
     ensures within { IfSome result (λ value. length value.now + 2 ≤ length bytes.now) }
 {
     let mut cursor = Cursor::new(bytes);
@@ -57,6 +62,7 @@ pub fn sole_value(bytes: &[u8], tag: Tag) -> Option<&[u8]>
 /// the string, also inside these objects.
 pub fn template_fault(bytes: &[u8], tag: Tag) -> Option<TlvFault>
     ensures exact { result ≡ template_fault tag.0 bytes.now }
+    ensures none { IsNone result ↔ IsWhole tag.0 bytes.now }
     ensures fault_place { IfSome result (Within bytes.now 0) }
 {
     let mut cursor = Cursor::new(bytes);

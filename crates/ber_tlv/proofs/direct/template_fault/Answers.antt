@@ -1,6 +1,6 @@
-use Rattle.std.proofs.Common.{◌∙◌, sym}
+use Rattle.std.proofs.Common.{None, Some, ◌∙◌, sym}
 use Rattle.ber_tlv.specs.Seen.{seen}
-use Rattle.ber_tlv.proofs.DirectFaults.{fault-end, fault-fault, fault_found, fault_passed, fault_other}
+use Rattle.ber_tlv.proofs.DirectFaults.{fault-end, fault-fault, fault_found, fault_passed, fault_other, whole_where_none}
 use Rattle.ber_tlv.proofs.direct.template_fault.Goals as goal
 
 pub returns-in-Ok-None-clause-exact : goal.returns-in-Ok-None-clause-exact
@@ -38,3 +38,12 @@ loop-item-preserved c =
       same_bytes = c.in-Ok-Some.ensures.same_bytes ∙ c.loop-item.invariant.same_bytes;
       same_fault = rw c.in-Ok-Some.ensures.same_bytes (sym passed ∙ c.loop-item.invariant.same_fault);
     }
+
+pub returns-in-Ok-None-clause-none : goal.returns-in-Ok-None-clause-none
+returns-in-Ok-None-clause-none c = whole_where_none None c.args.tag.0 c.args.bytes.now (returns-in-Ok-None-clause-exact c)
+
+pub returns-in-Err-clause-none : goal.returns-in-Err-clause-none
+returns-in-Err-clause-none c = whole_where_none (Some c.in-Err.fault) c.args.tag.0 c.args.bytes.now (returns-in-Err-clause-exact c)
+
+pub returns-in-Some-clause-none : goal.returns-in-Some-clause-none
+returns-in-Some-clause-none c = whole_where_none (Some c.moved.result) c.args.tag.0 c.args.bytes.now (returns-in-Some-clause-exact c)
