@@ -112,9 +112,9 @@ if_inside false item next e = (λ t. cc, e)
 none_at_item : (tag : ℕ) (bytes : List ℕ) (place : ℕ) (item : ItemData) (next : ℕ) → NextItem bytes place item next → (item.tag ≡ tag → fault_of (items_of item.value) ≡ None)
     → template_fault_behind tag bytes place ≡ template_fault_behind tag bytes next
 none_at_item tag bytes place item next step none = by_test (item.tag == tag) refl where
-    by_test : (test : Bool) → (item.tag == tag) ≡ test → template_fault_behind tag bytes place ≡ template_fault_behind tag bytes next
-    by_test true same = fault_passed tag bytes place item next step (none (grind arith))
-    by_test false other = fault_other tag bytes place item next step other
+  by_test : (test : Bool) → (item.tag == tag) ≡ test → template_fault_behind tag bytes place ≡ template_fault_behind tag bytes next
+  by_test true same = fault_passed tag bytes place item next step (none (grind arith))
+  by_test false other = fault_other tag bytes place item next step other
 
 whole-none : (tag : ℕ) (bytes : List ℕ) (place : ℕ) (items : List ItemData) → Items bytes place items → AreListsInside tag items → template_fault_behind tag bytes place ≡ None
 whole-none tag bytes place [] zeros inside = fault-end tag bytes place zeros
@@ -141,9 +141,10 @@ whole_of_reading tag bytes (Err fault) is_fault e =
 
 -- no fault exactly where the bytes are whole
 no_fault-whole : (tag : ℕ) (bytes : List ℕ) → IsNone (template_fault tag bytes) ↔ IsWhole tag bytes
-no_fault-whole tag bytes =
-    (λ none. whole_of_reading tag bytes (items_of bytes) refl (is_none-none (template_fault tag bytes) none),
-    λ whole. rw (whole-none tag bytes 0 whole.items ((reads_list bytes whole.items).0 whole.listed) whole.inside) refl)
+no_fault-whole tag bytes = (
+  λ none. whole_of_reading tag bytes (items_of bytes) refl (is_none-none (template_fault tag bytes) none),
+  λ whole. rw (whole-none tag bytes 0 whole.items ((reads_list bytes whole.items).0 whole.listed) whole.inside) refl,
+)
 
 pub whole_where_none : (result : Option TlvFault) (tag : ℕ) (bytes : List ℕ) → result ≡ template_fault tag bytes → IsNone result ↔ IsWhole tag bytes
 whole_where_none result tag bytes e =

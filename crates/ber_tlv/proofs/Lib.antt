@@ -1,3 +1,4 @@
+pub mod FirstBytes
 pub mod DirectFaults
 pub mod ItemBounds
 pub mod ReadAgain

@@ -1,12 +1,12 @@
 -- A byte string that is one object as it is written.
-use Rattle.std.proofs.Common.{◌≡◌, ℕ, zero, suc, Bool, true, false, ◌&&◌, not, IsTrue, ◌+◌, ◌/◌, ◌%◌, ◌==◌, ◌<◌, ◌≤◌, nat_lt, nat_le, if◌then◌else◌, List, [], ◌∷◌, ◌++◌, length, Option, Some, None, Result, Ok, slice_get, refl, arith, sym, ap, ◌∙◌, append-nil, zero-add}
+use Rattle.std.proofs.Common.{◌≡◌, ℕ, Bool, true, false, IsTrue, ◌/◌, ◌%◌, ◌==◌, ◌<◌, ◌≤◌, nat_lt, nat_le, List, [], ◌∷◌, length, Some, Result, Ok, refl, arith, sym, ap, ◌∙◌, append-nil, zero-add}
 use Rattle.std.proofs.lemmas.Bool.Decides.{nat_tests}
 use Rattle.ber_tlv.specs.Direct.{sole_value}
 use Rattle.ber_tlv.specs.Item.{ItemData, item_at}
-use Rattle.ber_tlv.specs.Items.{Zeros, Begins, NextItem, Items}
+use Rattle.ber_tlv.specs.Items.{Begins, NextItem}
 use Rattle.ber_tlv.specs.Left.{items_of}
 use Rattle.ber_tlv.specs.Tag.{is_readable}
-use Rattle.ber_tlv.specs.Written.{tag_bytes, length_bytes, written}
+use Rattle.ber_tlv.specs.Written.{tag_bytes, written}
 use Rattle.ber_tlv.specs.declared.item.TlvFault.{TlvFault}
 use Rattle.ber_tlv.proofs.ReadAgain.{item_read, both}
 use Rattle.ber_tlv.proofs.Reading.{Items-left, no_zeros}

@@ -1,6 +1,6 @@
 -- The bytes that a reading passes over: a tag's are its own, and an object's are at least as many as
 -- those that are written for it.
-use Rattle.std.proofs.Common.{◌≡◌, ℕ, zero, suc, Bool, true, false, ◌+◌, ◌-◌, ◌*◌, ◌/◌, ◌%◌, ◌<◌, ◌≤◌, ◌==◌, nat_lt, nat_le, if◌then◌else◌, List, [], ◌∷◌, ◌++◌, length, drop, Option, Some, None, Result, Ok, Err, slice_get, refl, arith, sym, ap, ◌∙◌, ◌⊎◌, inl, inr, subst, length-append, length-drop, append-nil}
+use Rattle.std.proofs.Common.{◌≡◌, ℕ, zero, suc, Bool, true, false, ◌+◌, ◌*◌, ◌/◌, ◌%◌, ◌<◌, ◌≤◌, ◌==◌, nat_lt, nat_le, if◌then◌else◌, List, [], ◌∷◌, ◌++◌, length, drop, Option, Some, None, Result, Ok, Err, slice_get, refl, arith, sym, ap, ◌∙◌, ◌⊎◌, inl, inr, subst, length-append, length-drop, append-nil}
 use Rattle.std.proofs.lemmas.Bool.Decides.{nat_tests}
 use Rattle.std.proofs.lemmas.Option.{get_or_from_slice_get}
 use Rattle.std.specs.List.{slice_range}
@@ -10,7 +10,7 @@ use Rattle.ber_tlv.specs.Spelled.{Spelled, IsCutTag, HasLongTag, StopsTag}
 use Rattle.ber_tlv.specs.declared.item.TlvFault.TheVariants.{Truncated, LongTag}
 use Rattle.ber_tlv.specs.Written.{tag_bytes, length_bytes, written}
 use Rattle.ber_tlv.specs.declared.item.TlvFault.{TlvFault}
-use Rattle.ber_tlv.proofs.ItemBounds.{step-ok, chosen-ok, Lies, item_at-lies}
+use Rattle.ber_tlv.proofs.ItemBounds.{step-ok, chosen-ok}
 
 -- a byte that was read
 record ReadByte (bytes : List ℕ) (place byte : ℕ) : Type 0 where
