@@ -65,8 +65,7 @@ pub fn status_words()
     ensures data_not_found { DATA_NOT_FOUND ≡ spec.data_not_found }
     ensures instruction_not_supported { INSTRUCTION_NOT_SUPPORTED ≡ spec.instruction_not_supported }
     ensures class_not_supported { CLASS_NOT_SUPPORTED ≡ spec.class_not_supported }
-{
-}
+{}
 
 /// The status that gives a counter from 0 to 15, as of the tries that are left: 63Cx.
 pub fn counter(left: u8) -> u16

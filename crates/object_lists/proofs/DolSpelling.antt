@@ -29,13 +29,15 @@ entry_without_count bytes start tag next spelled none =
 
 -- a tag that is not read
 pub entry_stopped : (fault : TlvFault) (start : ℕ) (bytes : List ℕ) → StopsTag fault start bytes → StopsEntry (fault_of_tag fault) start bytes
-entry_stopped (tlv.Truncated place) start bytes (same, cut) =
-    (same, record {
-      entry = record { tag = cut.tag; count = 0 };
-      more = cut.more ++ 0 ∷ [];
-      spells = sym (append_assoc bytes cut.more (0 ∷ [])) ∙ ap (λ r. r ++ 0 ∷ []) cut.spells;
-      missing = rw (length-append cut.more (0 ∷ [])) (omega arith);
-    })
+entry_stopped (tlv.Truncated place) start bytes (same, cut) = (
+  same,
+  record {
+    entry = record { tag = cut.tag; count = 0 };
+    more = cut.more ++ 0 ∷ [];
+    spells = sym (append_assoc bytes cut.more (0 ∷ [])) ∙ ap (λ r. r ++ 0 ∷ []) cut.spells;
+    missing = rw (length-append cut.more (0 ∷ [])) (omega arith);
+  },
+)
 entry_stopped (tlv.BadLength place) start bytes none = absurd none
 entry_stopped (tlv.LongTag place) start bytes stops = stops
 

@@ -56,7 +56,6 @@ data_there entries entry place at card terminal =
     ap (drop place) whole ∙ drop_at (dol_data at.front card terminal) (entry_data card terminal entry ++ behind) place (length-dol_data at.front card terminal ∙ at.wanted) in
     ap (take entry.count) from ∙ take_at (entry_data card terminal entry) behind entry.count (length-entry_data card terminal entry)
 
-
 -- what `place_of` gives is where the first such entry is; none where there is no such entry
 abbrev Found : DolEntry → List DolEntry → Option ℕ → Type 0
 Found entry entries None = AllByRecursion (λ other. other ≢ entry) entries
