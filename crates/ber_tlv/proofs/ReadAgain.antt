@@ -97,7 +97,7 @@ value_read front rest value start tag =
     let taken : take (length value) (value ++ rest) ≡ value = take-append_all value rest in
     rw (fits, count, drop-append_seam front (value ++ rest), taken) refl
 
-item_of_parts : (bytes : List ℕ) (start place from tag count next : ℕ) (item : ItemData) → tag_at bytes start ≡ Ok (tag, place) → length_at bytes start place ≡ Ok (count, from) → value_at bytes start tag from count ≡ Ok (item, next) → item_at bytes start ≡ Ok (item, next)
+pub item_of_parts : (bytes : List ℕ) (start place from tag count next : ℕ) (item : ItemData) → tag_at bytes start ≡ Ok (tag, place) → length_at bytes start place ≡ Ok (count, from) → value_at bytes start tag from count ≡ Ok (item, next) → item_at bytes start ≡ Ok (item, next)
 unfolding item_at
 item_of_parts bytes start place from tag count next item is_tag is_length is_value = rw (is_tag, is_length) is_value
 

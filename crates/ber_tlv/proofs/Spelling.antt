@@ -1,15 +1,18 @@
 -- The bytes that a reading passes over: a tag's are its own, and an object's are at least as many as
 -- those that are written for it.
-use Rattle.std.proofs.Common.{◌≡◌, ℕ, zero, suc, Bool, true, false, ◌+◌, ◌*◌, ◌/◌, ◌%◌, ◌<◌, ◌≤◌, ◌==◌, nat_lt, nat_le, if◌then◌else◌, List, [], ◌∷◌, ◌++◌, length, drop, Option, Some, None, Result, Ok, Err, slice_get, refl, arith, sym, ap, ◌∙◌, ◌⊎◌, inl, inr, subst, length-append, length-drop, append-nil}
+use Rattle.std.proofs.Common.{◌≡◌, ℕ, zero, suc, Bool, true, false, ◌+◌, ◌-◌, ◌*◌, ◌/◌, ◌%◌, ◌<◌, ◌≤◌, ◌==◌, nat_lt, nat_le, if◌then◌else◌, List, [], ◌∷◌, ◌++◌, length, drop, Option, Some, None, Result, Ok, Err, slice_get, refl, arith, sym, ap, ◌∙◌, ◌⊎◌, inl, inr, subst, length-append, length-drop, append-nil, IfOk, MatchResult}
 use Rattle.std.proofs.lemmas.Bool.Decides.{nat_tests}
 use Rattle.std.proofs.lemmas.Option.{get_or_from_slice_get}
 use Rattle.std.specs.List.{slice_range}
 use Rattle.std.proofs.lemmas.List.{length-take}
 use Rattle.ber_tlv.specs.Item.{AreBytes, ItemData, ◌>>=◌, or_cut, byte_at, tag_at, second_tag_byte, third_tag_byte, length_at, long_length, one_byte_length, two_byte_length, value_at, item_at}
-use Rattle.ber_tlv.specs.Spelled.{Spelled, IsCutTag, HasLongTag, StopsTag}
+use Rattle.ber_tlv.specs.Spelled.{Spelled, IsCutTag, HasLongTag, StopsTag, number_of, LongLength, HasLength}
 use Rattle.ber_tlv.specs.declared.item.TlvFault.TheVariants.{Truncated, LongTag}
 use Rattle.ber_tlv.specs.Written.{tag_bytes, length_bytes, written}
 use Rattle.ber_tlv.specs.declared.item.TlvFault.{TlvFault}
+use Rattle.ber_tlv.specs.Seen.{seen}
+use Rattle.ber_tlv.specs.declared.item.Item.{Item}
+use Rattle.ber_tlv.proofs.ReadAgain.{item_of_parts}
 use Rattle.ber_tlv.proofs.ItemBounds.{step-ok, chosen-ok}
 
 -- a byte that was read
@@ -195,6 +198,69 @@ tag_at-stops bytes start fault all e =
           ]
     ]
 
+long_by : (bytes : List ℕ) (place count next : ℕ) (following : List ℕ) (end : ℕ) → slice_get bytes place ≡ Some (128 + length following) → 1 ≤ length following → length following ≤ 2
+    → place + 1 + length following ≡ end → end ≡ next → drop (place + 1) bytes ≡ following ++ drop end bytes → number_of following ≡ count → LongLength bytes place count next
+long_by bytes place count next following end first some few passed same_end stand number = record {
+  following = following;
+  first = first;
+  some = some;
+  few = few;
+  end = passed ∙ same_end;
+  stand = rw (← same_end) stand;
+  number = number;
+}
+
+same_length : (bytes : List ℕ) (place count next : ℕ) → HasLength bytes place count next → (place2 count2 next2 : ℕ) → place ≡ place2 → count ≡ count2 → next ≡ next2 → HasLength bytes place2 count2 next2
+same_length bytes place count next has place2 count2 next2 p q r = rw (← p, ← q, ← r) has
+
+one_byte_length-form : (bytes : List ℕ) (start place count next : ℕ) → slice_get bytes place ≡ Some 129 → one_byte_length bytes start place ≡ Ok (count, next) → LongLength bytes place count next
+unfolding one_byte_length byte_at
+one_byte_length-form bytes start place count next first e =
+    let low = step-ok (byte_at bytes start (place + 1)) _ (count, next) e in
+    let there = or_cut-ok start low.0 (slice_get bytes (place + 1)) low.1 in
+    let same = both-ok _ _ _ _ low.2 in
+    long_by bytes place count next (low.0 ∷ []) (place + 2) first (omega arith) (omega arith) (omega arith) same.1
+    (drop-at bytes (place + 1) low.0 there ∙ ap (λ n. low.0 ∷ drop n bytes) {x = place + 1 + 1} {y = place + 2} (omega arith))
+    (omega arith ∙ same.0)
+
+two_byte_length-form : (bytes : List ℕ) (start place count next : ℕ) → slice_get bytes place ≡ Some 130 → two_byte_length bytes start place ≡ Ok (count, next) → LongLength bytes place count next
+unfolding two_byte_length byte_at
+two_byte_length-form bytes start place count next first e =
+    let high = step-ok (byte_at bytes start (place + 1)) _ (count, next) e in
+    let low = step-ok (byte_at bytes start (place + 2)) _ (count, next) high.2 in
+    let high_there = or_cut-ok start high.0 (slice_get bytes (place + 1)) high.1 in
+    let low_there = or_cut-ok start low.0 (slice_get bytes (place + 2)) low.1 in
+    let same = both-ok _ _ _ _ low.2 in
+    long_by bytes place count next (high.0 ∷ low.0 ∷ []) (place + 3) first (omega arith) (omega arith) (omega arith) same.1
+    (drop-at bytes (place + 1) high.0 high_there
+    ∙ ap (λ r. high.0 ∷ r) (ap (λ n. drop n bytes) {x = place + 1 + 1} {y = place + 2} (omega arith)
+    ∙ drop-at bytes (place + 2) low.0 low_there ∙ ap (λ n. low.0 ∷ drop n bytes) {x = place + 2 + 1} {y = place + 3} (omega arith)))
+    (omega arith ∙ same.0)
+
+length_at-form : (bytes : List ℕ) (start place count next : ℕ) → length_at bytes start place ≡ Ok (count, next) → HasLength bytes place count next
+unfolding length_at long_length byte_at HasLength
+length_at-form bytes start place count next e =
+    let first = step-ok (byte_at bytes start place) _ (count, next) e in
+    let there = or_cut-ok start first.0 (slice_get bytes place) first.1 in
+    elim (chosen-ok (nat_lt first.0 128) _ _ (count, next) first.2) [
+      | inl (short, found) ↦
+          let same = both-ok _ _ _ _ found in
+          let is_count = same.0 in
+          let below : first.0 < 128 = grind (arith, nat_tests) in
+          inl (record { first = there ∙ ap (λ (n : ℕ). let o : Option ℕ = Some n in o) is_count; small = omega arith; end = same.1 })
+      | inr long ↦ elim (chosen-ok (first.0 == 129) _ _ (count, next) long) [
+        | inl (test, one) ↦
+            let is_one : first.0 ≡ 129 = grind arith in
+            inr (one_byte_length-form bytes start place count next (there ∙ ap (λ (n : ℕ). let o : Option ℕ = Some n in o) is_one) one)
+        | inr more ↦ elim (chosen-ok (first.0 == 130) _ _ (count, next) more) [
+          | inl (test, two) ↦
+              let is_two : first.0 ≡ 130 = grind arith in
+              inr (two_byte_length-form bytes start place count next (there ∙ ap (λ (n : ℕ). let o : Option ℕ = Some n in o) is_two) two)
+          | inr bad ↦ cc
+        ]
+      ]
+    ]
+
 short_count : (count : ℕ) → count < 256 → length (length_bytes count) ≤ 2
 short_count count small = grind (arith, nat_tests)
 
@@ -279,6 +345,28 @@ value_at-counts bytes start tag place count item next e =
           sym (ap length same_value) ∙ counted
       | inr cut ↦ cc
     ]
+
+pub item_at-length : (bytes : List ℕ) (start : ℕ) (item : ItemData) (next : ℕ) → AreBytes bytes → item_at bytes start ≡ Ok (item, next)
+    → HasLength bytes (start + length (tag_bytes item.tag)) (length item.value) (next - length item.value)
+unfolding item_at
+item_at-length bytes start item next all e =
+    let tag = step-ok (tag_at bytes start) _ (item, next) e in
+    let count = step-ok (length_at bytes start tag.0.1) _ (item, next) tag.2 in
+    let of_tag = tag_at-spelled bytes start tag.0.0 tag.0.1 all tag.1 in
+    let given = value_at-given bytes start tag.0.0 count.0.1 count.0.0 item next count.2 in
+    let counts = value_at-counts bytes start tag.0.0 count.0.1 count.0.0 item next count.2 in
+    let of_value = given.same_end in
+    same_length bytes tag.0.1 count.0.0 count.0.1 (length_at-form bytes start tag.0.1 count.0.0 count.0.1 count.1)
+    (start + length (tag_bytes item.tag)) (length item.value) (next - length item.value)
+    (sym of_tag.passed ∙ ap (λ t. start + length (tag_bytes t)) (sym given.same_tag)) (sym counts) (omega arith)
+
+-- the same of what a call returned
+pub length_where_ok : (bytes : List ℕ) (start tag place count from : ℕ) (result : Result (Item × ℕ) TlvFault) → AreBytes bytes → tag_at bytes start ≡ Ok (tag, place) → length_at bytes start place ≡ Ok (count, from)
+    → MatchResult result (λ r. value_at bytes start tag from count ≡ Ok (seen r.0, r.1)) (λ fault. value_at bytes start tag from count ≡ Err fault)
+    → IfOk result (λ r. HasLength bytes (start + length (tag_bytes r.0.tag.0)) (length r.0.value.now) (r.1 - length r.0.value.now))
+length_where_ok bytes start tag place count from (Ok (item, next)) all is_tag is_length is_value =
+    item_at-length bytes start (seen item) next all (item_of_parts bytes start place from tag count next (seen item) is_tag is_length is_value)
+length_where_ok bytes start tag place count from (Err fault) all is_tag is_length is_value = tt
 
 written_by : (tag : ℕ) (value : List ℕ) (same_tag count : ℕ) → tag ≡ same_tag → length value ≡ count
     → length (written tag value) ≡ length (tag_bytes same_tag) + length (length_bytes count) + count

@@ -5,7 +5,9 @@ ghost use Rattle.ber_tlv.specs.Walked.{walk_behind};
 ghost use Rattle.ber_tlv.specs.Seen.{CursorData, seen, then_rest, then_walk};
 ghost use Rattle.ber_tlv.specs.Item.{ItemData};
 ghost use Rattle.ber_tlv.specs.Place.{Within};
+ghost use Rattle.ber_tlv.specs.Spelled.{HasLength, BadLengthStands};
 ghost use Rattle.ber_tlv.specs.Tag.{IsReadable};
+ghost use Rattle.ber_tlv.specs.Written.{tag_bytes};
 
 use crate::item::{Item, TlvFault, item_at};
 use std::marker::Model;
@@ -46,6 +48,10 @@ impl<'a> Cursor<'a> {
         ensures fault { IfErr result (NextFault self.old.bytes self.old.place) }
         // Only a readable tag can stand there.
         ensures readable { IfOk result (λ found. IfSome found (λ item. IsReadable item.tag.0)) }
+        // The length stands behind the tag in one of its forms, and a bad length is in none.
+        ensures length { IfOk result (λ found. IfSome found (λ item. HasLength self.old.bytes
+            (item.start + length (tag_bytes item.tag.0)) (length item.value.now) (self.new.place - length item.value.now))) }
+        ensures bad_length { IfErr result (BadLengthStands self.old.bytes) }
         ensures fault_place { IfErr result (Within self.old.bytes self.old.place) }
         ensures ends { IfOk result (λ found. IfNone found (self.new.place ≡ length self.new.bytes)) }
         // What the step gave, with what is left behind it, is what was left before.
