@@ -1,3 +1,4 @@
 pub mod Command
 pub mod Response
 pub mod Seen
+pub mod Status

@@ -1,10 +1,10 @@
 ghost use Rattle.std.specs.Prelude.{MatchResult, MatchOption, Some, None, ◌≡◌, ℕ, List, ◌∷◌, ◌++◌, ◌+◌, ◌↔◌, ◌<◌, ◌≤◌, length, IfOk, IsErrOf, IsSomeAnd, IfSome, IsOkAnd};
 ghost use Rattle.std.specs.declared.option.Option.{Option};
 ghost use Rattle.apdu_core.specs.Command.{CommandData, command_bytes, command_of, field_of, tail_bytes, tail_of};
-ghost use Rattle.arrayvec.specs.ArrayVec.{array_vec_len};
 ghost use Rattle.apdu_core.specs.Seen.{seen_command};
 
 use arrayvec::ArrayVec;
+use ber_tlv::append;
 
 /// The bytes of a command: at most a header, a length, 255 data bytes and an expected length.
 pub type Out = ArrayVec<u8, 261>;
@@ -109,15 +109,5 @@ pub fn write_command(command: &Command<'_>, out: &mut Out)
     }
     if let Some(expected) = command.expects {
         out.push(expected);
-    }
-}
-
-/// Appends bytes for which there is room.
-pub(crate) fn append<const N: usize>(out: &mut ArrayVec<u8, N>, bytes: &[u8])
-    requires { array_vec_len out.old + length bytes.now ≤ N }
-    ensures items { out.new.items ≡ out.old.items ++ bytes.now }
-{
-    if out.try_extend_from_slice(bytes).is_err() {
-        unreachable!();
     }
 }

@@ -1,10 +1,11 @@
-ghost use Rattle.std.specs.Prelude.{MatchResult, Some, None, ◌≡◌, ◌↔◌, ◌<◌, ◌≤◌, length, IfOk, IsErrOf, IsOk};
+ghost use Rattle.std.specs.Prelude.{MatchResult, Some, None, ◌≡◌, ◌↔◌, ◌<◌, ◌≤◌, ◌-◌, length, drop, IfOk, IsErrOf, IsOk};
+ghost use Rattle.std.specs.Int.{from_be_bytes, w16};
 ghost use Rattle.apdu_core.specs.Response.{response_bytes, response_of};
 ghost use Rattle.apdu_core.specs.Seen.{seen_response};
 
 use crate::ApduFault;
-use crate::command::append;
 use arrayvec::ArrayVec;
+use ber_tlv::append;
 
 /// The bytes of a response: at most 256 body bytes and the status.
 pub type Answer = ArrayVec<u8, 258>;
@@ -24,6 +25,8 @@ pub struct Response<'a> {
 pub fn read_response(bytes: &[u8]) -> Result<Response<'_>, ApduFault>
     ensures exact { MatchResult result (λ response. response_of bytes.now ≡ Some (seen_response response)) (λ _. response_of bytes.now ≡ None) }
     ensures spelled { IfOk result (λ response. response_bytes response.body.now response.status ≡ bytes.now) }
+    // The status is the number of the last two bytes, the high one first.
+    ensures status { IfOk result (λ response. response.status ≡ from_be_bytes w16 (drop (length bytes.now - 2) bytes.now)) }
     ensures fits { IfOk result (λ response. length response.body.now ≤ 256) }
     ensures short { IsErrOf result ApduFault.Short ↔ (length bytes.now < 2) }
     ensures mismatch { IsErrOf result ApduFault.LengthMismatch ↔ (258 < length bytes.now) }

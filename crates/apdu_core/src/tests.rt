@@ -1,4 +1,5 @@
 use super::*;
+use crate::status::{NO_ERROR, counter, counter_in, is_warning};
 use arrayvec::ArrayVec;
 use std::test::Fail;
 
@@ -66,4 +67,21 @@ fn responses_are_read_and_written(rt: HostRuntime) -> Result<(), Fail> {
     );
     assert_eq!(rt; read_response(&[0; 258]).is_ok(), true);
     Ok(())
+}
+
+/// SW1 SW2, whether it is a warning, and the counter that it gives.
+#[test]
+fn statuses_are_sorted(rt: HostRuntime) {
+    for (status, warning, left) in [
+        (NO_ERROR, false, None),
+        (0x6283, true, None),
+        (0x6300, true, None),
+        (0x63c2, true, Some(2)),
+        (0x63d0, true, None),
+        (0x6983, false, None),
+    ] {
+        assert_eq!(rt; is_warning(status), warning);
+        assert_eq!(rt; counter_in(status), left);
+    }
+    assert_eq!(rt; counter(3), 0x63c3);
 }

@@ -6,7 +6,7 @@ use Rattle.ber_tlv.specs.Item.{ItemData, ◌>>=◌, byte_at, tag_at, second_tag_
 use Rattle.ber_tlv.specs.declared.item.TlvFault.{TlvFault}
 
 -- a reading in two steps that gives a value: what its first step gave
-step-ok : {A B : Type 0} (r : Result A TlvFault) (f : A → Result B TlvFault) (b : B) → (r >>= f) ≡ Ok b → (a : A) × (r ≡ Ok a) × (f a ≡ Ok b)
+pub step-ok : {A B : Type 0} (r : Result A TlvFault) (f : A → Result B TlvFault) (b : B) → (r >>= f) ≡ Ok b → (a : A) × (r ≡ Ok a) × (f a ≡ Ok b)
 step-ok (Ok a) f b e = (a, refl, e)
 step-ok (Err fault) f b e = cc
 
@@ -15,7 +15,7 @@ choice-ok : {A : Type 0} (test : Bool) (x y : Result A TlvFault) (a : A) → (if
 choice-ok true x y a e = inl e
 choice-ok false x y a e = inr e
 
-chosen-ok : {A : Type 0} (test : Bool) (x y : Result A TlvFault) (a : A) → (if test then x else y) ≡ Ok a → ((test ≡ true) × (x ≡ Ok a)) ⊎ (y ≡ Ok a)
+pub chosen-ok : {A : Type 0} (test : Bool) (x y : Result A TlvFault) (a : A) → (if test then x else y) ≡ Ok a → ((test ≡ true) × (x ≡ Ok a)) ⊎ (y ≡ Ok a)
 chosen-ok true x y a e = inl (refl, e)
 chosen-ok false x y a e = inr e
 

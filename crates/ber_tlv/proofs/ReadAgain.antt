@@ -45,7 +45,7 @@ length_of_three : (front rest : List ℕ) (start x y count : ℕ) → x * 256 + 
 unfolding length_at long_length two_byte_length byte_at
 length_of_three front rest start x y count whole = rw (at_first front (x ∷ y ∷ rest) 130, at_second front (y ∷ rest) 130 x, at_third front rest 130 x y, whole) refl
 
-both : (a b : Bool) → (a && b) ≡ true → (a ≡ true) × (b ≡ true)
+pub both : (a b : Bool) → (a && b) ≡ true → (a ≡ true) × (b ≡ true)
 both true b e = (refl, e)
 both false b e = cc
 
@@ -74,6 +74,10 @@ tag_read front rest tag false false one two readable =
     let one_byte : tag / 65536 % 256 ≡ tag / 65536 = three_bytes tag first.0 in
     rw (one, two, one_byte) (tag_of_three front rest (tag / 65536) (tag / 256 % 256) (tag % 256) tag (omega arith) first.1 two_and_more facts.1)
 
+-- a readable tag's bytes are read again
+pub tag_again : (tag : ℕ) → IsTrue (is_readable tag) → (front rest : List ℕ) → tag_at (front ++ (tag_bytes tag ++ rest)) (length front) ≡ Ok (tag, length front + length (tag_bytes tag))
+tag_again tag readable front rest = tag_read front rest tag _ _ refl refl readable
+
 length_read : (front rest : List ℕ) (start count : ℕ) (p q : Bool) → nat_lt count 128 ≡ p → nat_lt count 256 ≡ q → length_at (front ++ (length_bytes count ++ rest)) start (length front) ≡ Ok (count, length front + length (length_bytes count))
 length_read front rest start count true q one two = rw one (length_of_one front rest start count one)
 length_read front rest start count false true one two = rw (one, two) (length_of_two front rest start count)
@@ -93,7 +97,7 @@ value_read front rest value start tag =
     let taken : take (length value) (value ++ rest) ≡ value = take-append_all value rest in
     rw (fits, count, drop-append_seam front (value ++ rest), taken) refl
 
-item_of_parts : (bytes : List ℕ) (start place from tag count next : ℕ) (item : ItemData) → tag_at bytes start ≡ Ok (tag, place) → length_at bytes start place ≡ Ok (count, from) → value_at bytes start tag from count ≡ Ok (item, next) → item_at bytes start ≡ Ok (item, next)
+pub item_of_parts : (bytes : List ℕ) (start place from tag count next : ℕ) (item : ItemData) → tag_at bytes start ≡ Ok (tag, place) → length_at bytes start place ≡ Ok (count, from) → value_at bytes start tag from count ≡ Ok (item, next) → item_at bytes start ≡ Ok (item, next)
 unfolding item_at
 item_of_parts bytes start place from tag count next item is_tag is_length is_value = rw (is_tag, is_length) is_value
 

@@ -1,8 +1,12 @@
 -- One data object at a place of a byte string: a tag of one to three bytes, a length of one to
 -- three bytes, and that many bytes of value (EMV 4.3 Book 3 Annex B1 and B2).
-use Rattle.std.specs.Prelude.{ℕ, ◌+◌, ◌*◌, ◌%◌, ◌==◌, nat_lt, nat_le, if◌then◌else◌, List, length, Option, Some, None, Result, Ok, Err, slice_get, slice_range}
+use Rattle.std.specs.Prelude.{ℕ, ◌<◌, ◌+◌, ◌*◌, ◌%◌, ◌==◌, nat_lt, nat_le, if◌then◌else◌, List, length, Option, Some, None, Result, Ok, Err, slice_get, slice_index, slice_range}
 use Rattle.ber_tlv.specs.declared.item.TlvFault.{TlvFault}
 use Rattle.ber_tlv.specs.declared.item.TlvFault.TheVariants.{Truncated, BadLength, LongTag}
+
+-- each number is a byte
+abbrev pub AreBytes : List ℕ → Type 0
+AreBytes bytes = (k : ℕ) → slice_index bytes k < 256
 
 -- a data object: its tag as a number, the bytes of its value, the place of its first byte
 pub record ItemData : Type 0 where

@@ -1,7 +1,10 @@
+pub mod Direct
 pub mod Item
 pub mod Items
 pub mod Left
+pub mod Place
 pub mod Seen
+pub mod Spelled
 pub mod Tag
 pub mod Walked
 pub mod Written

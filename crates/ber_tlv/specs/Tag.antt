@@ -1,5 +1,5 @@
 -- A tag's bytes as one big-endian number (EMV 4.3 Book 3 Annex B1).
-use Rattle.std.specs.Prelude.{ℕ, Bool, ◌/◌, ◌%◌, ◌==◌, ◌&&◌, not, nat_lt, nat_le, if◌then◌else◌}
+use Rattle.std.specs.Prelude.{ℕ, Bool, IsTrue, ◌/◌, ◌%◌, ◌==◌, ◌&&◌, not, nat_lt, nat_le, if◌then◌else◌}
 
 -- the first of the tag's one to three bytes
 abbrev pub first_byte_of : ℕ → ℕ
@@ -16,3 +16,7 @@ is_readable tag =
     if nat_lt tag 256 then nat_lt 0 tag && not (tag % 32 == 31)
     else if nat_lt tag 65536 then (tag / 256 % 32 == 31) && nat_lt (tag % 256) 128
     else nat_lt tag 16777216 && (tag / 65536 % 32 == 31) && nat_le 128 (tag / 256 % 256) && nat_lt (tag % 256) 128
+
+-- the same as a fact, which proofs open only where they need it
+unfoldable pub IsReadable : ℕ → Type 0
+IsReadable tag = IsTrue (is_readable tag)

@@ -4,6 +4,10 @@ ghost use Rattle.ber_tlv.specs.Left.{items_behind, items_of, fault_of};
 ghost use Rattle.ber_tlv.specs.Walked.{walk_behind};
 ghost use Rattle.ber_tlv.specs.Seen.{CursorData, seen, then_rest, then_walk};
 ghost use Rattle.ber_tlv.specs.Item.{ItemData};
+ghost use Rattle.ber_tlv.specs.Place.{Within};
+ghost use Rattle.ber_tlv.specs.Spelled.{HasLength, BadLengthStands};
+ghost use Rattle.ber_tlv.specs.Tag.{IsReadable};
+ghost use Rattle.ber_tlv.specs.Written.{tag_bytes};
 
 use crate::item::{Item, TlvFault, item_at};
 use std::marker::Model;
@@ -35,12 +39,20 @@ impl<'a> Cursor<'a> {
     /// The next data object, `None` at the end, or why no object stands where one should. Bytes 00
     /// before, between and after objects are passed over. After a fault each further call gives
     /// the same fault.
+    #[tactic(auto, unfolding(crate::specs::Tag::IsReadable))]
     pub fn next(&mut self) -> Result<Option<Item<'a>>, TlvFault>
         ensures item { IfOk result (λ found. IfSome found (λ item.
             NextItem self.old.bytes self.old.place (seen item) self.new.place)) }
         ensures end { IfOk result (λ found. IfNone found
             (Zeros self.old.bytes self.old.place (length self.old.bytes))) }
         ensures fault { IfErr result (NextFault self.old.bytes self.old.place) }
+        // Only a readable tag can stand there.
+        ensures readable { IfOk result (λ found. IfSome found (λ item. IsReadable item.tag.0)) }
+        // The length stands behind the tag in one of its forms, and a bad length is in none.
+        ensures length { IfOk result (λ found. IfSome found (λ item. HasLength self.old.bytes
+            (item.start + length (tag_bytes item.tag.0)) (length item.value.now) (self.new.place - length item.value.now))) }
+        ensures bad_length { IfErr result (BadLengthStands self.old.bytes) }
+        ensures fault_place { IfErr result (Within self.old.bytes self.old.place) }
         ensures ends { IfOk result (λ found. IfNone found (self.new.place ≡ length self.new.bytes)) }
         // What the step gave, with what is left behind it, is what was left before.
         ensures left { then_rest result (items_behind self.new.bytes self.new.place)
@@ -62,6 +74,13 @@ impl<'a> Cursor<'a> {
         let (item, next) = item_at(self.bytes, start)?;
         self.place = next;
         Ok(Some(item))
+    }
+
+    /// The place that the cursor has come to: behind the object that `next` gave last.
+    pub(crate) fn place(&self) -> usize
+        ensures { result ≡ self.now.place }
+    {
+        self.place
     }
 
     /// A cursor over the objects that the value of `item` is made of, where `item` is the object
@@ -87,6 +106,7 @@ pub fn first_fault(bytes: &[u8]) -> Option<TlvFault>
     ensures list { (items : List ItemData) → (items_of bytes.now ≡ Ok items) ↔ Items bytes.now 0 items }
     ensures fault { (fault : TlvFault) → (items_of bytes.now ≡ Err fault)
         ↔ ((items : List ItemData) × FaultBehind bytes.now 0 items fault) }
+    ensures fault_place { IfSome result (Within bytes.now 0) }
 {
     let mut cursor = Cursor::new(bytes);
     loop {

@@ -1,4 +1,6 @@
-ghost use Rattle.std.specs.Prelude.{◌≡◌};
+ghost use Rattle.std.specs.Prelude.{◌≡◌, ◌==◌, slice_index};
+ghost use Rattle.std.specs.Int.{bit_at};
+ghost use Rattle.ber_tlv.specs.Written.{tag_bytes};
 ghost use Rattle.ber_tlv.specs.Tag as spec;
 ghost use Rattle.ber_tlv.specs.Tag.{first_byte_of, names_template};
 
@@ -10,7 +12,9 @@ pub struct Tag(pub u32);
 /// Whether the tag names a constructed object, one whose value is itself a list of objects:
 /// bit 6 of its first byte (EMV 4.3 Book 3 Annex B1).
 pub fn is_constructed(tag: Tag) -> bool
-    ensures { result ≡ names_template tag.0 }
+    ensures template { result ≡ names_template tag.0 }
+    // Bit 6 of the first byte that is written for the tag.
+    ensures bit { result ≡ (bit_at (slice_index (tag_bytes tag.0) 0) 5 == 1) }
 {
     first_byte(tag.0) / 32 % 2 == 1
 }

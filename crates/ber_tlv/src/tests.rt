@@ -1,4 +1,5 @@
-use crate::item::{Item, TlvFault, read_tag};
+use crate::direct::{first_value, sole_value, template_fault};
+use crate::item::{Item, TlvFault, place_or_zero, read_tag};
 use crate::tag::{Tag, is_constructed, is_readable};
 use crate::walk::deep_fault;
 use crate::write::{Full, write_item};
@@ -65,4 +66,27 @@ fn writes_the_shortest_spelling(rt: HostRuntime) {
     assert!(rt; read_tag(&[0x00, 0x9F, 0x36], 1) == Ok((Tag(0x9F36), 3)));
     assert!(rt; is_constructed(Tag(0x6F)) && !is_constructed(Tag(0x9F36)));
     assert!(rt; is_readable(Tag(0x9F36)) && !is_readable(Tag(0x9F)) && !is_readable(Tag(0x9F81)));
+}
+
+#[test]
+fn reads_objects_directly_in_a_string(rt: HostRuntime) {
+    // 6F holds 84, A5 and another 84; bytes 00 stand around it.
+    let fci = [
+        0, 0x6F, 0x08, 0x84, 0x01, 0xA0, 0xA5, 0x00, 0x84, 0x01, 0xA1, 0,
+    ];
+    let template = sole_value(&fci, Tag(0x6F));
+    assert!(rt; template == Some(&fci[3..11]));
+    assert!(rt; sole_value(&fci, Tag(0x70)).is_none());
+    assert!(rt; sole_value(&[0x80, 0x00, 0x80, 0x00], Tag(0x80)).is_none());
+    assert!(rt; first_value(&fci[3..11], Tag(0x84)) == Ok(Some([0xA0].as_slice())));
+    assert!(rt; first_value(&fci[3..11], Tag(0x87)) == Ok(None));
+    assert!(rt; first_value(&[0x84, 0x02, 0xA0], Tag(0x84)) == Err(TlvFault::Truncated(0)));
+
+    // An object in a template 77 is cut; in a 70 it is not looked at.
+    let cut = [0x77, 0x04, 0x82, 0x00, 0x5A, 0x05];
+    assert!(rt; template_fault(&cut, Tag(0x77)) == Some(TlvFault::Truncated(4)));
+    assert!(rt; template_fault(&cut, Tag(0x70)).is_none());
+    assert!(rt; place_or_zero(template_fault(&cut, Tag(0x77))) == 4);
+    assert!(rt; place_or_zero(None) == 0);
+    assert!(rt; TlvFault::BadLength(7).place() == 7);
 }

@@ -1,9 +1,9 @@
 ghost use Rattle.std.specs.Prelude.{◌≡◌, ℕ, ◌+◌, ◌<◌, ◌≤◌, ◌^◌, ◌↔◌, ◌++◌, List, length, IsTrue, IsOk, OnOk, OnErr, IfErr, Ok};
-ghost use Rattle.arrayvec.specs.ArrayVec.{array_vec_len};
-ghost use Rattle.ber_tlv.specs.Item.{item_at};
+ghost use Rattle.ber_tlv.specs.Item.{AreBytes, item_at, tag_at};
 ghost use Rattle.ber_tlv.specs.Tag as tag_spec;
 ghost use Rattle.ber_tlv.specs.Written as spec;
 
+use crate::buffer::append;
 use crate::tag::Tag;
 use arrayvec::ArrayVec;
 
@@ -33,6 +33,11 @@ pub fn write_item<const N: usize>(
     // What was written is read again, whatever stands behind it.
     ensures read_again { OnOk result ((rest : List ℕ) → item_at (out.new.items ++ rest) (length out.old.items)
         ≡ Ok (record { tag = tag.0; value = value.now; start = length out.old.items }, length out.new.items)) }
+
+    // Whatever else is read as this object has at least as many bytes.
+    ensures shortest { (bytes : List ℕ) (start next : ℕ) → AreBytes bytes
+        → item_at bytes start ≡ Ok (record { tag = tag.0; value = value.now; start = start }, next)
+        → start + length (spec.written tag.0 value.now) ≤ next }
 {
     let needed = written_length(tag, value.len());
     let free = out.remaining_capacity();
@@ -57,7 +62,11 @@ pub fn written_length(tag: Tag, count: usize) -> usize
 /// The bytes of a tag of one to three bytes, in the order in which they stand in a byte string
 /// (EMV 4.3 Book 3 Annex B1). A number above three bytes gives its lowest three.
 pub fn tag_bytes(tag: Tag) -> ArrayVec<u8, 3>
-    ensures { result.items ≡ spec.tag_bytes tag.0 }
+    ensures bytes { result.items ≡ spec.tag_bytes tag.0 }
+
+    // A readable tag is read again, wherever its bytes stand.
+    ensures read_again { IsTrue (tag_spec.is_readable tag.0) → (front rest : List ℕ)
+        → tag_at (front ++ (spec.tag_bytes tag.0 ++ rest)) (length front) ≡ Ok (tag.0, length front + length (spec.tag_bytes tag.0)) }
 {
     let tag = tag.0;
     let mut bytes = ArrayVec::new();
@@ -94,13 +103,4 @@ fn length_bytes(count: usize) -> ArrayVec<u8, 3>
         );
     }
     bytes
-}
-
-fn append<const N: usize>(out: &mut ArrayVec<u8, N>, bytes: &[u8])
-    requires { array_vec_len out.old + length bytes.now ≤ N }
-    ensures { out.new.items ≡ out.old.items ++ bytes.now }
-{
-    if out.try_extend_from_slice(bytes).is_err() {
-        unreachable!();
-    }
 }

@@ -1,5 +1,5 @@
 -- How the entries change as values and places do.
-use Rattle.std.proofs.Common.{◌≡◌, ℕ, zero, suc, Bool, true, false, ◌+◌, ◌<◌, ◌≤◌, ◌==◌, nat_lt, if◌then◌else◌, List, [], ◌∷◌, ◌++◌, length, take, drop, Option, Some, None, is_some, option_map, Ok, Err, refl, arith, sym, ap, ◌∙◌, append_assoc, length-append, length-drop, ◌⊎◌, inl, inr, subst, MatchOption}
+use Rattle.std.proofs.Common.{◌≡◌, ◌≢◌, ℕ, zero, suc, Bool, true, false, ◌+◌, ◌<◌, ◌≤◌, ◌==◌, nat_lt, nat_le, if◌then◌else◌, List, [], ◌∷◌, ◌++◌, length, take, drop, Option, Some, None, is_some, option_map, Ok, Err, refl, arith, sym, ap, ◌∙◌, append_assoc, length-append, length-drop, ◌⊎◌, inl, inr, subst, MatchOption}
 use Rattle.std.specs.List.{insert, AllByRecursion, find, refill}
 use Rattle.std.proofs.lemmas.List.{length-take, length-take-le, take_at, drop_at, drop-drop}
 use Rattle.std.proofs.lemmas.List.Sums.{sum_by-cons}
@@ -9,7 +9,7 @@ use Rattle.env_map.specs.Entries.{Entries, IsRising, value_of, with_entry, with_
 use Rattle.env_map.specs.Places.{entries_of, count_of_bytes, index_for, start_for, start_at}
 use Rattle.env_map.specs.Put.{put_of, set_of}
 use Rattle.env_map.specs.declared.place.Place.{Place}
-use Rattle.env_map.specs.declared.env.EnvFault.TheVariants.{TooMany, TooLong}
+use Rattle.env_map.specs.declared.env.EnvFault.TheVariants.{Repeated, TooMany, TooLong}
 
 pub length-entries_of : (bytes : List ℕ) (places : List Place) → length (entries_of bytes places) ≡ length places
 length-entries_of bytes [] = refl
@@ -353,3 +353,86 @@ set_of-present tag value entries there = rw there refl
 
 pub set_of-absent : (tag : Tag) (value : List ℕ) (entries : Entries) → is_some (value_of tag.0 entries) ≡ false → set_of tag value entries ≡ put_of tag value entries
 set_of-absent tag value entries missing = rw missing refl
+
+-- the value at a tag that was put, and at the others
+value_of-with_at : (here : Bool) (tag : ℕ) (value : List ℕ) (entry : ℕ × List ℕ) (entries : Entries) → nat_lt tag entry.0 ≡ here → (entry.0 == tag) ≡ false
+    → value_of tag (with_entry tag value entries) ≡ Some value → value_of tag (with_entry tag value (entry ∷ entries)) ≡ Some value
+value_of-with_at true tag value entry entries test other later =
+    let same : (tag == tag) ≡ true = grind arith in
+    rw (test, same) refl
+value_of-with_at false tag value entry entries test other later = rw (test, other) later
+
+value_of-with : (tag : ℕ) (value : List ℕ) (entries : Entries) → value_of tag entries ≡ None → value_of tag (with_entry tag value entries) ≡ Some value
+value_of-with tag value [] absent = let same : (tag == tag) ≡ true = grind arith in rw same refl
+value_of-with tag value (entry ∷ entries) absent =
+    let later = absent_later tag entry entries absent in
+    let other : (entry.0 == tag) ≡ false = grind (arith, later.1) in
+    value_of-with_at (nat_lt tag entry.0) tag value entry entries refl other (value_of-with tag value entries later.0)
+
+value_of-with_other_at : (here : Bool) (tag other : ℕ) (value : List ℕ) (entry : ℕ × List ℕ) (entries : Entries) → nat_lt tag entry.0 ≡ here → (tag == other) ≡ false
+    → value_of other (with_entry tag value entries) ≡ value_of other entries → value_of other (with_entry tag value (entry ∷ entries)) ≡ value_of other (entry ∷ entries)
+value_of-with_other_at true tag other value entry entries test apart later = rw (test, apart) refl
+value_of-with_other_at false tag other value entry entries test apart later = rw (test, later) refl
+
+value_of-with_other : (tag other : ℕ) (value : List ℕ) (entries : Entries) → (tag == other) ≡ false → value_of other (with_entry tag value entries) ≡ value_of other entries
+value_of-with_other tag other value [] apart = rw apart refl
+value_of-with_other tag other value (entry ∷ entries) apart =
+    value_of-with_other_at (nat_lt tag entry.0) tag other value entry entries refl apart (value_of-with_other tag other value entries apart)
+
+-- the same where a value is written over
+value_of-over_at : (here : Bool) (tag : ℕ) (value : List ℕ) (entry : ℕ × List ℕ) (entries : Entries) → (entry.0 == tag) ≡ here → is_some (value_of tag (entry ∷ entries)) ≡ true
+    → (is_some (value_of tag entries) ≡ true → value_of tag (with_value tag value entries) ≡ Some value) → value_of tag (with_value tag value (entry ∷ entries)) ≡ Some value
+value_of-over_at true tag value entry entries test there later = let same : (tag == tag) ≡ true = grind arith in rw (test, same) refl
+value_of-over_at false tag value entry entries test there later = rw (test, test) (later (rw test at there))
+
+value_of-over : (tag : ℕ) (value : List ℕ) (entries : Entries) → is_some (value_of tag entries) ≡ true → value_of tag (with_value tag value entries) ≡ Some value
+value_of-over tag value [] there = cc
+value_of-over tag value (entry ∷ entries) there = value_of-over_at (entry.0 == tag) tag value entry entries refl there (value_of-over tag value entries)
+
+value_of-over_other_at : (here : Bool) (tag other : ℕ) (value : List ℕ) (entry : ℕ × List ℕ) (entries : Entries) → (entry.0 == tag) ≡ here → (tag == other) ≡ false
+    → value_of other (with_value tag value entries) ≡ value_of other entries → value_of other (with_value tag value (entry ∷ entries)) ≡ value_of other (entry ∷ entries)
+value_of-over_other_at true tag other value entry entries test apart later =
+    let skipped : (entry.0 == other) ≡ false = grind arith in
+    rw (test, apart, skipped) refl
+value_of-over_other_at false tag other value entry entries test apart later = rw (test, later) refl
+
+value_of-over_other : (tag other : ℕ) (value : List ℕ) (entries : Entries) → (tag == other) ≡ false → value_of other (with_value tag value entries) ≡ value_of other entries
+value_of-over_other tag other value [] apart = refl
+value_of-over_other tag other value (entry ∷ entries) apart =
+    value_of-over_other_at (entry.0 == tag) tag other value entry entries refl apart (value_of-over_other tag other value entries apart)
+
+-- what `put` and `set` leave at each tag
+pub record Puts (old new : Entries) (tag : ℕ) (value : List ℕ) : Type 0 where
+  pub there : value_of tag new ≡ Some value
+  pub others : (other : ℕ) → other ≢ tag → value_of other new ≡ value_of other old
+
+apart : (tag other : ℕ) → other ≢ tag → (tag == other) ≡ false
+apart tag other different = grind arith
+
+puts_at : (found : Option (List ℕ)) (many long : Bool) (tag : Tag) (value : List ℕ) (old new : Entries) → value_of tag.0 old ≡ found
+    → (if is_some found then Err (Repeated tag) else if many then Err TooMany else if long then Err TooLong else Ok (with_entry tag.0 value old)) ≡ Ok new → Puts old new tag.0 value
+puts_at (Some before) many long tag value old new is_found e = cc
+puts_at None true long tag value old new is_found e = cc
+puts_at None false true tag value old new is_found e = cc
+puts_at None false false tag value old new is_found e =
+    let same : with_entry tag.0 value old ≡ new = cc in
+    record {
+      there = ap (value_of tag.0) (sym same) ∙ value_of-with tag.0 value old is_found;
+      others = λ other different. ap (value_of other) (sym same) ∙ value_of-with_other tag.0 other value old (apart tag.0 other different);
+    }
+
+pub put_of-puts : (tag : Tag) (value : List ℕ) (old new : Entries) → put_of tag value old ≡ Ok new → Puts old new tag.0 value
+put_of-puts tag value old new e = puts_at (value_of tag.0 old) (nat_le 512 (length old)) (nat_lt 16384 (size_of_values old + length value)) tag value old new refl e
+
+set_of-puts_at : (there : Bool) (tag : Tag) (value : List ℕ) (old new : Entries) → is_some (value_of tag.0 old) ≡ there
+    → (if there then Ok (with_value tag.0 value old) else put_of tag value old) ≡ Ok new → Puts old new tag.0 value
+set_of-puts_at true tag value old new test e =
+    let same : with_value tag.0 value old ≡ new = cc in
+    record {
+      there = ap (value_of tag.0) (sym same) ∙ value_of-over tag.0 value old test;
+      others = λ other different. ap (value_of other) (sym same) ∙ value_of-over_other tag.0 other value old (apart tag.0 other different);
+    }
+set_of-puts_at false tag value old new test e = put_of-puts tag value old new e
+
+pub set_of-puts : (tag : Tag) (value : List ℕ) (old new : Entries) → set_of tag value old ≡ Ok new → Puts old new tag.0 value
+set_of-puts tag value old new e = set_of-puts_at (is_some (value_of tag.0 old)) tag value old new refl e

@@ -1,3 +1,4 @@
 pub mod EntryLemmas
 pub mod TwoWalks
 pub mod GatherBounds
+pub mod GatherLaws

@@ -1,6 +1,7 @@
 -- The primitive objects of a byte string put into a map, in the order of their first bytes, at any
 -- depth (EMV 4.3 Book 3 section 10.2).
-use Rattle.std.specs.Prelude.{if◌then◌else◌, Option, Some, None, Result, Ok, Err}
+use Rattle.std.specs.Prelude.{if◌then◌else◌, List, [], ◌∷◌, Option, Some, None, Result, Ok, Err}
+use Rattle.ber_tlv.specs.Item.{ItemData}
 use Rattle.ber_tlv.specs.Tag.{names_template}
 use Rattle.ber_tlv.specs.Walked.{Walked, Done, Broken, Met}
 use Rattle.env_map.specs.Entries.{Entries}
@@ -8,6 +9,12 @@ use Rattle.env_map.specs.Put.{put_of}
 use Rattle.env_map.specs.declared.env.EnvFault.{EnvFault}
 use Rattle.env_map.specs.declared.gathering.GatherFault.{GatherFault}
 use Rattle.env_map.specs.declared.gathering.GatherFault.TheVariants.{Coding, Put}
+
+-- the primitive objects of a walk, in its order
+abbrev pub primitives : Walked → List ItemData
+primitives Done = []
+primitives (Broken fault) = []
+primitives (Met item rest) = (if names_template item.tag then primitives rest else item ∷ primitives rest)
 
 -- the map, and the fault that ended the walk
 pub record Gathered : Type 0 where

@@ -1,4 +1,4 @@
-ghost use Rattle.std.specs.Prelude.{◌≡◌, ◌+◌, ◌<◌, ◌≤◌, [], ◌∷◌, length, option_map, Ok, Err, Some, MatchOption, MatchResult, OnErr};
+ghost use Rattle.std.specs.Prelude.{◌≡◌, ◌≢◌, ℕ, ◌+◌, ◌<◌, ◌≤◌, [], ◌∷◌, length, option_map, Ok, Err, Some, MatchOption, MatchResult, OnOk, OnErr};
 ghost use Rattle.std.specs.Option.{ForSome};
 ghost use Rattle.env_map.specs.Entries.{Entries, IsRising, value_of, entries_after, size_of_values};
 
@@ -78,6 +78,8 @@ impl Env {
         ensures exact { MatchResult result
             (λ _. put_of tag value.now self.old ≡ Ok self.new)
             (λ fault. put_of tag value.now self.old ≡ Err fault) }
+        ensures there { OnOk result (value_of tag.0 self.new ≡ Some value.now) }
+        ensures others { OnOk result ((other : ℕ) → other ≢ tag.0 → value_of other self.new ≡ value_of other self.old) }
         ensures err { OnErr result (self.new ≡ self.old) }
     {
         if found(&self.bytes, &self.places, tag).is_some() {
@@ -103,6 +105,8 @@ impl Env {
         ensures exact { MatchResult result
             (λ _. set_of tag value.now self.old ≡ Ok self.new)
             (λ fault. set_of tag value.now self.old ≡ Err fault) }
+        ensures there { OnOk result (value_of tag.0 self.new ≡ Some value.now) }
+        ensures others { OnOk result ((other : ℕ) → other ≢ tag.0 → value_of other self.new ≡ value_of other self.old) }
         ensures err { OnErr result (self.new ≡ self.old) }
     {
         match start_of(&self.places, tag) {

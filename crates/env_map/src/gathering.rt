@@ -1,6 +1,8 @@
-ghost use Rattle.std.specs.Prelude.{◌≡◌, ◌≤◌, length};
+ghost use Rattle.std.specs.Prelude.{◌≡◌, ◌≢◌, ℕ, List, ◌≤◌, length, Some, None, OnOk};
+ghost use Rattle.std.specs.List.{AllByRecursion};
 ghost use Rattle.std.specs.Result.{result_err};
-ghost use Rattle.env_map.specs.Gathered.{gathered};
+ghost use Rattle.env_map.specs.Entries.{value_of};
+ghost use Rattle.env_map.specs.Gathered.{gathered, primitives};
 ghost use Rattle.ber_tlv.specs.Walked.{walk_behind, walk_of};
 
 use crate::env::{Env, EnvFault};
@@ -20,6 +22,11 @@ pub enum GatherFault {
 pub fn gather(env: &mut Env, bytes: &[u8]) -> Result<(), GatherFault>
     ensures entries { env.new ≡ (gathered env.old (walk_of bytes.now)).entries }
     ensures fault { result_err result ≡ (gathered env.old (walk_of bytes.now)).fault }
+    // The map has each primitive object, what it had before, and nothing else.
+    ensures objects { OnOk result (AllByRecursion (λ item. value_of item.tag env.new ≡ Some item.value) (primitives (walk_of bytes.now))) }
+    ensures kept { (tag : ℕ) (value : List ℕ) → value_of tag env.old ≡ Some value → value_of tag env.new ≡ Some value }
+    ensures only { (tag : ℕ) → value_of tag env.old ≡ None
+        → AllByRecursion (λ item. item.tag ≢ tag) (primitives (walk_of bytes.now)) → value_of tag env.new ≡ None }
 {
     gather_behind(env, &mut Cursor::new(bytes))
 }

@@ -4,7 +4,7 @@ ghost use Rattle.env_map.specs.Places.{entries_of, count_of_bytes};
 ghost use Rattle.env_map.specs.Places as spec;
 
 use arrayvec::ArrayVec;
-use ber_tlv::Tag;
+use ber_tlv::{Tag, append};
 
 /// An object's tag and how many bytes its value has; the values stand one behind another.
 #[derive(Clone, Copy, Default)]
@@ -108,9 +108,7 @@ pub(crate) fn insert_bytes<const N: usize>(bytes: &mut ArrayVec<u8, N>, start: u
     requires room { length bytes.old.items + length value.now ≤ N }
     ensures { bytes.new.items ≡ take start bytes.old.items ++ (value.now ++ drop start bytes.old.items) }
 {
-    if bytes.try_extend_from_slice(value).is_err() {
-        unreachable!();
-    }
+    append(bytes, value);
     rotate_behind(bytes, start, value.len());
 }
 

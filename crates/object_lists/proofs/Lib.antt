@@ -1,1 +1,3 @@
 pub mod DolReading
+pub mod DolSpelling
+pub mod EntryPlaces

@@ -1,7 +1,12 @@
-ghost use Rattle.std.specs.Prelude.{◌≡◌, ◌+◌, ◌≤◌, [], length, Ok, Err, IfOk, MatchResult};
+ghost use Rattle.std.specs.Prelude.{◌≡◌, ◌≢◌, ◌+◌, ◌≤◌, [], length, take, drop, Ok, Err, IfOk, IfErr, IfSome, IfNone, MatchResult};
+ghost use Rattle.std.specs.List.{AllByRecursion};
+ghost use Rattle.env_map.specs.Entries.{Entries};
 ghost use Rattle.object_lists.specs.DolEntries.{DolEntry, dol_of, total_of, place_of};
 ghost use Rattle.object_lists.specs.DolEntries as spec;
 ghost use Rattle.object_lists.specs.DolSeen.{seen, all_seen};
+ghost use Rattle.object_lists.specs.EntryAt.{EntryAt};
+ghost use Rattle.object_lists.specs.Filled.{dol_data, entry_data};
+ghost use Rattle.object_lists.specs.DolSpelled.{dol_bytes, SpelledEntry, StopsEntry, FaultBehindEntries};
 
 use arrayvec::ArrayVec;
 use ber_tlv::{Tag, TlvFault, read_tag};
@@ -54,9 +59,12 @@ impl Dol {
 /// 00 is a tag of one byte. The answer at a fault is the first one.
 pub fn read_dol(bytes: &[u8]) -> Result<Dol, DolFault>
     requires { length bytes.now ≤ 255 }
-    ensures { MatchResult result
+    ensures exact { MatchResult result
         (λ dol. dol_of bytes.now ≡ Ok dol)
         (λ fault. dol_of bytes.now ≡ Err fault) }
+    // The entries spell the bytes; else entries spell those before the fault's place.
+    ensures spelled { IfOk result (λ dol. dol_bytes dol ≡ bytes.now) }
+    ensures behind { IfErr result (FaultBehindEntries bytes.now) }
 {
     let mut entries = ArrayVec::new();
     let mut place = 0;
@@ -78,6 +86,8 @@ fn entry_at(bytes: &[u8], start: usize) -> Result<(Entry, usize), DolFault>
     ensures exact { MatchResult result
         (λ found. spec.entry_at bytes.now start ≡ Ok (seen found.0, found.1))
         (λ fault. spec.entry_at bytes.now start ≡ Err fault) }
+    ensures spelled { IfOk result (λ found. SpelledEntry bytes.now start (seen found.0) found.1) }
+    ensures stops { IfErr result (λ fault. StopsEntry fault start (drop start bytes.now)) }
     ensures onward { IfOk result (λ found. (start + 2 ≤ found.1) × (found.1 ≤ length bytes.now)) }
 {
     match read_tag(bytes, start) {
@@ -85,8 +95,17 @@ fn entry_at(bytes: &[u8], start: usize) -> Result<(Entry, usize), DolFault>
             Some(count) => Ok((Entry { tag, count: *count }, next + 1)),
             None => Err(DolFault::Truncated(start)),
         },
-        Err(TlvFault::LongTag(at)) => Err(DolFault::LongTag(at)),
-        Err(TlvFault::Truncated(at) | TlvFault::BadLength(at)) => Err(DolFault::Truncated(at)),
+        Err(fault) => Err(fault_of_tag(fault)),
+    }
+}
+
+/// Why an entry is not read whose tag is not.
+fn fault_of_tag(fault: TlvFault) -> DolFault
+    ensures { result ≡ spec.fault_of_tag fault }
+{
+    match fault {
+        TlvFault::LongTag(at) => DolFault::LongTag(at),
+        TlvFault::Truncated(at) | TlvFault::BadLength(at) => DolFault::Truncated(at),
     }
 }
 
@@ -110,7 +129,13 @@ fn total_among(entries: &[Entry]) -> u32
 
 /// Where the data of the first entry with this tag and length begins in the filled data.
 pub fn place(dol: &Dol, tag: Tag, len: u8) -> Option<usize>
-    ensures { result ≡ place_of tag.0 len dol.now }
+    ensures place { result ≡ place_of tag.0 len dol.now }
+    ensures found { IfSome result (EntryAt dol.now (record { tag = tag.0; count = len })) }
+    ensures none { IfNone result (AllByRecursion (λ entry. entry ≢ record { tag = tag.0; count = len }) dol.now) }
+    // Whatever the maps have, the filled data have that entry's data there.
+    ensures data { IfSome result (λ place. (card terminal : Entries)
+        → take len (drop place (dol_data dol.now card terminal))
+        ≡ entry_data card terminal (record { tag = tag.0; count = len })) }
 {
     place_among(dol.entries(), tag, len)
 }

@@ -1,5 +1,4 @@
 ghost use Rattle.std.specs.Prelude.{◌≡◌, ◌+◌, ◌<◌, ◌≤◌, ◌↔◌, [], ◌++◌, length, replicate, option_map, IsErr, OnOk, OnErr, IfErr};
-ghost use Rattle.arrayvec.specs.ArrayVec.{array_vec_len};
 ghost use Rattle.object_lists.specs.DolEntries.{total_of};
 ghost use Rattle.object_lists.specs.DolSeen.{seen, all_seen};
 ghost use Rattle.object_lists.specs.Filled.{dol_data, entry_data, fitted, known};
@@ -7,28 +6,21 @@ ghost use Rattle.object_lists.specs.Filled as spec;
 
 use crate::dol::{Dol, Entry, total};
 use arrayvec::ArrayVec;
-use ber_tlv::{Full, Tag, is_constructed};
-use emv_dict::{Digits, Format, Origin, tag_row};
+use ber_tlv::{Full, Tag, append, is_constructed};
+use emv_dict::{Format, Origin, tag_row};
 use env_map::Env;
-
-/// What a terminal has of a card: its data objects, the application interchange profile and the
-/// digits of the primary account number.
-#[derive(Drop)]
-pub struct CardData {
-    pub env: Env,
-    pub aip: [u8; 2],
-    pub pan: Digits,
-}
 
 /// The most bytes that filled data has.
 const MOST: usize = 252;
 
 /// Fills an object list (EMV 4.3 Book 3 section 5.4): for each entry the value of its object, cut or
 /// filled to the entry's length, from `card` where the dictionary says that the object comes from the
-/// card, else from `terminal`; zeros where that gives none. The data replace what `out` held. `Full` comes exactly where they have more than 252 bytes,
-/// and `out` is empty then.
+/// card, else from `terminal`; zeros where that gives none. The data replace what `out` held, and are
+/// as many bytes as the entries want. `Full` comes exactly where these are more than 252, and `out` is
+/// empty then.
 pub fn fill(dol: &Dol, card: &Env, terminal: &Env, out: &mut ArrayVec<u8, 252>) -> Result<(), Full>
     ensures ok { OnOk result (out.new.items ≡ dol_data dol.now card.now terminal.now) }
+    ensures len { OnOk result (length out.new.items ≡ total_of dol.now) }
     ensures full { IsErr result ↔ (252 < total_of dol.now) }
     ensures needed { IfErr result (λ full. full.needed ≡ total_of dol.now) }
     ensures free { IfErr result (λ full. full.free ≡ 252) }
@@ -45,7 +37,8 @@ pub fn fill(dol: &Dol, card: &Env, terminal: &Env, out: &mut ArrayVec<u8, 252>) 
 
 fn append_all(out: &mut ArrayVec<u8, 252>, entries: &[Entry], card: &Env, terminal: &Env)
     requires { length out.old.items + total_of (all_seen entries.now) ≤ 252 }
-    ensures { out.new.items ≡ out.old.items ++ dol_data (all_seen entries.now) card.now terminal.now }
+    ensures filled { out.new.items ≡ out.old.items ++ dol_data (all_seen entries.now) card.now terminal.now }
+    ensures len { length out.new.items ≡ length out.old.items + total_of (all_seen entries.now) }
 {
     for entry in entries {
         append_entry(out, entry, card, terminal);
@@ -125,15 +118,5 @@ fn append_filler(out: &mut ArrayVec<u8, 252>, byte: u8, count: usize)
 {
     for _ in 0..count {
         out.push(byte);
-    }
-}
-
-fn append(out: &mut ArrayVec<u8, 252>, bytes: &[u8])
-    requires { array_vec_len out.old + length bytes.now ≤ 252 }
-    ensures filled { out.new.items ≡ out.old.items ++ bytes.now }
-    ensures len { length out.new.items ≡ length out.old.items + length bytes.now }
-{
-    if out.try_extend_from_slice(bytes).is_err() {
-        unreachable!();
     }
 }

@@ -1,11 +1,13 @@
 //! Data object lists, and the data that a terminal fills them with (EMV 4.3 Book 3 section 5.4).
 #![tactic(auto)]
 
+pub mod card_data;
 pub mod dol;
 pub mod filling;
 
+pub use card_data::CardData;
 pub use dol::{Dol, DolFault, place, read_dol, total};
-pub use filling::{CardData, fill};
+pub use filling::fill;
 
 #[cfg(test)]
 mod tests;

@@ -7,5 +7,6 @@ use Rattle.object_lists.proofs.filling.append_all.Given as goal
 abbrev pub invariant-loop-entry : goal.invariant-loop-entry
 invariant-loop-entry l = record {
   room : length l.out.items + total_of (all_seen (drop l.entry-index l.entries)) ≤ 252;
+  len : length l.out.items + total_of (all_seen (drop l.entry-index l.entries)) ≡ length l.fn.out.items + total_of (all_seen l.entries);
   same : l.out.items ++ dol_data (all_seen (drop l.entry-index l.entries)) l.card l.terminal ≡ l.fn.out.items ++ dol_data (all_seen l.entries) l.card l.terminal;
 }

@@ -1,7 +1,7 @@
 use Rattle.std.proofs.Common.{◌≡◌, ◌<◌, ◌∙◌, sym, length, arith, None, Ok, ap}
 use Rattle.env_map.specs.Entries.{value_of, with_entry}
 use Rattle.env_map.specs.Inside.{entries}
-use Rattle.env_map.proofs.EntryLemmas.{length-entries_of, size_of_values-entries_of, absent, put_of-many, put_of-long, put_of-fits, IsRising-with, entries_of-put, filled-put, length-bytes_with}
+use Rattle.env_map.proofs.EntryLemmas.{length-entries_of, size_of_values-entries_of, absent, put_of-many, put_of-long, put_of-fits, IsRising-with, entries_of-put, filled-put, length-bytes_with, put_of-puts}
 use Rattle.env_map.proofs.env.Env.put.Goals as goal
 
 pub returns-then-is_full-clause-exact : goal.returns-then-is_full-clause-exact
@@ -49,3 +49,9 @@ returns-clause-exact c =
     let filled = c.self.invariant.filled in
     let size = size_of_values-entries_of c.self.inside.bytes.items c.self.inside.places.items (omega arith) in
     rw (← c.self.view_is) (put_of-fits c.args.tag c.args.value.now (entries c.self.inside) (is_absent c) (omega arith) (omega arith) ∙ ap Ok (sym (is_with_entry c)))
+
+pub returns-clause-there : goal.returns-clause-there
+returns-clause-there c = (put_of-puts c.args.tag c.args.value.now c.args.self.now _ (returns-clause-exact c)).there
+
+pub returns-clause-others : goal.returns-clause-others
+returns-clause-others c = (put_of-puts c.args.tag c.args.value.now c.args.self.now _ (returns-clause-exact c)).others

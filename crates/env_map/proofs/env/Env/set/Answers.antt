@@ -3,7 +3,7 @@ use Rattle.std.specs.List.{refill}
 use Rattle.env_map.specs.Entries.{value_of, with_value}
 use Rattle.env_map.specs.Inside.{entries}
 use Rattle.env_map.specs.Places.{start_at}
-use Rattle.env_map.proofs.EntryLemmas.{start_at-value_of, over_within, refilled, bytes_over, entries_of-set, IsRising-value, length-bytes_over, set_of-present, set_of-absent}
+use Rattle.env_map.proofs.EntryLemmas.{start_at-value_of, over_within, refilled, bytes_over, entries_of-set, IsRising-value, length-bytes_over, set_of-present, set_of-absent, set_of-puts}
 use Rattle.env_map.proofs.env.Env.set.Goals as goal
 
 pub start_of-requires : goal.start_of-requires
@@ -57,3 +57,9 @@ returns-in-None-clause-exact c =
     let missing = sym (start_at-value_of c.self.inside.bytes.items c.self.inside.places.items c.args.tag.0) ∙ ap is_some is_none in
     let same = rw c.self.view_is at (set_of-absent c.args.tag c.args.value.now (entries c.self.inside) missing) in
     rw same c.put.ensures.exact
+
+pub returns-in-Some-clause-there : goal.returns-in-Some-clause-there
+returns-in-Some-clause-there c = (set_of-puts c.args.tag c.args.value.now c.args.self.now _ (returns-in-Some-clause-exact c)).there
+
+pub returns-in-Some-clause-others : goal.returns-in-Some-clause-others
+returns-in-Some-clause-others c = (set_of-puts c.args.tag c.args.value.now c.args.self.now _ (returns-in-Some-clause-exact c)).others

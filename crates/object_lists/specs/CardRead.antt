@@ -1,0 +1,28 @@
+-- What a terminal has of a card once its records are read.
+use Rattle.std.specs.Prelude.{◌≡◌, ℕ, List, [], Some, Ok, Result, Err, option_and_then, Option, None, unwrap_or}
+use Rattle.std.specs.Result.{result_ok}
+use Rattle.emv_dict.specs.Pan.{pan_of}
+use Rattle.env_map.specs.Entries.{Entries, value_of}
+use Rattle.object_lists.specs.Forms.{HasForms}
+
+-- the card's objects by rising tag, the application interchange profile, and the digits of the primary
+-- account number
+pub record ReadCard : Type 0 where
+  pub entries : Entries
+  pub aip : List ℕ
+  pub pan : List ℕ
+
+-- the objects are those of a finished reading, the profile is the value of 82, and the digits are those
+-- of 5A
+pub record IsRead (card : ReadCard) : Type 0 where
+  pub forms : HasForms card.entries
+  pub profile : value_of 0x82 card.entries ≡ Some card.aip
+  pub digits : option_and_then (λ field. result_ok (pan_of field)) (value_of 0x5A card.entries) ≡ Some card.pan
+
+-- what these objects make
+abbrev pub card_of : Entries → ReadCard
+card_of entries = record {
+  entries = entries;
+  aip = unwrap_or (value_of 0x82 entries) [];
+  pan = unwrap_or (option_and_then (λ field. result_ok (pan_of field)) (value_of 0x5A entries)) [];
+}

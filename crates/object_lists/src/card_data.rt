@@ -1,0 +1,67 @@
+ghost use Rattle.std.specs.Prelude.{◌≡◌, option_map};
+ghost use Rattle.env_map.specs.Entries.{value_of};
+ghost use Rattle.object_lists.specs.CardRead.{IsRead, card_of};
+ghost use Rattle.object_lists.specs.Forms.{HasForms};
+
+use ber_tlv::Tag;
+use emv_dict::{Digits, pan_digits};
+use env_map::Env;
+use std::marker::Model;
+
+/// What a terminal has of a card once its records are read (EMV 4.3 Book 3 section 10.2): its data
+/// objects, the application interchange profile and the digits of the primary account number. Each
+/// value of the type is one that a finished reading gives: the mandatory objects are there, and those
+/// that are checked have their forms.
+#[derive(Drop)]
+pub struct CardData {
+    pub env: Env,
+    pub aip: [u8; 2],
+    pub pan: Digits,
+}
+
+impl Model for CardData {
+    ghost use Rattle.object_lists.specs.CardRead.{ReadCard, IsRead};
+
+    ghost Value = { ReadCard };
+
+    ghost view = { λ card. record { entries = card.env; aip = card.aip; pan = card.pan } };
+
+    ghost invariant = { λ card. IsRead (record { entries = card.env; aip = card.aip; pan = card.pan }) };
+}
+
+impl CardData {
+    /// What these objects make.
+    pub fn new(env: Env) -> CardData
+        requires { HasForms env }
+        ensures card { result ≡ card_of env }
+        ensures read { IsRead result }
+    {
+        let Some([high, low]) = env.get(Tag(0x82)) else {
+            unreachable!();
+        };
+        let aip = [*high, *low];
+        let Some(field) = env.get(Tag(0x5a)) else {
+            unreachable!();
+        };
+        let Ok(pan) = pan_digits(field) else {
+            unreachable!();
+        };
+        CardData { env, aip, pan }
+    }
+
+    /// The objects.
+    pub fn env(&self) -> &Env
+        ensures entries { result.now ≡ self.now.entries }
+        ensures read { IsRead self.now }
+    {
+        &self.env
+    }
+
+    /// The value of an object.
+    pub fn value(&self, tag: Tag) -> Option<&[u8]>
+        ensures value { option_map (λ value. value.now) result ≡ value_of tag.0 self.now.entries }
+        ensures read { IsRead self.now }
+    {
+        self.env.get(tag)
+    }
+}
