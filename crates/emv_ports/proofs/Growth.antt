@@ -18,6 +18,22 @@ Appends-more (Some xs) (Some ys) (Some zs) a b p q = q ∙ ap (λ (t : List ℕ)
 pub IsSoFar_start : (known : Option (List ℕ)) (whole : List ℕ) → IsSoFar known known whole whole
 IsSoFar_start known whole = record { done = []; written = Appends-none known; splits = refl }
 
+-- a text was appended, and of the text behind it all but a rest
+pub IsSoFar_second : (old mid new : Option (List ℕ)) (first rest second : List ℕ) → Appends old mid first → IsSoFar mid new rest second → IsSoFar old new rest (first ++ second)
+IsSoFar_second old mid new first rest second all so_far = record {
+  done = first ++ so_far.done;
+  written = Appends-more old mid new first so_far.done all so_far.written;
+  splits = append_assoc first so_far.done rest ∙ ap (λ (t : List ℕ). first ++ t) so_far.splits;
+}
+
+-- what isn't appended of a text isn't either of a longer one
+pub IsSoFar_first : (old new : Option (List ℕ)) (rest first second : List ℕ) → IsSoFar old new rest first → IsSoFar old new (rest ++ second) (first ++ second)
+IsSoFar_first old new rest first second so_far = record {
+  done = so_far.done;
+  written = so_far.written;
+  splits = sym (append_assoc so_far.done rest second) ∙ ap (λ (t : List ℕ). t ++ second) so_far.splits;
+}
+
 pub IsSoFar_more : (old mid new : Option (List ℕ)) (piece rest whole : List ℕ) → IsSoFar old mid (piece ++ rest) whole → Appends mid new piece → IsSoFar old new rest whole
 IsSoFar_more old mid new piece rest whole so_far more = record {
   done = so_far.done ++ piece;
@@ -27,20 +43,15 @@ IsSoFar_more old mid new piece rest whole so_far more = record {
 
 pub IsSoFar_front : (old mid new : Option (List ℕ)) (piece rest whole : List ℕ) → IsSoFar old mid (piece ++ rest) whole → AppendsFront mid new piece → AppendsFront old new whole
 IsSoFar_front old mid new piece rest whole so_far stopped = record {
-  front = so_far.done ++ stopped.front;
-  more = stopped.more ++ rest;
-  splits = append_assoc so_far.done stopped.front (stopped.more ++ rest)
-      ∙ ap (λ (t : List ℕ). so_far.done ++ t) (sym (append_assoc stopped.front stopped.more rest) ∙ ap (λ (t : List ℕ). t ++ rest) stopped.splits)
-      ∙ so_far.splits;
-  written = Appends-more old mid new so_far.done stopped.front so_far.written stopped.written;
+  rest = stopped.rest ++ rest;
+  so_far = subst (λ (t : List ℕ). IsSoFar old new (stopped.rest ++ rest) t) so_far.splits
+      (IsSoFar_second old mid new so_far.done (stopped.rest ++ rest) (piece ++ rest) so_far.written
+      (IsSoFar_first mid new stopped.rest piece rest stopped.so_far));
 }
 
 pub IsSoFar_end : (old new : Option (List ℕ)) (whole : List ℕ) → IsSoFar old new [] whole → Appends old new whole
 IsSoFar_end old new whole so_far = let all : so_far.done ≡ whole = sym (append-nil so_far.done) ∙ so_far.splits in
     subst (λ (t : List ℕ). Appends old new t) all so_far.written
-
-pub AppendsFront-so_far : (old new : Option (List ℕ)) (rest whole : List ℕ) → IsSoFar old new rest whole → AppendsFront old new whole
-AppendsFront-so_far old new rest whole so_far = record { front = so_far.done; more = rest; splits = so_far.splits; written = so_far.written }
 
 -- a sink took the next `count` bytes of a text of which it had the first `done`
 pub IsSoFar-take : (old mid new : Option (List ℕ)) (text : List ℕ) (done count : ℕ) → IsSoFar old mid (drop done text) text →
@@ -54,16 +65,12 @@ IsSoFar-take old mid new text done count so_far more =
 -- a front of the first of two pieces, or all of it and a front of the second, is a front of both
 pub AppendsFront-first : (old new : Option (List ℕ)) (first second : List ℕ) → AppendsFront old new first → AppendsFront old new (first ++ second)
 AppendsFront-first old new first second stopped = record {
-  front = stopped.front;
-  more = stopped.more ++ second;
-  splits = sym (append_assoc stopped.front stopped.more second) ∙ ap (λ (t : List ℕ). t ++ second) stopped.splits;
-  written = stopped.written;
+  rest = stopped.rest ++ second;
+  so_far = IsSoFar_first old new stopped.rest first second stopped.so_far;
 }
 
 pub AppendsFront-second : (old mid new : Option (List ℕ)) (first second : List ℕ) → Appends old mid first → AppendsFront mid new second → AppendsFront old new (first ++ second)
 AppendsFront-second old mid new first second all stopped = record {
-  front = first ++ stopped.front;
-  more = stopped.more;
-  splits = append_assoc first stopped.front stopped.more ∙ ap (λ (t : List ℕ). first ++ t) stopped.splits;
-  written = Appends-more old mid new first stopped.front all stopped.written;
+  rest = stopped.rest;
+  so_far = IsSoFar_second old mid new first stopped.rest second all stopped.so_far;
 }

@@ -7,3 +7,4 @@ pub mod MemoryPages
 pub mod PageReading
 pub mod Reading
 pub mod State
+pub mod Workings

@@ -1,5 +1,5 @@
 -- The memory of a card, 64 pages of 64 cells, and what each call of `Pages` makes of it.
-use Rattle.std.specs.Prelude.{◌≡◌, ◌⊎◌, ℕ, ◌+◌, ◌<◌, min, Bool, true, false, List, [], ◌∷◌, map, length, slice_index_or, slice_set, Option, Some, None, IsTrue, ◌==◌, if◌then◌else◌}
+use Rattle.std.specs.Prelude.{◌≡◌, ◌⊎◌, ℕ, ◌+◌, ◌<◌, min, Bool, true, false, List, [], ◌∷◌, map, length, slice_index_or, slice_set, replicate, Option, Some, None, IsTrue, ◌==◌, if◌then◌else◌}
 use Rattle.emv_ports.specs.Causes.{one_more}
 use Rattle.emv_ports.specs.Cut.{is_plan, write_cut, release_cut}
 use Rattle.emv_ports.specs.PageReading.{Reading}
@@ -85,3 +85,22 @@ next_release_cut m = release_cut m.plan m.commit m.writes
 abbrev pub CutWrite : Memory → ℕ → List ℕ → Memory → Type 0
 CutWrite old page bytes new =
     ((next_write_cut old ≡ CutBefore) × (new ≡ gone old)) ⊎ ((next_write_cut old ≡ CutWithin) × (new ≡ gone (torn old page bytes)))
+
+-- off, each cell sure of 00, no tear planned and no loss: what blank pages are, whatever they gave or counted last
+pub record IsBlank (m : Memory) : Type 0 where
+  pub off : m.on ≡ false
+  pub cells : m.cells ≡ replicate 64 (replicate 64 (Some 0))
+  pub plan : m.plan ≡ None
+  pub losses : m.losses ≡ 0
+
+-- off, every cell sure of 00
+abbrev pub blank_memory : Memory
+blank_memory = record {
+  cells = replicate 64 (replicate 64 (Some 0));
+  shown = replicate 64 (replicate 64 0);
+  on = false;
+  plan = None;
+  commit = 0;
+  writes = 0;
+  losses = 0;
+}

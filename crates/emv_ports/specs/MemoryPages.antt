@@ -1,12 +1,11 @@
--- What pages that live in memory mean, and what they keep beside that.
-use Rattle.std.specs.Prelude.{ℕ, ◌+◌, ◌%◌, ◌-◌, ◌^◌, min, List, [], map, slice_index_or, slice_set, replicate, Some, None, false}
-use Rattle.emv_ports.specs.Cell.{sure_of, given_of, all_torn_over, settled_from}
+-- How the fields of pages that live in memory are seen.
+use Rattle.std.specs.Prelude.{map}
+use Rattle.emv_ports.specs.Cell.{sure_of, given_of}
 use Rattle.emv_ports.specs.Memory.{Memory}
-use Rattle.emv_ports.specs.declared.memory_pages.Cell.{Cell}
-use Rattle.emv_ports.specs.declared.memory_pages.Cell.TheVariants.{Sure}
-use Rattle.emv_ports.specs.declared.memory_pages.MemoryPages.{MemoryPages}
+use Rattle.emv_ports.specs.Workings.{Workings}
+use Rattle.emv_ports.specs.declared.memory_pages.MemoryPages.TheInside.{Inside}
 
-abbrev pub memory_of : MemoryPages → Memory
+abbrev pub memory_of : Inside → Memory
 memory_of pages = record {
   cells = map (map sure_of) pages.cells;
   shown = map (map given_of) pages.cells;
@@ -17,66 +16,10 @@ memory_of pages = record {
   losses = pages.losses;
 }
 
--- what no call of `Pages` shows at once
-pub record Workings : Type 0 where
-  -- each page's cells, with what a torn write left in them
-  pub cells : List (List Cell)
-  -- how often the pages were turned on since they were made, modulo 2
-  pub power_ups : ℕ
-  -- how often `mark` was called since they were made, up to 2 ^ 32 - 1
-  pub marks : ℕ
-  -- how often `write` was called since they were made, up to 2 ^ 32 - 1
-  pub writes : ℕ
-
-abbrev pub workings_of : MemoryPages → Workings
+abbrev pub workings_of : Inside → Workings
 workings_of pages = record {
   cells = pages.cells;
   power_ups = pages.power_ups;
   marks = pages.marks;
   writes = pages.writes;
 }
-
--- the call behind this many, up to 2 ^ 32 - 1
-abbrev pub next_call : ℕ → ℕ
-next_call calls = min (calls + 1) (2 ^ 32 - 1)
-
--- behind one more power-up: each page's cells take their turn
-abbrev pub turned_on : Workings → Workings
-turned_on w = let power_up = (w.power_ups + 1) % 2 in
-    record w { cells = map (settled_from power_up 0) w.cells; power_ups = power_up }
-
--- behind one more mark
-abbrev pub marked_once : Workings → Workings
-marked_once w = record w { marks = next_call w.marks }
-
--- behind a write that was spared
-abbrev pub written_once : Workings → ℕ → List ℕ → Workings
-written_once w page bytes = record w { cells = slice_set w.cells page (map Sure bytes); writes = next_call w.writes }
-
--- behind a write that changed nothing
-abbrev pub called_once : Workings → Workings
-called_once w = record w { writes = next_call w.writes }
-
--- with a page torn
-abbrev pub torn_workings : Workings → ℕ → List ℕ → Workings
-torn_workings w page bytes = record w { cells = slice_set w.cells page (all_torn_over (slice_index_or w.cells page []) bytes) }
-
--- behind a torn write
-abbrev pub torn_once : Workings → ℕ → List ℕ → Workings
-torn_once w page bytes = torn_workings (called_once w) page bytes
-
--- off, every cell sure of 00
-abbrev pub blank_memory : Memory
-blank_memory = record {
-  cells = replicate 64 (replicate 64 (Some 0));
-  shown = replicate 64 (replicate 64 0);
-  on = false;
-  plan = None;
-  commit = 0;
-  writes = 0;
-  losses = 0;
-}
-
--- no call was made yet
-abbrev pub blank_workings : Workings
-blank_workings = record { cells = replicate 64 (replicate 64 (Sure 0)); power_ups = 0; marks = 0; writes = 0 }

@@ -5,6 +5,7 @@
 //! answers `Failed` only where that count rose.
 #![tactic(auto)]
 
+pub mod held;
 pub mod memory_pages;
 pub mod memory_sink;
 pub mod memory_source;
@@ -15,6 +16,7 @@ pub mod standard;
 pub mod tear;
 pub mod transfer;
 
+pub use held::Held;
 pub use memory_pages::MemoryPages;
 pub use memory_sink::MemorySink;
 pub use memory_source::MemorySource;

@@ -7,6 +7,7 @@ ghost use Rattle.emv_ports.specs.Cell.{torn_over, all_torn_over};
 ghost use Rattle.emv_ports.specs.declared.memory_pages.Cell.TheVariants.{Sure};
 
 use crate::{Cut, Gone, Pages, Tear, TearAt};
+use std::marker::Model;
 
 /// A cell: sure of a byte, or torn.
 #[derive(Clone, Copy, Debug, PartialEq, Eq)]
@@ -150,19 +151,31 @@ pub struct MemoryPages {
     power_ups: u8,
     marks: u32,
     writes: u32,
-    ghost parity: { power_ups < 2 },
-    ghost planned: { IsTrue (is_plan plan) },
+}
+
+impl Model for MemoryPages {
+    ghost use Rattle.emv_ports.specs.Workings.{MemoryBank};
+
+    ghost Value = { MemoryBank };
+
+    ghost use Rattle.std.specs.Prelude.{◌<◌, IsTrue};
+    ghost use Rattle.emv_ports.specs.Cut.{is_plan};
+    ghost use Rattle.emv_ports.specs.MemoryPages.{memory_of, workings_of};
+
+    ghost view = { λ pages. record { memory = memory_of pages; workings = workings_of pages } };
+
+    ghost invariant = { λ pages. (pages.power_ups < 2) × IsTrue (is_plan pages.plan) };
 }
 
 impl MemoryPages {
-    ghost use Rattle.emv_ports.specs.Memory.{gone, torn};
-    ghost use Rattle.emv_ports.specs.MemoryPages.{memory_of, blank_memory};
-    ghost use Rattle.emv_ports.specs.MemoryPages.{workings_of, blank_workings, torn_workings};
+    ghost use Rattle.emv_ports.specs.Memory.{IsBlank, blank_memory, gone, torn};
+    ghost use Rattle.emv_ports.specs.Workings.{blank_workings, torn_workings};
 
     /// Pages that are off, every cell sure of 00, no tear planned and no loss.
     pub fn blank() -> MemoryPages
-        ensures memory { memory_of result ≡ blank_memory }
-        ensures workings { workings_of result ≡ blank_workings }
+        ensures blank { IsBlank result.memory }
+        ensures memory { result.memory ≡ blank_memory }
+        ensures workings { result.workings ≡ blank_workings }
     {
         MemoryPages {
             cells: [[Cell::Sure(0); 64]; 64],
@@ -179,30 +192,30 @@ impl MemoryPages {
 
     /// The number of calls of `mark` since the pages were made, up to the greatest `u32`.
     pub fn marks(&self) -> u32
-        ensures { result ≡ (workings_of self.now).marks }
+        ensures { result ≡ self.now.workings.marks }
     {
         self.marks
     }
 
     /// The number of calls of `write` since the pages were made, up to the greatest `u32`.
     pub fn writes(&self) -> u32
-        ensures { result ≡ (workings_of self.now).writes }
+        ensures { result ≡ self.now.workings.writes }
     {
         self.writes
     }
 
     fn tear(&mut self, page: u8, bytes: &[u8; 64])
         requires { page < 64 }
-        ensures memory { memory_of self.new ≡ torn (memory_of self.old) page bytes.now }
-        ensures workings { workings_of self.new ≡ torn_workings (workings_of self.old) page bytes.now }
+        ensures memory { self.new.memory ≡ torn self.old.memory page bytes.now }
+        ensures workings { self.new.workings ≡ torn_workings self.old.workings page bytes.now }
     {
         let cells = self.cells[page as usize];
         self.cells[page as usize] = torn_cells(&cells, bytes);
     }
 
     fn lose(&mut self)
-        ensures memory { memory_of self.new ≡ gone (memory_of self.old) }
-        ensures workings { workings_of self.new ≡ workings_of self.old }
+        ensures memory { self.new.memory ≡ gone self.old.memory }
+        ensures workings { self.new.workings ≡ self.old.workings }
     {
         self.power_off();
         self.losses = self.losses.saturating_add(1);
@@ -214,23 +227,23 @@ impl Pages for MemoryPages {
     ghost use Rattle.emv_ports.specs.Cut.{is_plan};
     ghost use Rattle.emv_ports.specs.Memory.{planned, PowersUp, powered_off, marked, gone};
     ghost use Rattle.emv_ports.specs.Memory.{next_write_cut, next_release_cut, written, CutWrite};
-    ghost use Rattle.emv_ports.specs.MemoryPages.{memory_of, workings_of, turned_on, marked_once};
-    ghost use Rattle.emv_ports.specs.MemoryPages.{written_once, called_once, torn_once};
+    ghost use Rattle.emv_ports.specs.Workings.{turned_on, marked_once};
+    ghost use Rattle.emv_ports.specs.Workings.{written_once, called_once, torn_once};
     ghost use Rattle.emv_ports.specs.declared.tear.Cut.TheVariants.{Spared, CutBefore, CutWithin};
 
-    ghost memory = { memory_of };
+    ghost memory = { λ pages. pages.memory };
 
     fn plan(&mut self, tear: Option<Tear>)
         requires { IsTrue (is_plan tear) }
-        ensures memory { memory_of self.new ≡ planned (memory_of self.old) tear }
-        ensures workings { workings_of self.new ≡ workings_of self.old }
+        ensures memory { self.new.memory ≡ planned self.old.memory tear }
+        ensures workings { self.new.workings ≡ self.old.workings }
     {
         self.plan = tear;
     }
 
     fn power_up(&mut self)
-        ensures memory { PowersUp (memory_of self.old) (memory_of self.new) }
-        ensures workings { workings_of self.new ≡ turned_on (workings_of self.old) }
+        ensures memory { PowersUp self.old.memory self.new.memory }
+        ensures workings { self.new.workings ≡ turned_on self.old.workings }
     {
         self.power_ups = (self.power_ups + 1) % 2;
         settle(&mut self.cells, self.power_ups);
@@ -240,8 +253,8 @@ impl Pages for MemoryPages {
     }
 
     fn power_off(&mut self)
-        ensures memory { memory_of self.new ≡ powered_off (memory_of self.old) }
-        ensures workings { workings_of self.new ≡ workings_of self.old }
+        ensures memory { self.new.memory ≡ powered_off self.old.memory }
+        ensures workings { self.new.workings ≡ self.old.workings }
     {
         self.on = false;
         self.plan = None;
@@ -252,8 +265,8 @@ impl Pages for MemoryPages {
     }
 
     fn mark(&mut self)
-        ensures memory { memory_of self.new ≡ marked (memory_of self.old) }
-        ensures workings { workings_of self.new ≡ marked_once (workings_of self.old) }
+        ensures memory { self.new.memory ≡ marked self.old.memory }
+        ensures workings { self.new.workings ≡ marked_once self.old.workings }
     {
         self.marks = self.marks.saturating_add(1);
         self.commit = self.commit.saturating_add(1);
@@ -262,18 +275,18 @@ impl Pages for MemoryPages {
 
     fn write(&mut self, page: u8, bytes: &[u8; 64]) -> Result<(), Gone>
         requires { page < 64 }
-        ensures spared { OnOk result (next_write_cut (memory_of self.old) ≡ Spared) }
+        ensures spared { OnOk result (next_write_cut self.old.memory ≡ Spared) }
         ensures written { OnOk result
-            (memory_of self.new ≡ written (memory_of self.old) page bytes.now) }
+            (self.new.memory ≡ written self.old.memory page bytes.now) }
         ensures cut { OnErr result
-            (CutWrite (memory_of self.old) page bytes.now (memory_of self.new)) }
+            (CutWrite self.old.memory page bytes.now self.new.memory) }
 
         ensures workings { OnOk result
-            (workings_of self.new ≡ written_once (workings_of self.old) page bytes.now) }
-        ensures before { OnErr result (next_write_cut (memory_of self.old) ≡ CutBefore
-            → workings_of self.new ≡ called_once (workings_of self.old)) }
-        ensures within { OnErr result (next_write_cut (memory_of self.old) ≡ CutWithin
-            → workings_of self.new ≡ torn_once (workings_of self.old) page bytes.now) }
+            (self.new.workings ≡ written_once self.old.workings page bytes.now) }
+        ensures before { OnErr result (next_write_cut self.old.memory ≡ CutBefore
+            → self.new.workings ≡ called_once self.old.workings) }
+        ensures within { OnErr result (next_write_cut self.old.memory ≡ CutWithin
+            → self.new.workings ≡ torn_once self.old.workings page bytes.now) }
     {
         self.writes = self.writes.saturating_add(1);
         let number = self.writes_of_commit.saturating_add(1);
@@ -296,12 +309,12 @@ impl Pages for MemoryPages {
     }
 
     fn release(&mut self) -> Result<(), Gone>
-        ensures spared { OnOk result (next_release_cut (memory_of self.old) ≡ Spared) }
-        ensures same { OnOk result (memory_of self.new ≡ memory_of self.old) }
-        ensures cut { OnErr result (next_release_cut (memory_of self.old) ≡ CutBefore) }
-        ensures gone { OnErr result (memory_of self.new ≡ gone (memory_of self.old)) }
+        ensures spared { OnOk result (next_release_cut self.old.memory ≡ Spared) }
+        ensures same { OnOk result (self.new.memory ≡ self.old.memory) }
+        ensures cut { OnErr result (next_release_cut self.old.memory ≡ CutBefore) }
+        ensures gone { OnErr result (self.new.memory ≡ gone self.old.memory) }
 
-        ensures workings { workings_of self.new ≡ workings_of self.old }
+        ensures workings { self.new.workings ≡ self.old.workings }
     {
         match release_cut(self.plan, self.commit, self.writes_of_commit) {
             Cut::Spared => Ok(()),

@@ -68,3 +68,24 @@ fn the_adapters_pass_bytes_through(rt: HostRuntime) -> Result<(), Fail> {
     assert_eq!(rt; sink.write(b"xyz"), Ok(3));
     Ok(())
 }
+
+#[test]
+fn held_pages_are_the_pages_within(rt: HostRuntime) -> Result<(), Fail> {
+    let mut held = Held::new(rt.alloc(), MemoryPages::blank())?;
+    held.power_up();
+    held.mark();
+    assert_eq!(rt; held.write(9, &[7; 64]), Ok(()));
+    assert_eq!(rt; held.release(), Ok(()));
+    assert_eq!(rt; held.read(9), [7; 64]);
+    held.power_off();
+    held.plan(Some(Tear {
+        commit: 1,
+        at: TearAt::Release,
+    }));
+    held.power_up();
+    held.mark();
+    assert_eq!(rt; held.release(), Err(Gone));
+    let pages = held.into_inner();
+    assert_eq!(rt; (pages.marks(), pages.writes()), (2, 1));
+    Ok(())
+}
