@@ -1,4 +1,4 @@
-use crate::script::Script;
+use script_words::Script;
 use emv_dict::Digits;
 
 /// An account of the issuer.

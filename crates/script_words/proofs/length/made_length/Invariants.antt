@@ -1,6 +1,6 @@
 use Rattle.std.proofs.Common.{◌≡◌, ◌+◌, ◌*◌, ◌≤◌, take}
 use Rattle.std.specs.Prelude.{sum_by}
-use Rattle.issuer_host.specs.MadeLength.{identifier_length, order_length}
+use Rattle.script_words.specs.MadeLength.{identifier_length, order_length}
 use Rattle.script_words.proofs.length.made_length.Given as goal
 
 abbrev pub invariant-loop-order : goal.invariant-loop-order
