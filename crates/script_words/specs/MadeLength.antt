@@ -3,7 +3,7 @@
 -- section 10.10 and Annex E).
 use Rattle.std.specs.Prelude.{ℕ, ◌+◌, Bool, true, false, List, sum_by, Option, Some, None}
 use Rattle.ber_tlv.specs.Written.{written_length}
-use Rattle.script_words.specs.Seen.{ScriptData}
+use Rattle.script_words.specs.Script.{ScriptData}
 use Rattle.script_words.specs.declared.script.Word.{Word}
 use Rattle.script_words.specs.declared.script.Word.TheVariants.{Block, Unblock, CardBlock, PinUnblock, Pin, Count, Amount}
 use Rattle.script_words.specs.declared.script.Ordered.{Ordered}
