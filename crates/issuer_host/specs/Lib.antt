@@ -1,2 +1,1 @@
-pub mod MadeLength
-pub mod Seen
+pub mod Account

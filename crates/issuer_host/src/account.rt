@@ -1,8 +1,9 @@
-use crate::script::Script;
 use emv_dict::Digits;
+use script_words::Script;
+use std::marker::Model;
 
 /// An account of the issuer.
-#[derive(Drop, PartialEq, Eq, Debug)]
+#[derive(Drop, Debug)]
 pub struct Account {
     /// The primary account number, from 13 to 16 digits.
     pub pan: Digits,
@@ -16,4 +17,19 @@ pub struct Account {
     pub pin: Option<Digits>,
     /// At most 8 scripts, which the first online reply to the account carries.
     pub scripts: Vec<Script>,
+}
+
+impl Model for Account {
+    ghost use Rattle.issuer_host.specs.Account.{AccountData};
+
+    ghost Value = { AccountData };
+
+    ghost view = { λ a. record {
+        pan = a.pan;
+        currency = a.currency;
+        balance = a.balance;
+        blocked = a.blocked;
+        pin = a.pin;
+        scripts = a.scripts.items;
+    } };
 }

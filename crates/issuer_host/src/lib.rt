@@ -4,11 +4,10 @@
 
 pub mod account;
 pub mod keys;
-pub mod script;
 
 pub use account::Account;
 pub use keys::HostKeys;
-pub use script::{Ordered, Script, Word};
+pub use script_words::{Ordered, Script, Word};
 
 #[cfg(test)]
 mod tests;

@@ -3,9 +3,10 @@ use Rattle.std.specs.Prelude.{ℕ, ◌+◌, List, [], ◌∷◌, ◌++◌, codes
 use Rattle.std.specs.List.{list_any}
 use Rattle.std.specs.Str.{bytes_eq}
 use Rattle.emv_dict.specs.Settings.{most_amount}
-use Rattle.issuer_host.specs.MadeLength.{all_made_length}
-use Rattle.issuer_host.specs.Seen.{ScriptData, AccountData}
-use Rattle.issuer_host.specs.declared.script.Ordered.{Ordered}
+use Rattle.script_words.specs.MadeLength.{all_made_length}
+use Rattle.issuer_host.specs.Seen.{AccountData}
+use Rattle.script_words.specs.Seen.{ScriptData}
+use Rattle.script_words.specs.declared.script.Ordered.{Ordered}
 use Rattle.script_words.specs.Order.{order_of}
 use Rattle.toml.specs.Data.{Data, Items, no_items, item, Members}
 use Rattle.scenario_fields.specs.Fault.{◌>>=◌, or_fault, keep_if}

@@ -1,8 +1,8 @@
 //! The table of an account's script.
 ghost use Rattle.std.specs.Prelude.{◌≡◌, ◌≤◌, length, nat_le, IfOk, vec_len};
 ghost use Rattle.std.specs.List.{All};
-ghost use Rattle.issuer_host.specs.MadeLength.{all_made_length};
-ghost use Rattle.issuer_host.specs.Seen.{seen_script, seen_scripts};
+ghost use Rattle.script_words.specs.MadeLength.{all_made_length};
+ghost use Rattle.script_words.specs.Seen.{seen_script, seen_scripts};
 ghost use Rattle.toml.specs.View.{view, table_view, items_view};
 ghost use Rattle.scenario_fields.specs.Fault.{Gives};
 ghost use Rattle.scenario_fields.specs.Fields.{only, each};
@@ -10,9 +10,8 @@ ghost use Rattle.scenario_fields.specs.Place.{path};
 ghost use Rattle.scenario_fields.specs.declared.place.Place.TheVariants.{Account as AccountPlace, Scripts as ScriptsPlace};
 ghost use Rattle.scenario.specs.Accounts.{is_before, command_item, commands_at, script_keys, script_of, script_item, scripts_at};
 
-use issuer_host::{Ordered, Script};
+use script_words::{Ordered, Script, made_length, read_order};
 use scenario_fields::{Fields, Place, ScenarioFault};
-use script_words::{made_length, read_order};
 use std::alloc::Global;
 use toml::{Table, Value};
 
@@ -92,7 +91,7 @@ fn only_script_keys(fields: &Fields) -> Result<(), ScenarioFault>
 }
 
 /// A script of an account.
-#[tactic(auto, unfolding(crate::specs::Accounts::script_of, issuer_host::specs::Seen::seen_script))]
+#[tactic(auto, unfolding(crate::specs::Accounts::script_of, script_words::specs::Seen::seen_script))]
 fn read_script(
     alloc: Global,
     account: usize,

@@ -11,9 +11,9 @@ use Rattle.std.proofs.lemmas.Slice.Eq.{bytes_eq-Decides}
 use Rattle.std.proofs.lemmas.Str.Parse.{digit_at}
 use Rattle.std.proofs.lemmas.Fmt.{decimal_is_IsNumeral}
 use Rattle.emv_dict.specs.Digits.{HasPinLength}
-use Rattle.issuer_host.specs.declared.script.Word.{Word}
-use Rattle.issuer_host.specs.declared.script.Word.TheVariants.{Block, Unblock, CardBlock, PinUnblock, Pin, Count, Amount}
-use Rattle.issuer_host.specs.declared.script.Ordered.{Ordered}
+use Rattle.script_words.specs.declared.script.Word.{Word}
+use Rattle.script_words.specs.declared.script.Word.TheVariants.{Block, Unblock, CardBlock, PinUnblock, Pin, Count, Amount}
+use Rattle.script_words.specs.declared.script.Ordered.{Ordered}
 use Rattle.script_words.specs.Numeral.{pin_of, numeral_of}
 use Rattle.script_words.specs.Order.{behind, before, either, pin_word, count_word, amount_word, with_argument, word_of, ordered, by_end, order_of}
 use Rattle.script_words.specs.Spelling.{IsWord, word_text, marked, order_text}

@@ -1,3 +1,5 @@
+pub mod MadeLength
 pub mod Numeral
 pub mod Order
+pub mod Script
 pub mod Spelling

@@ -5,9 +5,9 @@ use Rattle.std.specs.Option.{option_map}
 use Rattle.std.specs.Str.{bytes_eq}
 use Rattle.emv_dict.specs.Settings.{most_amount}
 use Rattle.script_words.specs.Numeral.{pin_of, numeral_of}
-use Rattle.issuer_host.specs.declared.script.Word.{Word}
-use Rattle.issuer_host.specs.declared.script.Word.TheVariants.{Block, Unblock, CardBlock, PinUnblock, Pin, Count, Amount}
-use Rattle.issuer_host.specs.declared.script.Ordered.{Ordered}
+use Rattle.script_words.specs.declared.script.Word.{Word}
+use Rattle.script_words.specs.declared.script.Word.TheVariants.{Block, Unblock, CardBlock, PinUnblock, Pin, Count, Amount}
+use Rattle.script_words.specs.declared.script.Ordered.{Ordered}
 
 -- what stands behind this front, where the text begins with it
 unfoldable pub behind : List ℕ → List ℕ → Option (List ℕ)

@@ -2,9 +2,9 @@
 use Rattle.std.specs.Prelude.{ℕ, ◌+◌, ◌≤◌, ⊤, Bool, true, false, List, ◌++◌, map, codes, decimal}
 use Rattle.emv_dict.specs.Digits.{AllDecimal, HasPinLength}
 use Rattle.emv_dict.specs.Settings.{most_amount}
-use Rattle.issuer_host.specs.declared.script.Word.{Word}
-use Rattle.issuer_host.specs.declared.script.Word.TheVariants.{Block, Unblock, CardBlock, PinUnblock, Pin, Count, Amount}
-use Rattle.issuer_host.specs.declared.script.Ordered.{Ordered}
+use Rattle.script_words.specs.declared.script.Word.{Word}
+use Rattle.script_words.specs.declared.script.Word.TheVariants.{Block, Unblock, CardBlock, PinUnblock, Pin, Count, Amount}
+use Rattle.script_words.specs.declared.script.Ordered.{Ordered}
 
 -- a word that can be ordered: a PIN has 4 to 12 digits, an amount at most 12
 abbrev pub IsWord : Word → Type 0

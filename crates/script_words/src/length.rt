@@ -1,18 +1,17 @@
 //! How long a script gets.
-ghost use Rattle.std.specs.Prelude.{◌≡◌, ◌≤◌, vec_len};
-ghost use Rattle.issuer_host.specs.Seen.{seen_script};
-ghost use Rattle.issuer_host.specs.MadeLength.{made_length as made_spec, order_length as order_spec, identifier_length as identifier_spec, template_tag as tag_spec, data_length as data_spec};
+ghost use Rattle.std.specs.Prelude.{◌≡◌, ◌≤◌, length};
+ghost use Rattle.script_words.specs.MadeLength.{made_length as made_spec, order_length as order_spec, identifier_length as identifier_spec, template_tag as tag_spec, data_length as data_spec};
 
 use ber_tlv::{Tag, written_length};
-use issuer_host::{Ordered, Script, Word};
+use crate::script::{Ordered, Script, Word};
 
 /// How many bytes the script takes in the issuer's reply: its template with tag and length, which
 /// holds the identifier, where there is one, and a data object 86 for each command, with its message
 /// authentication code of eight bytes (EMV 4.3 Book 3 section 10.10). A script has at most 16 commands.
-#[tactic(auto, unfolding(issuer_host::specs::MadeLength::made_length, issuer_host::specs::Seen::seen_script))]
+#[tactic(auto, unfolding(crate::specs::MadeLength::made_length))]
 pub fn made_length(script: &Script) -> usize
-    requires { vec_len script.now.commands ≤ 16 }
-    ensures { result ≡ made_spec (seen_script script.now) }
+    requires { length script.now.commands ≤ 16 }
+    ensures { result ≡ made_spec script.now }
 {
     let mut content = identifier_length(&script.id);
     for order in &script.commands {
@@ -21,7 +20,7 @@ pub fn made_length(script: &Script) -> usize
     written_length(template_tag(script.before), content)
 }
 
-#[tactic(auto, unfolding(issuer_host::specs::MadeLength::order_length))]
+#[tactic(auto, unfolding(crate::specs::MadeLength::order_length))]
 fn order_length(order: &Ordered) -> usize
     ensures exact { result ≡ order_spec order.now }
     ensures short { result ≤ 23 }

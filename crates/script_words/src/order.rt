@@ -4,10 +4,10 @@ ghost use Rattle.std.specs.Option.{option_map};
 ghost use Rattle.std.specs.Str.{bytes_eq};
 ghost use Rattle.script_words.specs.Order.{behind as behind_spec, before as before_spec, pin_word as pin_spec, count_word as count_spec, amount_word as amount_spec, with_argument, word_of, order_of};
 ghost use Rattle.script_words.specs.Spelling.{IsWord, order_text};
-ghost use Rattle.issuer_host.specs.declared.script.Ordered.{Ordered as Order};
+ghost use Rattle.script_words.specs.declared.script.Ordered.{Ordered as Order};
 
 use crate::numeral::{read_numeral, read_pin};
-use issuer_host::{Ordered, Word};
+use crate::script::{Ordered, Word};
 
 /// The script command that a text of ASCII orders: `block`, `unblock`, `card_block`, `pin_unblock`,
 /// `pin D` with 4 to 12 decimal digits, `count N` with a number up to 255, or `amount N` with a

@@ -1,6 +1,5 @@
 use super::*;
 use emv_dict::Digits;
-use issuer_host::{Ordered, Script, Word};
 use std::process::Abort;
 
 /// Texts that order nothing.

@@ -1,6 +1,6 @@
 use Rattle.std.proofs.Common.{◌≡◌, ◌≤◌, drop, length, vec_len}
 use Rattle.std.specs.List.{All}
-use Rattle.issuer_host.specs.Seen.{seen_scripts}
+use Rattle.script_words.specs.Seen.{seen_scripts}
 use Rattle.toml.specs.View.{items_view}
 use Rattle.scenario_fields.specs.Fields.{each, with_front}
 use Rattle.scenario.specs.Accounts.{script_item}

@@ -1,4 +1,5 @@
 use emv_dict::Digits;
+use std::marker::Model;
 
 /// What one script command tells the card to do (EMV 4.3 Book 3 section 6.5).
 #[derive(Drop, PartialEq, Eq, Debug)]
@@ -29,7 +30,7 @@ pub struct Ordered {
 }
 
 /// A script that the issuer sends once to an account's card (EMV 4.3 Book 3 section 10.10).
-#[derive(Drop, PartialEq, Eq, Debug)]
+#[derive(Drop, Debug)]
 pub struct Script {
     /// Whether it runs before the final GENERATE AC, template 71; else behind it, template 72.
     pub before: bool,
@@ -37,4 +38,12 @@ pub struct Script {
     pub id: Option<[u8; 4]>,
     /// From 1 to 16 commands, in the order in which the card gets them.
     pub commands: Vec<Ordered>,
+}
+
+impl Model for Script {
+    ghost use Rattle.script_words.specs.Script.{ScriptData};
+
+    ghost Value = { ScriptData };
+
+    ghost view = { λ s. record { before = s.before; id = s.id; commands = s.commands.items } };
 }

@@ -3,10 +3,10 @@
 -- section 10.10 and Annex E).
 use Rattle.std.specs.Prelude.{ℕ, ◌+◌, Bool, true, false, List, sum_by, Option, Some, None}
 use Rattle.ber_tlv.specs.Written.{written_length}
-use Rattle.issuer_host.specs.Seen.{ScriptData}
-use Rattle.issuer_host.specs.declared.script.Word.{Word}
-use Rattle.issuer_host.specs.declared.script.Word.TheVariants.{Block, Unblock, CardBlock, PinUnblock, Pin, Count, Amount}
-use Rattle.issuer_host.specs.declared.script.Ordered.{Ordered}
+use Rattle.script_words.specs.Script.{ScriptData}
+use Rattle.script_words.specs.declared.script.Word.{Word}
+use Rattle.script_words.specs.declared.script.Word.TheVariants.{Block, Unblock, CardBlock, PinUnblock, Pin, Count, Amount}
+use Rattle.script_words.specs.declared.script.Ordered.{Ordered}
 
 -- the bytes of data before the message authentication code: an enciphered PIN block, a limit of one
 -- byte, an amount of 12 digits
