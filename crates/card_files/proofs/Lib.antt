@@ -3,5 +3,7 @@ mod Keeping
 mod Mapped
 mod NameLemmas
 mod OpeningLemmas
+mod OwnNames
 mod PinLemmas
+pub mod Records
 mod SizeLemmas

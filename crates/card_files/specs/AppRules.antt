@@ -1,5 +1,5 @@
 -- The rules of an application's other keys.
-use Rattle.std.specs.Prelude.{ℕ, Bool, false, not, nat_le, ◌==◌, ◌&&◌, ◌||◌, List, [], ◌∷◌, length, take, drop, replicate, slice_index}
+use Rattle.std.specs.Prelude.{ℕ, Bool, false, not, nat_le, ◌==◌, ◌&&◌, ◌||◌, List, [], ◌∷◌, length, take, drop, replicate, slice_index, Option, Some, None}
 use Rattle.std.specs.List.{list_all, list_any}
 use Rattle.std.specs.Str.{bytes_eq}
 use Rattle.card_state.specs.declared.state.AppState.{AppState}
@@ -67,6 +67,11 @@ is_plain_block bytes =
 -- the block of a PIN, or eight zero bytes where there is none
 abbrev pub is_reference_pin : List ℕ → Bool
 is_reference_pin bytes = bytes_eq bytes (replicate 8 0) || is_plain_block bytes
+
+-- the block of a PIN, or zeros for none
+abbrev pub reference_pin : Option (List ℕ) → List ℕ
+reference_pin None = replicate 8 0
+reference_pin (Some pin) = block_of 2 pin
 
 -- at most 12 decimal digits
 abbrev pub is_sum_limit : ℕ → Bool

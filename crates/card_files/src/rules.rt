@@ -1,16 +1,18 @@
 //! The rules of an application's keys.
-ghost use Rattle.std.specs.Prelude.{◌≡◌, ◌==◌, ◌&&◌, length};
+ghost use Rattle.std.specs.Prelude.{◌≡◌, ◌==◌, ◌&&◌, ◌≤◌, ◌↔◌, List, ℕ, length, IsTrue, IfSome};
 ghost use Rattle.std.specs.List.{list_all, list_any};
 ghost use Rattle.emv_dict.specs.Date as date;
+ghost use Rattle.emv_dict.specs.Digits.{least_pin, most_pin};
 ghost use Rattle.emv_dict.specs.Pan as pan_spec;
 ghost use Rattle.emv_dict.specs.Settings as settings;
+ghost use Rattle.pin_block.specs.Block.{IsPin, block_of};
 ghost use Rattle.card_files.specs.AppRules as spec;
 ghost use Rattle.card_files.specs.Seen.{seen_record, seen_records};
 
 use crate::app::RecordImage;
 use card_state::AppState;
 use emv_dict::Digits;
-use pin_block::read_plain;
+use pin_block::{plain_block, read_plain};
 
 /// The most bytes of an image's application file locator: 62 entries of four bytes.
 pub const MOST_AFL: usize = 248;
@@ -149,9 +151,22 @@ pub fn is_reference_pin(block: [u8; 8]) -> bool
     block == [0; 8] || is_plain_block(block)
 }
 
+/// The reference PIN of an image: the plain block of format 2 of a PIN, or eight zero bytes for none.
+pub fn reference_pin(pin: &Option<Digits>) -> [u8; 8]
+    requires { IfSome pin.now (λ digits. (least_pin ≤ length digits) × (length digits ≤ most_pin)) }
+    ensures value { result ≡ spec.reference_pin pin.now }
+    ensures rule { IsTrue (spec.is_reference_pin result) }
+{
+    match pin {
+        Some(pin) => plain_block(pin),
+        None => [0; 8],
+    }
+}
+
 /// Whether the bytes are a plain PIN block of format 2 with 4 to 12 digits.
 pub fn is_plain_block(block: [u8; 8]) -> bool
-    ensures { result ≡ spec.is_plain_block block }
+    ensures value { result ≡ spec.is_plain_block block }
+    ensures pin { IsTrue result ↔ ((pin : List ℕ) × IsPin pin × (block_of 2 pin ≡ block)) }
 {
     read_plain(block).is_some()
 }
