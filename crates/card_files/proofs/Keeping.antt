@@ -1,5 +1,5 @@
 -- Where a card has no fault, every key of its applications keeps to its rule.
-use Rattle.std.proofs.Common.{◌≡◌, ℕ, zero, suc, ◌+◌, ◌≤◌, Bool, true, false, List, [], ◌∷◌, ◌++◌, length, get_or, Option, Some, None, is_some, option_map, refl, ap, arith}
+use Rattle.std.proofs.Common.{◌≡◌, ℕ, zero, suc, ◌+◌, Bool, true, false, List, [], ◌∷◌, ◌++◌, length, get_or, Option, Some, None, is_some, option_map, refl, ap, arith}
 use Rattle.std.specs.Prelude.{if◌then◌else◌, nat_le}
 use Rattle.std.specs.Option.{option_or}
 use Rattle.std.specs.List.{All}

@@ -3,7 +3,7 @@ mod Keeping
 mod Mapped
 mod NameLemmas
 mod OpeningLemmas
-mod OwnNames
+pub mod OwnNames
 mod PinLemmas
 pub mod Records
 mod SizeLemmas

@@ -17,9 +17,11 @@ OtherName a b = a.name ≢ b.name
 abbrev is_taken : List ℕ → List AppData → Bool
 is_taken name apps = list_any (λ other. bytes_eq other.name name) apps
 
-not_taken : (name : List ℕ) (apps : List AppData) → is_taken name apps ≡ false → (k : ℕ) (d : AppData) → k < length apps → (get_or apps k d).name ≢ name
-not_taken name apps test k d within same =
-    true≢false (sym (list_any_at (λ other. bytes_eq other.name name) apps k d within ((bytes_eq-Decides (get_or apps k d).name name).1 same)) ∙ test)
+-- none of these has the name
+pub not_taken : {X : Type 0} (name_of : X → List ℕ) (name : List ℕ) (xs : List X) → list_any (λ x. bytes_eq (name_of x) name) xs ≡ false
+    → (k : ℕ) (d : X) → k < length xs → name_of (get_or xs k d) ≢ name
+not_taken name_of name xs test k d within same =
+    true≢false (sym (list_any_at (λ x. bytes_eq (name_of x) name) xs k d within ((bytes_eq-Decides (name_of (get_or xs k d)) name).1 same)) ∙ test)
 
 passed : (test : Bool) (here : Fault) (rest : Option Fault) → (if test then Some here else rest) ≡ None → (test ≡ false) × (rest ≡ None)
 passed true here rest none = absurd (true≢false (ap is_some none))
@@ -30,7 +32,7 @@ names_apart before [] apart none = subst (λ (xs : List AppData). AllPairs Other
 names_apart before (app ∷ apps) apart none =
     let parts = passed (is_taken app.name before) (OfName (length before)) (name_fault (before ++ app ∷ []) apps) none in
     subst (λ (xs : List AppData). AllPairs OtherName xs) (append_assoc before (app ∷ []) apps)
-    (names_apart (before ++ app ∷ []) apps (all_pairs_push OtherName before app apart (not_taken app.name before parts.0)) parts.1)
+    (names_apart (before ++ app ∷ []) apps (all_pairs_push OtherName before app apart (not_taken (λ a. a.name) app.name before parts.0)) parts.1)
 
 fresh : (before rest : List AppData) (app : AppData) → AllPairs OtherName (before ++ app ∷ rest) → is_taken app.name before ≡ false
 fresh before rest app apart =

@@ -2,17 +2,13 @@
 use Rattle.std.proofs.Common.{◌≡◌, ℕ, zero, suc, ◌==◌, ◌&&◌, ◌||◌, Bool, true, false, not, List, [], ◌∷◌, ◌++◌, length, Option, Some, None, option_map, refl, sym, ap, subst, ◌∙◌, arith}
 use Rattle.std.specs.Prelude.{if◌then◌else◌, nat_le, Contains, IsTrue, IfSome, IsSomeAnd, slice_get, ◌↔◌}
 use Rattle.std.specs.List.{list_all, list_any}
-use Rattle.std.proofs.lemmas.Bool.{true≢false, and_parts, and_from, or_parts, or_from, or_right, or_left, not-true, not_from_false, eqb-true, eq-eqb}
+use Rattle.std.proofs.lemmas.Bool.{true≢false, and_parts, and_from, or_parts, or_from, not-true, not_from_false, eqb-true, eq-eqb}
 use Rattle.std.proofs.lemmas.Bool.Decides.{nat_tests}
 use Rattle.std.proofs.lemmas.List.Folds.{list_all-append, list_any-append, list_any_at, Any-from_list_any}
 use Rattle.std.proofs.lemmas.List.{get_or_default}
-use Rattle.card_files.specs.AppRules.{is_record, is_pair, has_twins, most_records, are_records}
+use Rattle.card_files.specs.AppRules.{is_record, is_pair, has_twins, most_records, are_apart, are_records}
 use Rattle.card_files.specs.Files.{record_in, has_record_of, HasRecord}
 use Rattle.card_files.specs.Views.{RecordData, AppData}
-
--- each in its limits, and no pair twice
-abbrev are_apart : List RecordData → Bool
-are_apart rs = list_all is_record rs && not (has_twins rs)
 
 same_pair : (a b c d : ℕ) → (a == b && c == d) ≡ (b == a && d == c)
 same_pair a b c d = grind (arith, nat_tests)

@@ -51,9 +51,13 @@ has_twins (r ∷ rs) = list_any (is_pair r) rs || has_twins rs
 abbrev pub most_records : ℕ
 most_records = 64
 
--- not too many, each in its limits, and no pair twice
+-- each in its limits, and no pair twice
+abbrev pub are_apart : List RecordData → Bool
+are_apart rs = list_all is_record rs && not (has_twins rs)
+
+-- and not too many
 abbrev pub are_records : List RecordData → Bool
-are_records rs = nat_le (length rs) most_records && (list_all is_record rs && not (has_twins rs))
+are_records rs = nat_le (length rs) most_records && are_apart rs
 
 -- the PIN that a block of format 2 spells: the second digit is its size, and its digits stand behind
 abbrev pub spelled_pin : List ℕ → List ℕ

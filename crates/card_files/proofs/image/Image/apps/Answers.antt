@@ -1,4 +1,4 @@
-use Rattle.std.proofs.Common.{◌≡◌, ◌≤◌, length, sym, arith}
+use Rattle.std.proofs.Common.{◌≡◌, length, sym, arith}
 use Rattle.std.proofs.lemmas.List.{length-map}
 use Rattle.card_files.specs.Kept.{IsImage}
 use Rattle.card_files.specs.SeenApp.{seen_app, seen_apps}

@@ -1,6 +1,6 @@
-use Rattle.std.proofs.Common.{◌≡◌, sym, ap, ◌∙◌}
-use Rattle.std.specs.Prelude.{Option, None}
-use Rattle.card_files.specs.Faults.{Fault, image_fault}
+use Rattle.std.proofs.Common.{◌≡◌, sym}
+use Rattle.std.specs.Prelude.{None}
+use Rattle.card_files.specs.Faults.{image_fault}
 use Rattle.card_files.specs.SeenApp.{seen_apps}
 use Rattle.card_files.proofs.Keeping.{faultless, has_no_fault}
 use Rattle.card_files.proofs.image.Image.new.Goals as goal
