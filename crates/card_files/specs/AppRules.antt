@@ -3,6 +3,7 @@ use Rattle.std.specs.Prelude.{ℕ, Bool, false, not, nat_le, ◌==◌, ◌&&◌,
 use Rattle.std.specs.List.{list_all, list_any}
 use Rattle.std.specs.Str.{bytes_eq}
 use Rattle.card_state.specs.declared.state.AppState.{AppState}
+use Rattle.emv_dict.specs.Digits.{is_pin_length}
 use Rattle.emv_dict.specs.Nibbles.{nibbles, is_decimal}
 use Rattle.emv_dict.specs.Settings.{most_amount}
 use Rattle.pin_block.specs.Block.{block_of}
@@ -66,7 +67,7 @@ spelled_pin bytes = take (slice_index (nibbles bytes) 1) (drop 2 (nibbles bytes)
 -- eight bytes are the block of format 2 of a PIN of 4 to 12 digits
 abbrev pub is_plain_block : List ℕ → Bool
 is_plain_block bytes =
-    has_size 4 12 (spelled_pin bytes) && (list_all is_decimal (spelled_pin bytes) && bytes_eq (block_of 2 (spelled_pin bytes)) bytes)
+    is_pin_length (length (spelled_pin bytes)) && (list_all is_decimal (spelled_pin bytes) && bytes_eq (block_of 2 (spelled_pin bytes)) bytes)
 
 -- the block of a PIN, or eight zero bytes where there is none
 abbrev pub is_reference_pin : List ℕ → Bool

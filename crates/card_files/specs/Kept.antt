@@ -1,7 +1,7 @@
 -- What holds of an image as a whole, and of each of its applications.
 use Rattle.std.specs.Prelude.{◌≢◌, ◌≤◌, List, IsTrue, length}
 use Rattle.std.specs.List.{All, AllPairs}
-use Rattle.emv_dict.specs.Date.{has_digits}
+use Rattle.emv_dict.specs.Bcd.{has_digits}
 use Rattle.emv_dict.specs.Pan.{is_pan_length}
 use Rattle.emv_dict.specs.Settings.{is_code}
 use Rattle.card_files.specs.AppRules.{is_name, is_label, is_afl, is_format, are_records, is_sum_limit, is_reference_pin, is_tries, is_opening}

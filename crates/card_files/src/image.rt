@@ -1,5 +1,6 @@
-ghost use Rattle.std.specs.Prelude.{◌≡◌, List, ℕ, IsTrue, ◌<◌, ◌≤◌, ◌↔◌, length, slice_get, IfOk, IsOk, IfSome, None, MatchResult, Some, option_map, option_copied};
+ghost use Rattle.std.specs.Prelude.{◌≡◌, [], List, ℕ, IsTrue, ◌<◌, ◌≤◌, ◌↔◌, length, slice_get, IfOk, IsOk, IfSome, None, MatchResult, Some, option_map, option_copied};
 ghost use Rattle.std.specs.List.{All};
+ghost use Rattle.card_state.specs.Totals.{totals};
 ghost use Rattle.card_files.specs.Control.{fci_bytes};
 ghost use Rattle.card_files.specs.Faults.{image_fault};
 ghost use Rattle.card_files.specs.Files as spec;
@@ -29,7 +30,7 @@ impl Model for Image {
 
     ghost Value = { List AppData };
 
-    ghost use Rattle.std.specs.Prelude.{◌≡◌, None};
+    ghost use Rattle.std.specs.Prelude.{◌≡◌, [], None};
     ghost use Rattle.card_files.specs.Faults.{image_fault};
     ghost use Rattle.card_files.specs.SeenApp.{seen_apps};
 
@@ -118,7 +119,8 @@ impl Image {
 
     /// Replaces `out` by the state of the card before its first decision.
     pub fn opening(&self, out: &mut CardState)
-        ensures { out.new ≡ opening_of self.now }
+        ensures value { out.new ≡ opening_of self.now }
+        ensures totals { totals out.new [] ≡ out.new }
     {
         out.blocked = false;
         out.apps.clear();

@@ -1,17 +1,14 @@
 //! The rules of an application's keys.
 ghost use Rattle.std.specs.Prelude.{◌≡◌, ◌==◌, ◌&&◌, ◌≤◌, ◌↔◌, List, ℕ, length, IsTrue, IfSome};
 ghost use Rattle.std.specs.List.{list_all, list_any};
-ghost use Rattle.emv_dict.specs.Date as date;
 ghost use Rattle.emv_dict.specs.Digits.{least_pin, most_pin};
-ghost use Rattle.emv_dict.specs.Pan as pan_spec;
-ghost use Rattle.emv_dict.specs.Settings as settings;
 ghost use Rattle.pin_block.specs.Block.{IsPin, block_of};
 ghost use Rattle.card_files.specs.AppRules as spec;
 ghost use Rattle.card_files.specs.Seen.{seen_record, seen_records};
 
 use crate::app::RecordImage;
 use card_state::AppState;
-use emv_dict::Digits;
+use emv_dict::{Digits, MOST_AMOUNT};
 use pin_block::{plain_block, read_plain};
 
 /// The most bytes of an image's application file locator: 62 entries of four bytes.
@@ -116,32 +113,11 @@ pub fn are_records(images: &[RecordImage]) -> bool
     images.len() <= MOST_RECORDS && (each_record(images) && !has_twins(images))
 }
 
-/// Whether there are 13 to 16 digits, as an account number of this profile has.
-pub fn is_pan(digits: &Digits) -> bool
-    ensures { result ≡ pan_spec.is_pan_length (length digits.now) }
-{
-    13 <= digits.len() && digits.len() <= 16
-}
-
-/// Whether the byte has two decimal digits, as an account number's sequence number.
-pub fn is_sequence(byte: u8) -> bool
-    ensures { result ≡ date.has_digits byte }
-{
-    byte / 16 <= 9 && byte % 16 <= 9
-}
-
-/// Whether the two bytes are a currency's code: a zero and three decimal digits.
-pub fn is_currency(bytes: [u8; 2]) -> bool
-    ensures { result ≡ settings.is_code bytes }
-{
-    bytes[0] <= 9 && is_sequence(bytes[1])
-}
-
 /// Whether the sum has at most 12 decimal digits.
 pub fn is_sum_limit(sum: u64) -> bool
     ensures { result ≡ spec.is_sum_limit sum }
 {
-    sum <= 999_999_999_999
+    sum <= MOST_AMOUNT
 }
 
 /// Whether the bytes are a reference PIN: a plain block of format 2, or eight zero bytes for none.

@@ -5,7 +5,7 @@ use Rattle.card_files.specs.AppRules.{is_name, is_label, is_afl, is_format, is_r
 use Rattle.card_files.specs.Kept.{KeepsRules, IsImage}
 use Rattle.card_files.specs.Lists.{is_optional_pdol, is_cdol1, is_cdol2}
 use Rattle.card_files.specs.Views.{RecordData, AppData}
-use Rattle.emv_dict.specs.Date.{has_digits}
+use Rattle.emv_dict.specs.Bcd.{has_digits}
 use Rattle.emv_dict.specs.Pan.{is_pan_length}
 use Rattle.emv_dict.specs.Settings.{is_code}
 use Rattle.scenario.specs.Cards.{FilesData, HolderData, CountersData, AccessData, CardData, has_name, is_named}

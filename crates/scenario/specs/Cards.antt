@@ -1,5 +1,5 @@
 -- The tables of a card, of its applications and of their records.
-use Rattle.std.specs.Prelude.{ℕ, ◌+◌, ◌*◌, ◌/◌, ◌%◌, List, [], ◌∷◌, ◌++◌, map, codes, Bool, false, not, nat_le, Option, Some, None, Result, Ok, Err, if◌then◌else◌}
+use Rattle.std.specs.Prelude.{ℕ, ◌+◌, List, [], ◌∷◌, ◌++◌, map, codes, Bool, false, not, nat_le, Option, Some, None, Result, Ok, Err, if◌then◌else◌}
 use Rattle.std.specs.List.{list_any}
 use Rattle.std.specs.Str.{bytes_eq}
 use Rattle.card_files.specs.AppRules.{is_pair, most_afl, most_records, reference_pin}
@@ -7,6 +7,7 @@ use Rattle.card_files.specs.Lists.{has_all, cdol1_entries, cdol2_entries, most_d
 use Rattle.card_files.specs.Views.{RecordData, AppData}
 use Rattle.card_state.specs.declared.state.AppState.{AppState}
 use Rattle.card_keys.specs.Master.{master_key_of}
+use Rattle.emv_dict.specs.Bcd.{two_digits}
 use Rattle.emv_dict.specs.Settings.{most_amount}
 use Rattle.issuer_host.specs.declared.keys.HostKeys.{HostKeys}
 use Rattle.object_lists.specs.DolEntries.{DolEntry, dol_of, total_of}
@@ -140,10 +141,6 @@ files_of i j earlier ms = do
     cdol2 = cdol2;
     records = records;
   })
-
--- two decimal digits in one byte
-abbrev pub two_digits : ℕ → ℕ
-two_digits n = n / 10 * 16 + n % 10
 
 -- the sequence number as the byte of its two digits
 unfoldable pub sequence_at : (List ℕ → List ℕ) → Members → Result ℕ ScenarioFault

@@ -1,8 +1,8 @@
 //! The table of an application of a card.
-ghost use Rattle.std.specs.Prelude.{◌≡◌, ◌≤◌, ◌*◌, ◌+◌, ◌/◌, ◌%◌, ℕ, ◌∷◌, [], length, codes, false, option_map, IsTrue, IfOk, OnOk};
+ghost use Rattle.std.specs.Prelude.{◌≡◌, ◌≤◌, ℕ, ◌∷◌, [], length, codes, false, option_map, IsTrue, IfOk, OnOk};
 ghost use Rattle.std.specs.List.{list_any};
 ghost use Rattle.std.specs.Str.{bytes_eq};
-ghost use Rattle.emv_dict.specs.Date.{has_digits};
+ghost use Rattle.emv_dict.specs.Bcd.{has_digits};
 ghost use Rattle.card_files.specs.AppRules.{is_name, is_label, is_format};
 ghost use Rattle.card_files.specs.Lists.{has_all, holds_all, entries_within, is_optional_pdol, most_cdol};
 ghost use Rattle.card_files.specs.SeenApp.{seen_app, seen_apps};
@@ -16,14 +16,13 @@ ghost use Rattle.scenario.specs.CardRules.{KeepsFiles, KeepsHolder, KeepsCounter
 ghost use Rattle.scenario_fields.specs.declared.spot.Characters.TheVariants.{Printable};
 ghost use Rattle.scenario.specs.SeenCards.{seen_files, seen_holder, seen_counters, seen_access, wanted_by};
 
-use crate::purchase::MOST_AMOUNT;
 use crate::record::records_at;
 use card_files::lists::{MOST_CDOL, MOST_DATA, MOST_PDOL, has_cdol1_entries, has_cdol2_entries};
 use card_files::rules::{MOST_AFL, reference_pin};
 use card_files::{AppImage, RecordImage};
 use card_keys::master_key;
 use card_state::AppState;
-use emv_dict::{Digits, Name};
+use emv_dict::{Digits, MOST_AMOUNT, Name, two_digits};
 use issuer_host::HostKeys;
 use object_lists::{Dol, read_dol, total};
 use scenario_fields::{Characters, Fields, Place, ScenarioFault, Spot};
@@ -280,7 +279,7 @@ fn sequence_at(fields: &Fields) -> Result<u8, ScenarioFault>
     ensures exact { Gives (λ byte. byte) result (sequence_found (path fields.now.place) (table_view fields.now.table.now)) }
 {
     let number = fields.number_or(0, "sequence", 0, 99)?;
-    Ok((number / 10 * 16 + number % 10) as u8)
+    Ok(two_digits(number as u8))
 }
 
 /// The keys from the PAN to the currency.
