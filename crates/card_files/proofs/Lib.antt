@@ -1,3 +1,4 @@
+mod ControlItems
 mod FaultLemmas
 mod Keeping
 mod Mapped

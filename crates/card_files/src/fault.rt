@@ -112,11 +112,10 @@ fn key_bytes(key: &str) -> ArrayVec<u8, 16>
     requires { length key.now ≤ 16 }
     ensures { result.items ≡ key.now }
 {
-    let mut bytes = ArrayVec::new();
-    if bytes.try_extend_from_slice(key.as_bytes()).is_err() {
-        unreachable!();
+    match ArrayVec::try_from(key.as_bytes()) {
+        Ok(bytes) => bytes,
+        Err(_) => unreachable!(),
     }
-    bytes
 }
 
 /// The application's first key that is against its rule, as a fault of the application of this number.

@@ -1,7 +1,7 @@
 ghost use Rattle.std.specs.Prelude.{◌≡◌, [], List, ℕ, IsTrue, ◌<◌, ◌≤◌, ◌↔◌, length, slice_get, IfOk, IsOk, IfSome, None, MatchResult, Some, option_map, option_copied};
 ghost use Rattle.std.specs.List.{All};
 ghost use Rattle.card_state.specs.Totals.{totals};
-ghost use Rattle.card_files.specs.Control.{fci_bytes};
+ghost use Rattle.card_files.specs.Control.{fci_bytes, IsFci};
 ghost use Rattle.card_files.specs.Faults.{image_fault};
 ghost use Rattle.card_files.specs.Files as spec;
 ghost use Rattle.card_files.specs.Files.{record_of, HasRecord, opening_of};
@@ -112,7 +112,8 @@ impl Image {
     /// 11.3.4).
     pub fn fci(&self, app: u8, out: &mut ArrayVec<u8, 256>)
         requires { app < length self.now }
-        ensures { IfSome (slice_get self.now app) (λ image. out.new.items ≡ fci_bytes image) }
+        ensures bytes { IfSome (slice_get self.now app) (λ image. out.new.items ≡ fci_bytes image) }
+        ensures read { IfSome (slice_get self.now app) (λ image. IsFci image out.new.items) }
     {
         write_fci(&self.apps()[usize::from(app)], out);
     }
