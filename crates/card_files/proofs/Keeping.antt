@@ -1,15 +1,16 @@
 -- Where a card has no fault, every key of its applications keeps to its rule.
-use Rattle.std.proofs.Common.{◌≡◌, ℕ, zero, suc, ◌+◌, ◌≤◌, Bool, true, false, List, [], ◌∷◌, ◌++◌, length, get_or, Option, Some, None, is_some, option_map, refl, ap, arith}
+use Rattle.std.proofs.Common.{◌≡◌, ℕ, zero, suc, ◌+◌, Bool, true, false, List, [], ◌∷◌, ◌++◌, length, get_or, Option, Some, None, is_some, option_map, refl, ap, arith}
 use Rattle.std.specs.Prelude.{if◌then◌else◌, nat_le}
 use Rattle.std.specs.Option.{option_or}
 use Rattle.std.specs.List.{All}
-use Rattle.std.proofs.lemmas.Bool.{true≢false, and_parts, leb-true}
+use Rattle.std.proofs.lemmas.Bool.{true≢false, and_parts, and_from, leb-true, le-leb}
 use Rattle.std.proofs.lemmas.List.{get_or-map, length-map}
 use Rattle.card_files.specs.AppRules.{is_within}
 use Rattle.card_files.specs.Faults.{Line, Fault, OfField, OfCount, file_lines, state_lines, first_broken, app_fault, field_fault, name_fault, image_fault}
-use Rattle.card_files.specs.Kept.{KeepsRules}
+use Rattle.card_files.specs.Kept.{KeepsRules, IsImage}
 use Rattle.card_files.specs.SeenApp.{seen_app, seen_apps}
 use Rattle.card_files.specs.Views.{AppData}
+use Rattle.card_files.proofs.OwnNames.{names_apart, no_name}
 use Rattle.card_files.specs.declared.app.AppImage.{AppImage}
 
 some_is_not_none : {A : Type 0} (x : A) → Some x ≡ None → true ≡ false
@@ -73,28 +74,41 @@ counted : (test : Bool) (count : ℕ) (rest : Option Fault) → (if test then re
 counted true count rest none = (refl, none)
 counted false count rest none = absurd (true≢false (some_is_not_none (OfCount count) none))
 
-all_kept : (apps : List AppData) → image_fault apps ≡ None → All (λ app. KeepsRules app) apps
+-- a card without a fault is an image
+pub faultless : (apps : List AppData) → image_fault apps ≡ None → IsImage apps
 unfolding image_fault
-all_kept apps none =
-    let parts = counted (is_within 1 4 (length apps)) (length apps) (option_or (field_fault 0 apps) (name_fault [] apps)) none in
-    each_kept 0 apps (first_none (field_fault 0 apps) (name_fault [] apps) parts.1).0
-
-count_kept : (apps : List AppData) → image_fault apps ≡ None → (1 ≤ length apps) × (length apps ≤ 4)
-unfolding image_fault
-count_kept apps none =
+faultless apps none =
     let parts = counted (is_within 1 4 (length apps)) (length apps) (option_or (field_fault 0 apps) (name_fault [] apps)) none in
     let ends = and_parts (nat_le 1 (length apps)) (nat_le (length apps) 4) parts.0 in
-    (leb-true 1 (length apps) ends.0, leb-true (length apps) 4 ends.1)
+    let faults = first_none (field_fault 0 apps) (name_fault [] apps) parts.1 in
+    record {
+      some = leb-true 1 (length apps) ends.0;
+      few = leb-true (length apps) 4 ends.1;
+      rules = each_kept 0 apps faults.0;
+      names = names_apart [] apps (λ i j d before within. absurd (omega arith)) faults.1;
+    }
+
+unbroken : (app : AppData) → KeepsRules app → app_fault app ≡ None
+unfolding app_fault file_lines state_lines
+unbroken app keeps =
+    rw (keeps.name, keeps.label, keeps.pdol, keeps.afl, keeps.gpo_format, keeps.ac_format, keeps.cdol1, keeps.cdol2, keeps.records,
+    keeps.pan, keeps.sequence, keeps.currency, keeps.sum_limit, keeps.pin, keeps.tries, keeps.opening) refl
+
+no_field : (number : ℕ) (apps : List AppData) → All (λ app. KeepsRules app) apps → field_fault number apps ≡ None
+no_field number [] keep = refl
+no_field number (app ∷ apps) keep =
+    rw (unbroken app (keep 0 app (omega arith))) (no_field (number + 1) apps (λ k d within. keep (suc k) d (omega arith)))
+
+-- and an image has no fault
+pub has_no_fault : (apps : List AppData) → IsImage apps → image_fault apps ≡ None
+unfolding image_fault
+has_no_fault apps is =
+    rw (and_from (nat_le 1 (length apps)) (nat_le (length apps) 4) (le-leb 1 (length apps) is.some) (le-leb (length apps) 4 is.few), no_field 0 apps is.rules)
+    (no_name [] apps is.names)
 
 -- the same of the applications as they are
-pub all_of_images : (apps : List AppImage) → image_fault (seen_apps apps) ≡ None → All (λ app. KeepsRules (seen_app app)) apps
-all_of_images apps none k d within =
+pub all_of_images : (apps : List AppImage) → IsImage (seen_apps apps) → All (λ app. KeepsRules (seen_app app)) apps
+all_of_images apps is k d within =
     let long : length (seen_apps apps) ≡ length apps = length-map apps seen_app in
-    let at : KeepsRules (get_or (seen_apps apps) k (seen_app d)) = all_kept (seen_apps apps) none k (seen_app d) (omega arith) in
+    let at : KeepsRules (get_or (seen_apps apps) k (seen_app d)) = is.rules k (seen_app d) (omega arith) in
     rw (get_or-map seen_app apps k d (seen_app d) within) at at
-
-pub count_of_images : (apps : List AppImage) → image_fault (seen_apps apps) ≡ None → (1 ≤ length apps) × (length apps ≤ 4)
-count_of_images apps none =
-    let long : length (seen_apps apps) ≡ length apps = length-map apps seen_app in
-    let ends = count_kept (seen_apps apps) none in
-    (omega (arith, ends.0), omega (arith, ends.1))

@@ -1,7 +1,10 @@
+mod ControlItems
 mod FaultLemmas
 mod Keeping
 mod Mapped
 mod NameLemmas
 mod OpeningLemmas
+pub mod OwnNames
 mod PinLemmas
+pub mod Records
 mod SizeLemmas

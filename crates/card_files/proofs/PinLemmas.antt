@@ -1,6 +1,6 @@
 -- The PIN that a block of format 2 spells is the PIN that it is the block of.
 use Rattle.std.proofs.Common.{◌≡◌, ℕ, Bool, true, false, suc, ◌+◌, ◌-◌, ◌<◌, ◌≤◌, ◌&&◌, List, ◌∷◌, ◌++◌, length, take, drop, get_or, replicate, sym, refl, ◌∙◌, ap, arith, length-append, Option, Some, None, is_some}
-use Rattle.std.specs.Prelude.{IfSome, slice_index, nat_le}
+use Rattle.std.specs.Prelude.{IfSome, IsTrue, ◌↔◌, slice_index, nat_le}
 use Rattle.std.specs.List.{All, list_all}
 use Rattle.std.specs.Str.{bytes_eq}
 use Rattle.std.proofs.lemmas.Bool.{le-leb, leb-true, and_parts, and_from, true≢false}
@@ -68,14 +68,15 @@ passed pin bytes test =
       (bytes_eq-Decides (block_of 2 pin) bytes).0 rest.1,
     )
 
+-- the block of a PIN passes
+pub block_passes : (pin bytes : List ℕ) → IsPin pin → bytes ≡ block_of 2 pin → is_plain_block bytes ≡ true
+block_passes pin bytes is same = rw (spelled pin bytes is (sym same)) (passes pin bytes is (sym same))
+
 -- what reads a block exactly where it is one tells the test
 pub told : (bytes : List ℕ) (found : Option (List ℕ)) → IfSome found (λ pin. IsPin pin × (block_of 2 pin ≡ bytes))
     → ((pin : List ℕ) → IsPin pin → block_of 2 pin ≡ bytes → found ≡ Some pin) → is_some found ≡ is_plain_block bytes
 told bytes (Some pin) is reads =
-    let same : spelled_pin bytes ≡ pin = spelled pin bytes is.0 is.1 in
-    let test : (has_size 4 12 (spelled_pin bytes) && (list_all is_decimal (spelled_pin bytes) && bytes_eq (block_of 2 (spelled_pin bytes)) bytes)) ≡ true =
-    rw same (passes pin bytes is.0 is.1) in
-    sym test
+    sym (block_passes pin bytes is.0 (sym is.1))
 told bytes None is reads = none (is_plain_block bytes) refl
   where
     none : (test : Bool) → is_plain_block bytes ≡ test → false ≡ is_plain_block bytes
@@ -84,3 +85,11 @@ told bytes None is reads = none (is_plain_block bytes) refl
         let pin = passed (spelled_pin bytes) bytes e in
         let wrong : None ≡ Some (spelled_pin bytes) = reads (spelled_pin bytes) pin.0 pin.1 in
         absurd (true≢false (ap is_some (sym wrong)))
+
+-- and a PIN whose block it is, is there exactly then
+pub of_some_pin : (bytes : List ℕ) (found : Option (List ℕ)) (test : Bool) → test ≡ is_some found → IfSome found (λ pin. IsPin pin × (block_of 2 pin ≡ bytes))
+    → ((pin : List ℕ) → IsPin pin → block_of 2 pin ≡ bytes → found ≡ Some pin)
+    → IsTrue test ↔ ((pin : List ℕ) × IsPin pin × (block_of 2 pin ≡ bytes))
+of_some_pin bytes (Some pin) test same is reads = (λ _. (pin, is.0, is.1), λ _. same)
+of_some_pin bytes None test same is reads =
+    (λ true_too. absurd (true≢false (sym true_too ∙ same)), λ there. absurd (true≢false (ap is_some (sym (reads there.0 there.1 there.2)))))

@@ -1,8 +1,9 @@
 -- The rules of an application's other keys.
-use Rattle.std.specs.Prelude.{ℕ, Bool, false, not, nat_le, ◌==◌, ◌&&◌, ◌||◌, List, [], ◌∷◌, length, take, drop, replicate, slice_index}
+use Rattle.std.specs.Prelude.{ℕ, Bool, false, not, nat_le, ◌==◌, ◌&&◌, ◌||◌, List, [], ◌∷◌, length, take, drop, replicate, slice_index, Option, Some, None}
 use Rattle.std.specs.List.{list_all, list_any}
 use Rattle.std.specs.Str.{bytes_eq}
 use Rattle.card_state.specs.declared.state.AppState.{AppState}
+use Rattle.emv_dict.specs.Digits.{is_pin_length}
 use Rattle.emv_dict.specs.Nibbles.{nibbles, is_decimal}
 use Rattle.emv_dict.specs.Settings.{most_amount}
 use Rattle.pin_block.specs.Block.{block_of}
@@ -51,9 +52,13 @@ has_twins (r ∷ rs) = list_any (is_pair r) rs || has_twins rs
 abbrev pub most_records : ℕ
 most_records = 64
 
--- not too many, each in its limits, and no pair twice
+-- each in its limits, and no pair twice
+abbrev pub are_apart : List RecordData → Bool
+are_apart rs = list_all is_record rs && not (has_twins rs)
+
+-- and not too many
 abbrev pub are_records : List RecordData → Bool
-are_records rs = nat_le (length rs) most_records && (list_all is_record rs && not (has_twins rs))
+are_records rs = nat_le (length rs) most_records && are_apart rs
 
 -- the PIN that a block of format 2 spells: the second digit is its size, and its digits stand behind
 abbrev pub spelled_pin : List ℕ → List ℕ
@@ -62,11 +67,16 @@ spelled_pin bytes = take (slice_index (nibbles bytes) 1) (drop 2 (nibbles bytes)
 -- eight bytes are the block of format 2 of a PIN of 4 to 12 digits
 abbrev pub is_plain_block : List ℕ → Bool
 is_plain_block bytes =
-    has_size 4 12 (spelled_pin bytes) && (list_all is_decimal (spelled_pin bytes) && bytes_eq (block_of 2 (spelled_pin bytes)) bytes)
+    is_pin_length (length (spelled_pin bytes)) && (list_all is_decimal (spelled_pin bytes) && bytes_eq (block_of 2 (spelled_pin bytes)) bytes)
 
 -- the block of a PIN, or eight zero bytes where there is none
 abbrev pub is_reference_pin : List ℕ → Bool
 is_reference_pin bytes = bytes_eq bytes (replicate 8 0) || is_plain_block bytes
+
+-- the block of a PIN, or zeros for none
+abbrev pub reference_pin : Option (List ℕ) → List ℕ
+reference_pin None = replicate 8 0
+reference_pin (Some pin) = block_of 2 pin
 
 -- at most 12 decimal digits
 abbrev pub is_sum_limit : ℕ → Bool

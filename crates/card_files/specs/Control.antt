@@ -1,6 +1,9 @@
 -- The file control information of an application (EMV 4.3 Book 1 section 11.3.4).
-use Rattle.std.specs.Prelude.{ℕ, List, [], ◌∷◌, ◌++◌, Option, Some, None}
+use Rattle.std.specs.Prelude.{◌≡◌, ℕ, List, [], ◌∷◌, ◌++◌, map, Option, Some, None, Result, Ok, Err}
+use Rattle.ber_tlv.specs.Item.{ItemData}
+use Rattle.ber_tlv.specs.Left.{items_of}
 use Rattle.ber_tlv.specs.Written.{written}
+use Rattle.ber_tlv.specs.declared.item.TlvFault.{TlvFault}
 use Rattle.card_files.specs.Views.{AppData}
 
 -- an object that may be absent
@@ -19,3 +22,24 @@ proprietary app = written 0x50 app.label ++ written_some 0x87 (one_byte app.prio
 -- the name, and the proprietary template
 unfoldable pub fci_bytes : AppData → List ℕ
 fci_bytes app = written 0x6F (written 0x84 app.name ++ written 0xA5 (proprietary app))
+
+-- what a reader finds: tags and values in their order
+abbrev pub Objects : Type 0
+Objects = List (ℕ × List ℕ)
+
+-- the bytes are these data objects
+abbrev pub Reads : List ℕ → Objects → Type 0
+Reads bytes objects = (items : List ItemData) × (items_of bytes ≡ Ok items) × (map (λ i. (i.tag, i.value)) items ≡ objects)
+
+abbrev pub object_if : ℕ → Option (List ℕ) → Objects
+object_if tag None = []
+object_if tag (Some value) = (tag, value) ∷ []
+
+-- the information in other words: a template of the name and of the proprietary template, and in that one
+-- the label, and the priority indicator and the processing options object list where they are there
+pub record IsFci (app : AppData) (bytes : List ℕ) : Type 0 where
+  pub template : List ℕ
+  pub own : List ℕ
+  pub whole : Reads bytes ((0x6F, template) ∷ [])
+  pub parts : Reads template ((0x84, app.name) ∷ (0xA5, own) ∷ [])
+  pub objects : Reads own ((0x50, app.label) ∷ object_if 0x87 (one_byte app.priority) ++ object_if 0x9F38 app.pdol)

@@ -1,5 +1,5 @@
 -- The files of a card's applications and their opening states.
-use Rattle.std.specs.Prelude.{ℕ, Bool, false, ◌==◌, ◌&&◌, if◌then◌else◌, List, [], ◌∷◌, map, slice_get, Option, Some, None, option_and_then}
+use Rattle.std.specs.Prelude.{ℕ, Bool, false, ◌==◌, ◌&&◌, if◌then◌else◌, List, [], ◌∷◌, map, slice_get, Option, Some, None, option_and_then, Contains, IsSomeAnd}
 use Rattle.std.specs.List.{list_any}
 use Rattle.card_state.specs.declared.state.CardState.{CardState}
 use Rattle.card_files.specs.Views.{RecordData, AppData}
@@ -16,6 +16,10 @@ has_record_of sfi rs = list_any (λ r. r.sfi == sfi) rs
 -- a record of an application: none where there is no such application, file or number
 abbrev pub record_of : List AppData → ℕ → ℕ → ℕ → Option (List ℕ)
 record_of apps app sfi number = option_and_then (λ a. record_in sfi number a.records) (slice_get apps app)
+
+-- the same in other words: an application has this record
+abbrev pub HasRecord : List AppData → ℕ → ℕ → ℕ → List ℕ → Type 0
+HasRecord apps app sfi number bytes = IsSomeAnd (slice_get apps app) (λ a. Contains a.records (record { sfi = sfi; number = number; bytes = bytes }))
 
 abbrev pub file_in : ℕ → Option AppData → Bool
 file_in sfi (Some a) = has_record_of sfi a.records

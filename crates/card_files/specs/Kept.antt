@@ -1,12 +1,14 @@
--- What holds of each application of an image: every key keeps to its rule.
-use Rattle.std.specs.Prelude.{IsTrue, length}
-use Rattle.emv_dict.specs.Date.{has_digits}
+-- What holds of an image as a whole, and of each of its applications.
+use Rattle.std.specs.Prelude.{◌≢◌, ◌≤◌, List, IsTrue, length}
+use Rattle.std.specs.List.{All, AllPairs}
+use Rattle.emv_dict.specs.Bcd.{has_digits}
 use Rattle.emv_dict.specs.Pan.{is_pan_length}
 use Rattle.emv_dict.specs.Settings.{is_code}
 use Rattle.card_files.specs.AppRules.{is_name, is_label, is_afl, is_format, are_records, is_sum_limit, is_reference_pin, is_tries, is_opening}
 use Rattle.card_files.specs.Lists.{is_optional_pdol, is_cdol1, is_cdol2}
 use Rattle.card_files.specs.Views.{AppData}
 
+-- every key of an application keeps to its rule
 pub record KeepsRules (app : AppData) : Type 0 where
   pub name : IsTrue (is_name app.name)
   pub label : IsTrue (is_label app.label)
@@ -24,3 +26,10 @@ pub record KeepsRules (app : AppData) : Type 0 where
   pub pin : IsTrue (is_reference_pin app.opening.pin)
   pub tries : IsTrue (is_tries app.tries)
   pub opening : IsTrue (is_opening app.tries app.opening)
+
+-- 1 to 4 applications, each in its rules and with a name of its own
+pub record IsImage (apps : List AppData) : Type 0 where
+  pub some : 1 ≤ length apps
+  pub few : length apps ≤ 4
+  pub rules : All KeepsRules apps
+  pub names : AllPairs (λ a b. a.name ≢ b.name) apps

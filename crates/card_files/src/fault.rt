@@ -10,10 +10,11 @@ ghost use Rattle.card_files.specs.SeenFault.{seen_fault};
 use crate::app::AppImage;
 use crate::lists::{is_cdol1, is_cdol2, is_optional_pdol};
 use crate::rules::{
-    are_records, is_afl, is_currency, is_format, is_label, is_name, is_opening, is_pan,
-    is_reference_pin, is_sequence, is_sum_limit, is_tries,
+    are_records, is_afl, is_format, is_label, is_name, is_opening, is_reference_pin, is_sum_limit,
+    is_tries,
 };
 use arrayvec::ArrayVec;
+use emv_dict::{has_digits, is_code, is_pan_length};
 
 /// Why applications are no card's.
 #[derive(Drop, PartialEq, Eq, Debug)]
@@ -70,13 +71,13 @@ fn first_state_key(app: &AppImage) -> Option<&'static str>
     ensures key { option_copied result ≡ first_broken (state_lines (seen_app app.now)) }
     ensures short { IfSome result (λ key. length key.now ≤ 16) }
 {
-    if !is_pan(&app.pan) {
+    if !is_pan_length(app.pan.len()) {
         return Some("pan");
     }
-    if !is_sequence(app.sequence) {
+    if !has_digits(app.sequence) {
         return Some("sequence");
     }
-    if !is_currency(app.currency) {
+    if !is_code(app.currency) {
         return Some("currency");
     }
     if !is_sum_limit(app.opening.sum_limit) {
@@ -111,11 +112,10 @@ fn key_bytes(key: &str) -> ArrayVec<u8, 16>
     requires { length key.now ≤ 16 }
     ensures { result.items ≡ key.now }
 {
-    let mut bytes = ArrayVec::new();
-    if bytes.try_extend_from_slice(key.as_bytes()).is_err() {
-        unreachable!();
+    match ArrayVec::try_from(key.as_bytes()) {
+        Ok(bytes) => bytes,
+        Err(_) => unreachable!(),
     }
-    bytes
 }
 
 /// The application's first key that is against its rule, as a fault of the application of this number.

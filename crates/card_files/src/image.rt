@@ -1,10 +1,11 @@
-ghost use Rattle.std.specs.Prelude.{◌≡◌, ◌<◌, ◌≤◌, ◌↔◌, length, slice_get, IfSome, None, MatchResult, Some, option_map, option_copied};
+ghost use Rattle.std.specs.Prelude.{◌≡◌, [], List, ℕ, IsTrue, ◌<◌, ◌≤◌, ◌↔◌, length, slice_get, IfOk, IsOk, IfSome, None, MatchResult, Some, option_map, option_copied};
 ghost use Rattle.std.specs.List.{All};
-ghost use Rattle.card_files.specs.Control.{fci_bytes};
+ghost use Rattle.card_state.specs.Totals.{totals};
+ghost use Rattle.card_files.specs.Control.{fci_bytes, IsFci};
 ghost use Rattle.card_files.specs.Faults.{image_fault};
 ghost use Rattle.card_files.specs.Files as spec;
-ghost use Rattle.card_files.specs.Files.{record_of, opening_of};
-ghost use Rattle.card_files.specs.Kept.{KeepsRules};
+ghost use Rattle.card_files.specs.Files.{record_of, HasRecord, opening_of};
+ghost use Rattle.card_files.specs.Kept.{KeepsRules, IsImage};
 ghost use Rattle.card_files.specs.SeenApp.{seen_app, seen_apps};
 ghost use Rattle.card_files.specs.SeenFault.{seen_fault};
 
@@ -29,7 +30,7 @@ impl Model for Image {
 
     ghost Value = { List AppData };
 
-    ghost use Rattle.std.specs.Prelude.{◌≡◌, None};
+    ghost use Rattle.std.specs.Prelude.{◌≡◌, [], None};
     ghost use Rattle.card_files.specs.Faults.{image_fault};
     ghost use Rattle.card_files.specs.SeenApp.{seen_apps};
 
@@ -48,6 +49,8 @@ impl Image {
         ensures exact { MatchResult result
             (λ image. (image ≡ seen_apps apps.items) × (image_fault (seen_apps apps.items) ≡ None))
             (λ fault. image_fault (seen_apps apps.items) ≡ Some (seen_fault fault)) }
+        ensures image { IfOk result IsImage }
+        ensures all { IsImage (seen_apps apps.items) → IsOk result }
     {
         match first_fault(&apps) {
             Some(fault) => Err(fault),
@@ -59,6 +62,7 @@ impl Image {
     pub fn apps(&self) -> &[AppImage]
         ensures apps { seen_apps result.now ≡ self.now }
         ensures faultless { image_fault self.now ≡ None }
+        ensures image { IsImage self.now }
         ensures count { length result.now ≡ length self.now }
         ensures some { 1 ≤ length result.now }
         ensures few { length result.now ≤ 4 }
@@ -80,6 +84,9 @@ impl Image {
     #[tactic(auto, unfolding(crate::specs::SeenApp::seen_app))]
     pub fn record(&self, app: u8, sfi: u8, number: u8) -> Option<&[u8]>
         ensures exact { option_map (λ bytes. bytes.now) result ≡ record_of self.now app sfi number }
+        ensures held { IfSome result (λ bytes. HasRecord self.now app sfi number bytes.now) }
+        ensures only { (bytes : List ℕ) → HasRecord self.now app sfi number bytes
+            → option_map (λ found. found.now) result ≡ Some bytes }
         ensures size { IfSome result (λ bytes. (1 ≤ length bytes.now) × (length bytes.now ≤ 256)) }
     {
         match self.find(app) {
@@ -91,7 +98,9 @@ impl Image {
     /// Whether an application has a file of this identifier.
     #[tactic(auto, unfolding(crate::specs::SeenApp::seen_app))]
     pub fn has_file(&self, app: u8, sfi: u8) -> bool
-        ensures { result ≡ spec.has_file self.now app sfi }
+        ensures value { result ≡ spec.has_file self.now app sfi }
+        ensures some { IsTrue result
+            ↔ ((number : ℕ) × (bytes : List ℕ) × HasRecord self.now app sfi number bytes) }
     {
         match self.find(app) {
             Some(image) => is_file(&image.records, sfi),
@@ -103,14 +112,16 @@ impl Image {
     /// 11.3.4).
     pub fn fci(&self, app: u8, out: &mut ArrayVec<u8, 256>)
         requires { app < length self.now }
-        ensures { IfSome (slice_get self.now app) (λ image. out.new.items ≡ fci_bytes image) }
+        ensures bytes { IfSome (slice_get self.now app) (λ image. out.new.items ≡ fci_bytes image) }
+        ensures read { IfSome (slice_get self.now app) (λ image. IsFci image out.new.items) }
     {
         write_fci(&self.apps()[usize::from(app)], out);
     }
 
     /// Replaces `out` by the state of the card before its first decision.
     pub fn opening(&self, out: &mut CardState)
-        ensures { out.new ≡ opening_of self.now }
+        ensures value { out.new ≡ opening_of self.now }
+        ensures totals { totals out.new [] ≡ out.new }
     {
         out.blocked = false;
         out.apps.clear();

@@ -1,16 +1,15 @@
 //! The rules of an application's keys.
-ghost use Rattle.std.specs.Prelude.{◌≡◌, ◌==◌, ◌&&◌, length};
+ghost use Rattle.std.specs.Prelude.{◌≡◌, ◌==◌, ◌&&◌, ◌≤◌, ◌↔◌, List, ℕ, length, IsTrue, IfSome};
 ghost use Rattle.std.specs.List.{list_all, list_any};
-ghost use Rattle.emv_dict.specs.Date as date;
-ghost use Rattle.emv_dict.specs.Pan as pan_spec;
-ghost use Rattle.emv_dict.specs.Settings as settings;
+ghost use Rattle.emv_dict.specs.Digits.{least_pin, most_pin};
+ghost use Rattle.pin_block.specs.Block.{IsPin, block_of};
 ghost use Rattle.card_files.specs.AppRules as spec;
 ghost use Rattle.card_files.specs.Seen.{seen_record, seen_records};
 
 use crate::app::RecordImage;
 use card_state::AppState;
-use emv_dict::Digits;
-use pin_block::read_plain;
+use emv_dict::{Digits, MOST_AMOUNT};
+use pin_block::{plain_block, read_plain};
 
 /// The most bytes of an image's application file locator: 62 entries of four bytes.
 pub const MOST_AFL: usize = 248;
@@ -114,32 +113,11 @@ pub fn are_records(images: &[RecordImage]) -> bool
     images.len() <= MOST_RECORDS && (each_record(images) && !has_twins(images))
 }
 
-/// Whether there are 13 to 16 digits, as an account number of this profile has.
-pub fn is_pan(digits: &Digits) -> bool
-    ensures { result ≡ pan_spec.is_pan_length (length digits.now) }
-{
-    13 <= digits.len() && digits.len() <= 16
-}
-
-/// Whether the byte has two decimal digits, as an account number's sequence number.
-pub fn is_sequence(byte: u8) -> bool
-    ensures { result ≡ date.has_digits byte }
-{
-    byte / 16 <= 9 && byte % 16 <= 9
-}
-
-/// Whether the two bytes are a currency's code: a zero and three decimal digits.
-pub fn is_currency(bytes: [u8; 2]) -> bool
-    ensures { result ≡ settings.is_code bytes }
-{
-    bytes[0] <= 9 && is_sequence(bytes[1])
-}
-
 /// Whether the sum has at most 12 decimal digits.
 pub fn is_sum_limit(sum: u64) -> bool
     ensures { result ≡ spec.is_sum_limit sum }
 {
-    sum <= 999_999_999_999
+    sum <= MOST_AMOUNT
 }
 
 /// Whether the bytes are a reference PIN: a plain block of format 2, or eight zero bytes for none.
@@ -149,9 +127,22 @@ pub fn is_reference_pin(block: [u8; 8]) -> bool
     block == [0; 8] || is_plain_block(block)
 }
 
+/// The reference PIN of an image: the plain block of format 2 of a PIN, or eight zero bytes for none.
+pub fn reference_pin(pin: &Option<Digits>) -> [u8; 8]
+    requires { IfSome pin.now (λ digits. (least_pin ≤ length digits) × (length digits ≤ most_pin)) }
+    ensures value { result ≡ spec.reference_pin pin.now }
+    ensures rule { IsTrue (spec.is_reference_pin result) }
+{
+    match pin {
+        Some(pin) => plain_block(pin),
+        None => [0; 8],
+    }
+}
+
 /// Whether the bytes are a plain PIN block of format 2 with 4 to 12 digits.
 pub fn is_plain_block(block: [u8; 8]) -> bool
-    ensures { result ≡ spec.is_plain_block block }
+    ensures value { result ≡ spec.is_plain_block block }
+    ensures pin { IsTrue result ↔ ((pin : List ℕ) × IsPin pin × (block_of 2 pin ≡ block)) }
 {
     read_plain(block).is_some()
 }

@@ -1,8 +1,8 @@
 use super::*;
 use crate::lists::{is_cdol1, is_cdol2, is_pdol};
 use crate::rules::{
-    are_records, is_afl, is_among, is_currency, is_format, is_label, is_name, is_pan,
-    is_reference_pin, is_sequence, is_sum_limit, is_tries,
+    are_records, is_afl, is_among, is_format, is_label, is_name, is_reference_pin, is_sum_limit,
+    is_tries,
 };
 use arrayvec::ArrayVec;
 use card_state::{AppState, CardState};
@@ -366,19 +366,6 @@ fn keeps_to_the_limits_of_numbers(rt: HostRuntime) {
             "at {number}"
         );
     }
-    for (count, is) in [(12, false), (13, true), (16, true), (17, false)] {
-        assert!(rt;
-            is_pan(&digits_of(&rt, &[9; 19][..count])) == is,
-            "at {count}"
-        );
-    }
-    for (byte, is) in [(0x00, true), (0x99, true), (0x9a, false), (0xa0, false)] {
-        assert!(rt;
-            is_sequence(byte) == is && is_currency([0x09, byte]) == is,
-            "at {byte}"
-        );
-    }
-    assert!(rt; !is_currency([0x10, 0x00]));
     assert!(rt; is_sum_limit(999_999_999_999) && !is_sum_limit(1_000_000_000_000));
 }
 

@@ -2,6 +2,7 @@
 use Rattle.std.proofs.Common.{◌≡◌, ℕ, zero, suc, ◌+◌, ◌-◌, ◌*◌, ◌<◌, List, [], ◌∷◌, ◌++◌, length, get_or, set, take, replicate, refl, ap, sym, ◌∙◌, arith}
 use Rattle.std.proofs.lemmas.List.{take_more, take_more_set, length-append, length-drop, length-replicate}
 use Rattle.card_keys.specs.Master.{numbered, rightmost_sixteen, diversifier_of}
+use Rattle.emv_dict.proofs.HexDigits.{length-packed}
 use Rattle.emv_dict.specs.Nibbles.{packed}
 
 get_or-packed : (digits : List ℕ) (i : ℕ) → 2 * i + 1 < length digits → get_or (packed digits) i 0 ≡ get_or digits (2 * i) 0 * 16 + get_or digits (2 * i + 1) 0
@@ -15,13 +16,6 @@ get_or-packed (high ∷ low ∷ rest) (suc i) within =
     get_or-packed rest i (omega arith)
     ∙ ap (λ (k : ℕ). get_or (high ∷ low ∷ rest) k 0 * 16 + get_or rest (2 * i + 1) 0) first
     ∙ ap (λ (k : ℕ). get_or (high ∷ low ∷ rest) (2 * suc i) 0 * 16 + get_or (high ∷ low ∷ rest) k 0) second
-
-length-packed : (digits : List ℕ) (n : ℕ) → length digits ≡ 2 * n → length (packed digits) ≡ n
-unfolding packed
-length-packed [] n even = omega arith
-length-packed (high ∷ []) n even = absurd (omega arith)
-length-packed (high ∷ low ∷ rest) zero even = absurd (omega arith)
-length-packed (high ∷ low ∷ rest) (suc n) even = ap (λ (k : ℕ). suc k) (length-packed rest n (omega arith))
 
 pub length-rightmost_sixteen : (digits : List ℕ) → length (rightmost_sixteen digits) ≡ 16
 length-rightmost_sixteen digits =

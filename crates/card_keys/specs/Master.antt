@@ -17,7 +17,11 @@ rightmost_sixteen digits = drop (length digits) (replicate 16 0 ++ digits)
 unfoldable pub diversifier_of : List ℕ → ℕ → List ℕ
 diversifier_of pan sequence = packed (rightmost_sixteen (numbered pan sequence))
 
--- Y enciphered and its complement enciphered, each byte with odd parity
+-- Y enciphered, and its complement enciphered
+abbrev pub two_halves : List ℕ → List ℕ → ℕ → List ℕ
+two_halves issuer pan sequence =
+    tdes issuer (diversifier_of pan sequence) ++ tdes issuer (xor_bytes (diversifier_of pan sequence) (replicate 8 255))
+
+-- these bytes, each with odd parity
 unfoldable pub master_key_of : List ℕ → List ℕ → ℕ → List ℕ
-master_key_of issuer pan sequence =
-    map odd_parity (tdes issuer (diversifier_of pan sequence) ++ tdes issuer (xor_bytes (diversifier_of pan sequence) (replicate 8 255)))
+master_key_of issuer pan sequence = map odd_parity (two_halves issuer pan sequence)

@@ -1,7 +1,7 @@
-ghost use Rattle.std.specs.Prelude.{◌≡◌, ◌<◌, All, slice_index};
+ghost use Rattle.std.specs.Prelude.{◌≡◌, ◌<◌, ◌/◌, All, map, slice_index};
 ghost use Rattle.emv_dict.specs.Digits.{AllDecimal};
 ghost use Rattle.card_keys.specs.Parity.{HasOddParity};
-ghost use Rattle.card_keys.specs.Master.{numbered, rightmost_sixteen, diversifier_of, master_key_of};
+ghost use Rattle.card_keys.specs.Master.{numbered, rightmost_sixteen, diversifier_of, two_halves, master_key_of};
 
 use crate::joining::join;
 use crate::parity::adjust;
@@ -17,6 +17,7 @@ use triple_des::{Key16, xor_blocks};
 pub fn master_key(issuer: &Key16, pan: &Digits, sequence: u8) -> Key16
     ensures value { result ≡ master_key_of issuer.now pan.now sequence }
     ensures odd { All HasOddParity result }
+    ensures upper { map (λ b. b / 2) result ≡ map (λ b. b / 2) (two_halves issuer.now pan.now sequence) }
 {
     let block = diversifier(pan.as_slice(), sequence);
     let left = issuer.encipher(block);

@@ -1,10 +1,12 @@
 -- A block that went to the issuer, and its reading.
-use Rattle.std.proofs.Common.{◌≡◌, ℕ, List, length, Option, Some, None, IfSome, sym, ◌∙◌, ap, arith}
+use Rattle.std.proofs.Common.{◌≡◌, ℕ, ◌+◌, ◌-◌, List, [], ◌∷◌, ◌++◌, length, take, drop, replicate, Option, Some, None, IfSome, sym, ◌∙◌, ap, arith, append_assoc, length-append}
+use Rattle.std.proofs.lemmas.List.{take_at, drop_at}
+use Rattle.emv_dict.specs.Nibbles.{packed}
 use Rattle.triple_des.specs.Bits.{xor_bytes}
 use Rattle.triple_des.specs.TripleDes.{tdes, untdes}
 use Rattle.triple_des.proofs.Undone.{IsBlock}
 use Rattle.pin_block.specs.Block.{IsPin, block_of}
-use Rattle.pin_block.specs.Online.{account_field, online_of}
+use Rattle.pin_block.specs.Online.{account_digits, account_field, online_of}
 use Rattle.pin_block.proofs.Blocks.{xor_bytes-xor_bytes, added, pin_block}
 use Rattle.triple_des.proofs.Ciphered.{untdes-tdes}
 
@@ -36,3 +38,21 @@ online_read key bytes pan pin deciphered account sum is_deciphered is_account bl
 pub if_some_weaker : (P Q : List ℕ → Type 0) (found : Option (List ℕ)) → ((pin : List ℕ) → P pin → Q pin) → IfSome found P → IfSome found Q
 if_some_weaker P Q (Some pin) weaker holds = weaker pin holds
 if_some_weaker P Q None weaker holds = holds
+
+-- the account number field in other words
+twelve_digits : (pan front twelve : List ℕ) (check : ℕ) → length twelve ≡ 12 → pan ≡ front ++ twelve ++ check ∷ []
+    → account_digits pan ≡ 0 ∷ 0 ∷ 0 ∷ 0 ∷ twelve
+twelve_digits pan front twelve check dozen is =
+    let behind : List ℕ = twelve ++ check ∷ [] in
+    let whole : pan ≡ front ++ behind = is ∙ append_assoc front twelve (check ∷ []) in
+    let size : length (front ++ behind) ≡ length front + length behind = length-append front behind in
+    let tail : length behind ≡ length twelve + 1 = length-append twelve (check ∷ []) in
+    let long : length pan ≡ length (front ++ behind) = ap length whole in
+    let at : length front ≡ length pan - 13 = omega arith in
+    ap (λ (ds : List ℕ). replicate 4 0 ++ take 12 ds) (ap (λ (ds : List ℕ). drop (length pan - 13) ds) whole ∙ drop_at front behind (length pan - 13) at)
+    ∙ ap (λ (ds : List ℕ). replicate 4 0 ++ ds) (take_at twelve (check ∷ []) 12 dozen)
+
+pub field_covers : (pan front twelve : List ℕ) (check : ℕ) → length twelve ≡ 12 → pan ≡ front ++ twelve ++ check ∷ []
+    → account_field pan ≡ packed (0 ∷ 0 ∷ 0 ∷ 0 ∷ twelve)
+unfolding account_field
+field_covers pan front twelve check dozen is = ap packed (twelve_digits pan front twelve check dozen is)

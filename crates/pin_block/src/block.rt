@@ -4,7 +4,7 @@ ghost use Rattle.emv_dict.specs.Digits.{AllDecimal, least_pin, most_pin};
 ghost use Rattle.emv_dict.specs.Nibbles.{nibbles, packed};
 ghost use Rattle.pin_block.specs.Block.{IsPin, block_digits, block_of};
 
-use emv_dict::{Digits, nibble_at};
+use emv_dict::{Digits, is_pin_length, nibble_at};
 
 /// The block of a PIN in the format of this number.
 #[tactic(auto, unfolding(crate::specs::Block::block_of))]
@@ -59,13 +59,6 @@ pub(crate) fn read_block(format: u8, bytes: [u8; 8]) -> Option<Digits>
         Some(pin) => of_block(format, pin, bytes),
         None => None,
     }
-}
-
-/// Whether a PIN has so many digits.
-fn is_pin_length(count: usize) -> bool
-    ensures { IsTrue result ↔ ((least_pin ≤ count) × (count ≤ most_pin)) }
-{
-    4 <= count && count <= 12
 }
 
 /// The PIN, where the bytes are its block in the format of this number.

@@ -1,7 +1,10 @@
-ghost use Rattle.std.specs.Prelude.{◌≡◌, ◌<◌, ◌≤◌, List, ℕ, length, IfSome, Some};
+ghost use Rattle.std.specs.Prelude.{◌≡◌, ◌<◌, ◌≤◌, List, ℕ, [], ◌∷◌, ◌++◌, length, IfSome, Some};
 ghost use Rattle.std.specs.List.{All};
 ghost use Rattle.emv_dict.specs.Digits.{AllDecimal, least_pin, most_pin};
-ghost use Rattle.pin_block.specs.Block.{IsPin};
+ghost use Rattle.emv_dict.specs.Nibbles.{packed};
+ghost use Rattle.triple_des.specs.Bits.{xor_bytes};
+ghost use Rattle.triple_des.specs.TripleDes.{tdes};
+ghost use Rattle.pin_block.specs.Block.{IsPin, block_of};
 ghost use Rattle.pin_block.specs.Online.{account_digits, account_field, online_of};
 
 use crate::block::{block, pack, read_block};
@@ -16,6 +19,10 @@ pub fn online_block(key: &Key16, pin: &Digits, pan: &Digits) -> [u8; 8]
     requires most { length pin.now ≤ most_pin }
     requires pan { 13 ≤ length pan.now }
     ensures value { result ≡ online_of key.now pin.now pan.now }
+    // Of the account number it covers the twelve digits before the last one, the check digit.
+    ensures account { (front twelve : List ℕ) (check : ℕ) → length twelve ≡ 12
+        → pan.now ≡ front ++ twelve ++ check ∷ []
+        → result ≡ tdes key.now (xor_bytes (block_of 0 pin.now) (packed (0 ∷ 0 ∷ 0 ∷ 0 ∷ twelve))) }
     ensures pin { IsPin pin.now }
 {
     key.encipher(xor_blocks(block(0, pin), account_block(pan)))

@@ -1,3 +1,4 @@
 pub mod CardNames
+pub mod CardParts
 pub mod Loops
 pub mod Pans

@@ -1,18 +1,17 @@
 -- The tables of a card, of its applications and of their records.
-use Rattle.std.specs.Prelude.{ℕ, ◌+◌, ◌*◌, ◌/◌, ◌%◌, List, [], ◌∷◌, ◌++◌, length, map, replicate, codes, Bool, true, false, not, nat_le, is_none, Option, Some, None, Result, Ok, Err, if◌then◌else◌}
+use Rattle.std.specs.Prelude.{ℕ, ◌+◌, List, [], ◌∷◌, ◌++◌, map, codes, Bool, false, not, nat_le, Option, Some, None, Result, Ok, Err, if◌then◌else◌}
 use Rattle.std.specs.List.{list_any}
 use Rattle.std.specs.Str.{bytes_eq}
-use Rattle.card_files.specs.AppRules.{is_pair, most_afl, most_records}
-use Rattle.card_files.specs.Faults.{image_fault}
+use Rattle.card_files.specs.AppRules.{is_pair, most_afl, most_records, reference_pin}
 use Rattle.card_files.specs.Lists.{has_all, cdol1_entries, cdol2_entries, most_data, most_pdol, most_cdol}
 use Rattle.card_files.specs.Views.{RecordData, AppData}
 use Rattle.card_state.specs.declared.state.AppState.{AppState}
 use Rattle.card_keys.specs.Master.{master_key_of}
+use Rattle.emv_dict.specs.Bcd.{two_digits}
 use Rattle.emv_dict.specs.Settings.{most_amount}
 use Rattle.issuer_host.specs.declared.keys.HostKeys.{HostKeys}
 use Rattle.object_lists.specs.DolEntries.{DolEntry, dol_of, total_of}
 use Rattle.object_lists.specs.declared.dol.DolFault.{DolFault}
-use Rattle.pin_block.specs.Block.{block_of}
 use Rattle.toml.specs.Data.{Data, Items, no_items, item, Members}
 use Rattle.scenario_fields.specs.Fault.{◌>>=◌, keep_if}
 use Rattle.scenario_fields.specs.Fields.{number_at, number_or, optional_number, listed_or, flag_or, text_at, digits_at, optional_digits, code_at, bytes_at, optional_bytes, array_at, only}
@@ -143,10 +142,6 @@ files_of i j earlier ms = do
     records = records;
   })
 
--- two decimal digits in one byte
-abbrev pub two_digits : ℕ → ℕ
-two_digits n = n / 10 * 16 + n % 10
-
 -- the sequence number as the byte of its two digits
 unfoldable pub sequence_at : (List ℕ → List ℕ) → Members → Result ℕ ScenarioFault
 sequence_at path ms = do
@@ -167,11 +162,6 @@ counters_of i j ms = do
   count_limit ← number_at (in_app i j) (codes "count_limit") 0 255 ms
   sum_limit ← number_at (in_app i j) (codes "sum_limit") 0 most_amount ms
   Ok (record { counter = counter; last_online = last_online; count_limit = count_limit; sum_limit = sum_limit })
-
--- the plain block of a PIN, or zeros for none
-abbrev pub reference_pin : Option (List ℕ) → List ℕ
-reference_pin None = replicate 8 0
-reference_pin (Some pin) = block_of 2 pin
 
 unfoldable pub access_of : ℕ → ℕ → Members → Result AccessData ScenarioFault
 access_of i j ms = do
@@ -273,14 +263,13 @@ new_card_name i earlier ms = do
 unfoldable pub card_keys : List (List ℕ)
 card_keys = codes "name" ∷ codes "app" ∷ []
 
--- a card behind these; the rules of an image are tried once more behind its keys
+-- a card behind these
 unfoldable pub card_of : ℕ → HostKeys → List CardData → Members → Result CardData ScenarioFault
 card_of i keys earlier ms = do
   name ← new_card_name i earlier ms
   apps ← apps_at i keys ms
   _ ← only (in_card i) card_keys ms
-  image ← keep_if (is_none (image_fault apps)) (BadValue (in_card i (codes "app"))) apps
-  Ok (record { name = name; image = image })
+  Ok (record { name = name; image = apps })
 
 unfoldable pub card_item : ℕ → HostKeys → List CardData → Data → Result CardData ScenarioFault
 card_item i keys earlier d = table_of (item_path (codes "card") i []) d >>= card_of i keys earlier

@@ -1,5 +1,6 @@
 pub mod Accounts
 pub mod Cards
+pub mod CardRules
 pub mod SeenCards
 pub mod Data
 pub mod Issuer

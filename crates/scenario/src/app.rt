@@ -1,28 +1,30 @@
 //! The table of an application of a card.
-ghost use Rattle.std.specs.Prelude.{◌≡◌, ◌≤◌, ◌*◌, ◌+◌, ◌/◌, ◌%◌, ◌∷◌, [], length, codes, option_map, IfSome};
+ghost use Rattle.std.specs.Prelude.{◌≡◌, ◌≤◌, ℕ, ◌∷◌, [], length, codes, false, option_map, IsTrue, IfOk, OnOk};
 ghost use Rattle.std.specs.List.{list_any};
 ghost use Rattle.std.specs.Str.{bytes_eq};
-ghost use Rattle.card_files.specs.Lists.{has_all};
+ghost use Rattle.emv_dict.specs.Bcd.{has_digits};
+ghost use Rattle.card_files.specs.AppRules.{is_name, is_label, is_format};
+ghost use Rattle.card_files.specs.Lists.{has_all, holds_all, entries_within, is_optional_pdol, most_cdol};
 ghost use Rattle.card_files.specs.SeenApp.{seen_app, seen_apps};
 ghost use Rattle.toml.specs.View.{view, table_view};
 ghost use Rattle.scenario_fields.specs.Fault.{Gives};
-ghost use Rattle.scenario_fields.specs.Fields.{only, listed_or, number_or, optional_number};
+ghost use Rattle.scenario_fields.specs.Fields.{only, text_at, listed_or, number_or, optional_number};
 ghost use Rattle.scenario_fields.specs.Place.{path, spot_path};
 ghost use Rattle.scenario.specs.Cards as spec;
-ghost use Rattle.scenario.specs.Cards.{list_of, pdol_at as pdol_found, cdol_at as cdol_found, app_keys, app_of, app_item as item_of, files_of, sequence_at as sequence_found, holder_of, counters_of, access_of, app_with, opening_of, reference_pin, own_or};
+ghost use Rattle.scenario.specs.Cards.{list_of, pdol_at as pdol_found, cdol_at as cdol_found, app_keys, app_of, app_item as item_of, files_of, sequence_at as sequence_found, holder_of, counters_of, access_of, app_with, opening_of, own_or};
+ghost use Rattle.scenario.specs.CardRules.{KeepsFiles, KeepsHolder, KeepsCounters, KeepsAccess, IsNewApp};
+ghost use Rattle.scenario_fields.specs.declared.spot.Characters.TheVariants.{Printable};
 ghost use Rattle.scenario.specs.SeenCards.{seen_files, seen_holder, seen_counters, seen_access, wanted_by};
 
-use crate::purchase::MOST_AMOUNT;
 use crate::record::records_at;
 use card_files::lists::{MOST_CDOL, MOST_DATA, MOST_PDOL, has_cdol1_entries, has_cdol2_entries};
-use card_files::rules::MOST_AFL;
+use card_files::rules::{MOST_AFL, reference_pin};
 use card_files::{AppImage, RecordImage};
 use card_keys::master_key;
 use card_state::AppState;
-use emv_dict::{Digits, Name};
+use emv_dict::{Digits, MOST_AMOUNT, Name, two_digits};
 use issuer_host::HostKeys;
 use object_lists::{Dol, read_dol, total};
-use pin_block::plain_block;
 use scenario_fields::{Characters, Fields, Place, ScenarioFault, Spot};
 use std::alloc::Global;
 use toml::{Table, Value};
@@ -51,10 +53,12 @@ fn holds(holding: Holding, dol: &Dol) -> bool
 }
 
 /// Tries an object list: it can be read, it wants at most 252 bytes of data, and it holds what it must.
-#[tactic(auto, unfolding(crate::specs::Cards::list_of))]
+#[tactic(auto, unfolding(crate::specs::Cards::list_of, card_files::specs::Lists::entries_within))]
 fn try_list(spot: &Spot, holding: Holding, bytes: &[u8]) -> Result<(), ScenarioFault>
     requires { length bytes.now ≤ 255 }
-    ensures { Gives (λ _. bytes.now) result (list_of (spot_path spot.now.place spot.now.key.now spot.now.index) (wanted_by holding) bytes.now) }
+    ensures exact { Gives (λ _. bytes.now) result (list_of (spot_path spot.now.place spot.now.key.now spot.now.index) (wanted_by holding) bytes.now) }
+    ensures held { (most : ℕ) → length bytes.now ≤ most
+        → OnOk result (IsTrue (holds_all (wanted_by holding) (entries_within most bytes.now))) }
 {
     let Ok(dol) = read_dol(bytes) else {
         return Err(spot.bad());
@@ -76,7 +80,8 @@ fn pdol_at(
     index: usize,
     table: &Table,
 ) -> Result<Option<Vec<u8>>, ScenarioFault>
-    ensures { Gives (λ o. option_map (λ v. v.items) o) result (pdol_found card index (table_view table.now)) }
+    ensures exact { Gives (λ o. option_map (λ v. v.items) o) result (pdol_found card index (table_view table.now)) }
+    ensures rule { IfOk result (λ o. IsTrue (is_optional_pdol (option_map (λ v. v.items) o))) }
 {
     let fields = Fields {
         alloc,
@@ -102,7 +107,8 @@ fn cdol_at(
     holding: Holding,
     table: &Table,
 ) -> Result<Vec<u8>, ScenarioFault>
-    ensures { Gives (λ v. v.items) result (cdol_found key.now (wanted_by holding) card index (table_view table.now)) }
+    ensures exact { Gives (λ v. v.items) result (cdol_found key.now (wanted_by holding) card index (table_view table.now)) }
+    ensures held { IfOk result (λ v. IsTrue (holds_all (wanted_by holding) (entries_within most_cdol v.items))) }
 {
     let fields = Fields {
         alloc,
@@ -136,7 +142,9 @@ fn new_name(
     earlier: &[AppImage],
     table: &Table,
 ) -> Result<Name, ScenarioFault>
-    ensures { Gives (λ name. name) result (spec.new_name card index (seen_apps earlier.now) (table_view table.now)) }
+    ensures exact { Gives (λ name. name) result (spec.new_name card index (seen_apps earlier.now) (table_view table.now)) }
+    ensures rule { IfOk result (λ name. IsTrue (is_name name)) }
+    ensures first { IfOk result (λ name. spec.has_name name (seen_apps earlier.now) ≡ false) }
 {
     let fields = Fields {
         alloc,
@@ -150,10 +158,20 @@ fn new_name(
     Ok(name)
 }
 
+/// The application label.
+fn label_at(fields: &Fields) -> Result<Vec<u8>, ScenarioFault>
+    ensures exact { Gives (λ v. v.items) result (text_at (path fields.now.place) (codes "label") Printable 1 16 (table_view fields.now.table.now)) }
+    ensures rule { IfOk result (λ v. IsTrue (is_label v.items)) }
+{
+    let text = fields.text("label", Characters::Printable, 1, 16)?;
+    Ok(Vec::from_slice(fields.alloc, text)?)
+}
+
 /// Format 1 or 2 of an answer; 1 where the key is absent.
 #[tactic(auto, unfolding(scenario_fields::specs::Value::is_listed))]
 fn format_at(fields: &Fields, key: &str) -> Result<u8, ScenarioFault>
-    ensures { Gives (λ n. n) result (listed_or 1 (path fields.now.place) key.now (1 ∷ 2 ∷ []) (table_view fields.now.table.now)) }
+    ensures rule { IfOk result (λ n. IsTrue (is_format n)) }
+    ensures exact { Gives (λ n. n) result (listed_or 1 (path fields.now.place) key.now (1 ∷ 2 ∷ []) (table_view fields.now.table.now)) }
 {
     Ok(fields.listed_or(1, key, &[1, 2])? as u8)
 }
@@ -193,7 +211,9 @@ fn read_files(
     earlier: &[AppImage],
     table: &Table,
 ) -> Result<Files, ScenarioFault>
-    ensures { Gives seen_files result (files_of card index (seen_apps earlier.now) (table_view table.now)) }
+    ensures exact { Gives seen_files result (files_of card index (seen_apps earlier.now) (table_view table.now)) }
+    ensures rules { IfOk result (λ files. KeepsFiles (seen_files files)) }
+    ensures first { IfOk result (λ files. spec.has_name files.name (seen_apps earlier.now) ≡ false) }
 {
     let fields = Fields {
         alloc,
@@ -201,7 +221,7 @@ fn read_files(
         table,
     };
     let name = new_name(alloc, card, index, earlier, table)?;
-    let label = fields.owned_text("label", Characters::Printable, 1, 16)?;
+    let label = label_at(&fields)?;
     let priority = priority_at(&fields)?;
     let pdol = pdol_at(alloc, card, index, table)?;
     let aip = fields.byte_array("aip")?;
@@ -252,24 +272,14 @@ pub struct Access {
     ac_key: Option<[u8; 16]>,
 }
 
-/// The plain block of a PIN, or zeros for none.
-fn reference_pin(pin: &Option<Digits>) -> [u8; 8]
-    requires { IfSome pin.now (λ ds. (4 ≤ length ds) × (length ds ≤ 12)) }
-    ensures { result ≡ reference_pin pin.now }
-{
-    match pin {
-        Some(pin) => plain_block(pin),
-        None => [0; 8],
-    }
-}
-
 /// The sequence number as the byte of its two digits; 00 where the key is absent.
 #[tactic(auto, unfolding(crate::specs::Cards::sequence_at))]
 fn sequence_at(fields: &Fields) -> Result<u8, ScenarioFault>
-    ensures { Gives (λ byte. byte) result (sequence_found (path fields.now.place) (table_view fields.now.table.now)) }
+    ensures digits { IfOk result (λ byte. IsTrue (has_digits byte)) }
+    ensures exact { Gives (λ byte. byte) result (sequence_found (path fields.now.place) (table_view fields.now.table.now)) }
 {
     let number = fields.number_or(0, "sequence", 0, 99)?;
-    Ok((number / 10 * 16 + number % 10) as u8)
+    Ok(two_digits(number as u8))
 }
 
 /// The keys from the PAN to the currency.
@@ -280,7 +290,8 @@ fn read_holder(
     index: usize,
     table: &Table,
 ) -> Result<Holder, ScenarioFault>
-    ensures { Gives seen_holder result (holder_of card index (table_view table.now)) }
+    ensures exact { Gives seen_holder result (holder_of card index (table_view table.now)) }
+    ensures rules { IfOk result (λ holder. KeepsHolder (seen_holder holder)) }
 {
     let fields = Fields {
         alloc,
@@ -312,7 +323,8 @@ fn read_counters(
     index: usize,
     table: &Table,
 ) -> Result<Counters, ScenarioFault>
-    ensures { Gives seen_counters result (counters_of card index (table_view table.now)) }
+    ensures exact { Gives seen_counters result (counters_of card index (table_view table.now)) }
+    ensures rule { IfOk result (λ counters. KeepsCounters (seen_counters counters)) }
 {
     let fields = Fields {
         alloc,
@@ -339,7 +351,8 @@ fn read_access(
     index: usize,
     table: &Table,
 ) -> Result<Access, ScenarioFault>
-    ensures { Gives seen_access result (access_of card index (table_view table.now)) }
+    ensures exact { Gives seen_access result (access_of card index (table_view table.now)) }
+    ensures rules { IfOk result (λ access. KeepsAccess (seen_access access)) }
 {
     let fields = Fields {
         alloc,
@@ -469,7 +482,8 @@ fn read_app(
     earlier: &[AppImage],
     table: &Table,
 ) -> Result<AppImage, ScenarioFault>
-    ensures { Gives seen_app result (app_of card index keys.now (seen_apps earlier.now) (table_view table.now)) }
+    ensures exact { Gives seen_app result (app_of card index keys.now (seen_apps earlier.now) (table_view table.now)) }
+    ensures new { IfOk result (λ app. IsNewApp (seen_apps earlier.now) (seen_app app)) }
 {
     let fields = Fields {
         alloc,
@@ -494,7 +508,8 @@ pub fn app_item(
     earlier: &[AppImage],
     value: &Value,
 ) -> Result<AppImage, ScenarioFault>
-    ensures { Gives seen_app result (item_of card index keys.now (seen_apps earlier.now) (view value.now)) }
+    ensures exact { Gives seen_app result (item_of card index keys.now (seen_apps earlier.now) (view value.now)) }
+    ensures new { IfOk result (λ app. IsNewApp (seen_apps earlier.now) (seen_app app)) }
 {
     let spot = Spot {
         alloc,

@@ -1,12 +1,14 @@
 //! The table of a card.
-ghost use Rattle.std.specs.Prelude.{◌≡◌, ◌≤◌, [], length, map, IfOk, vec_len};
-ghost use Rattle.std.specs.List.{list_any};
+ghost use Rattle.std.specs.Prelude.{◌≡◌, ◌≢◌, ◌≤◌, [], length, map, false, IfOk, vec_len};
+ghost use Rattle.std.specs.List.{All, AllPairs, list_any};
 ghost use Rattle.std.specs.Str.{bytes_eq};
+ghost use Rattle.card_files.specs.Kept.{KeepsRules, IsImage};
 ghost use Rattle.card_files.specs.SeenApp.{seen_apps};
 ghost use Rattle.toml.specs.View.{view, table_view, items_view};
 ghost use Rattle.scenario_fields.specs.Fault.{Gives};
 ghost use Rattle.scenario_fields.specs.Fields.{only};
 ghost use Rattle.scenario_fields.specs.Place.{path};
+ghost use Rattle.scenario.specs.CardRules.{IsCard, IsNewCard, AreCards};
 ghost use Rattle.scenario.specs.Cards as spec;
 ghost use Rattle.scenario.specs.Cards.{card_keys, card_of, card_item as item_of, cards_from, apps_from, apps_at as apps_found, cards_at as cards_found};
 ghost use Rattle.scenario.specs.Seen.{seen_card, seen_cards};
@@ -40,7 +42,10 @@ fn new_card_name(
     earlier: &[NamedImage],
     table: &Table,
 ) -> Result<Vec<u8>, ScenarioFault>
-    ensures { Gives (λ name. name.items) result (spec.new_card_name index (seen_cards earlier.now) (table_view table.now)) }
+    ensures exact { Gives (λ name. name.items) result (spec.new_card_name index (seen_cards earlier.now) (table_view table.now)) }
+    ensures some { IfOk result (λ name. 1 ≤ length name.items) }
+    ensures short { IfOk result (λ name. length name.items ≤ 16) }
+    ensures first { IfOk result (λ name. spec.is_named name.items (seen_cards earlier.now) ≡ false) }
 {
     let fields = Fields {
         alloc,
@@ -61,7 +66,10 @@ fn read_apps(
     keys: &HostKeys,
     values: &[Value],
 ) -> Result<Vec<AppImage>, ScenarioFault>
-    ensures { Gives (λ apps. seen_apps apps.items) result (apps_from card 0 keys.now [] (items_view values.now)) }
+    ensures exact { Gives (λ apps. seen_apps apps.items) result (apps_from card 0 keys.now [] (items_view values.now)) }
+    ensures count { IfOk result (λ apps. vec_len apps ≡ length values.now) }
+    ensures rules { IfOk result (λ apps. All KeepsRules (seen_apps apps.items)) }
+    ensures names { IfOk result (λ apps. AllPairs (λ a b. a.name ≢ b.name) (seen_apps apps.items)) }
 {
     let mut apps: Vec<AppImage> = Vec::new(alloc);
     for value in values {
@@ -79,7 +87,8 @@ fn apps_at(
     keys: &HostKeys,
     table: &Table,
 ) -> Result<Vec<AppImage>, ScenarioFault>
-    ensures { Gives (λ apps. seen_apps apps.items) result (apps_found card keys.now (table_view table.now)) }
+    ensures exact { Gives (λ apps. seen_apps apps.items) result (apps_found card keys.now (table_view table.now)) }
+    ensures image { IfOk result (λ apps. IsImage (seen_apps apps.items)) }
 {
     let fields = Fields {
         alloc,
@@ -105,7 +114,8 @@ fn read_card(
     earlier: &[NamedImage],
     table: &Table,
 ) -> Result<NamedImage, ScenarioFault>
-    ensures { Gives seen_card result (card_of index keys.now (seen_cards earlier.now) (table_view table.now)) }
+    ensures exact { Gives seen_card result (card_of index keys.now (seen_cards earlier.now) (table_view table.now)) }
+    ensures new { IfOk result (λ card. IsNewCard (seen_cards earlier.now) (seen_card card)) }
 {
     let fields = Fields {
         alloc,
@@ -117,7 +127,7 @@ fn read_card(
     only_card_keys(&fields)?;
     match Image::new(apps) {
         Ok(image) => Ok(NamedImage { name, image }),
-        Err(_) => Err(fields.spot("app").bad()),
+        Err(_) => unreachable!(),
     }
 }
 
@@ -130,7 +140,8 @@ fn card_item(
     earlier: &[NamedImage],
     value: &Value,
 ) -> Result<NamedImage, ScenarioFault>
-    ensures { Gives seen_card result (item_of index keys.now (seen_cards earlier.now) (view value.now)) }
+    ensures exact { Gives seen_card result (item_of index keys.now (seen_cards earlier.now) (view value.now)) }
+    ensures new { IfOk result (λ card. IsNewCard (seen_cards earlier.now) (seen_card card)) }
 {
     let spot = Spot {
         alloc,
@@ -150,6 +161,8 @@ fn read_cards(
 ) -> Result<Vec<NamedImage>, ScenarioFault>
     ensures exact { Gives (λ cards. seen_cards cards.items) result (cards_from 0 keys.now [] (items_view values.now)) }
     ensures count { IfOk result (λ cards. vec_len cards ≡ length values.now) }
+    ensures cards { IfOk result (λ cards. All IsCard (seen_cards cards.items)) }
+    ensures names { IfOk result (λ cards. AllPairs (λ a b. a.name ≢ b.name) (seen_cards cards.items)) }
 {
     let mut cards: Vec<NamedImage> = Vec::new(alloc);
     for value in values {
@@ -170,6 +183,7 @@ pub fn cards_at(
     ensures exact { Gives (λ cards. seen_cards cards.items) result (cards_found keys.now (table_view document.now)) }
     ensures some { IfOk result (λ cards. 1 ≤ vec_len cards) }
     ensures few { IfOk result (λ cards. vec_len cards ≤ 64) }
+    ensures rules { IfOk result (λ cards. AreCards (seen_cards cards.items)) }
 {
     let fields = Fields {
         alloc,

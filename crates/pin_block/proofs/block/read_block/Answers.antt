@@ -1,5 +1,7 @@
-use Rattle.std.proofs.Common.{◌≡◌, ◌≤◌, List, ℕ, length, take, drop, Some, sym, ap, subst, arith, ◌∙◌}
-use Rattle.emv_dict.specs.Digits.{AllDecimal}
+use Rattle.std.proofs.Common.{◌≡◌, ◌≤◌, true, List, ℕ, length, take, drop, Some, sym, ap, subst, arith, ◌∙◌}
+use Rattle.std.specs.Prelude.{nat_le}
+use Rattle.std.proofs.lemmas.Bool.{and_from, le-leb}
+use Rattle.emv_dict.specs.Digits.{AllDecimal, is_pin_length}
 use Rattle.emv_dict.specs.Nibbles.{nibbles}
 use Rattle.pin_block.specs.Block.{block_of}
 use Rattle.pin_block.proofs.Reading.{count_of_block, pin_of_block}
@@ -11,7 +13,9 @@ returns-then-not-is_pin_length-clause-reads c = λ pin is same.
     c.from-count.ensures ∙ c.nibble_at.ensures.value ∙ count_of_block c.args.format pin c.args.bytes c.requires is same in
     let least : 4 ≤ c.from-count.result = omega (arith, is.least) in
     let most : c.from-count.result ≤ 12 = omega (arith, is.most) in
-    let wrong = c.if-not-is_pin_length.ensures.1 (least, most) in
+    let test : is_pin_length c.from-count.result ≡ true =
+    and_from (nat_le 4 c.from-count.result) (nat_le c.from-count.result 12) (le-leb 4 c.from-count.result least) (le-leb c.from-count.result 12 most) in
+    let wrong = c.if-not-is_pin_length.ensures in
     cc
 
 pub returns-in-Some-clause-reads : goal.returns-in-Some-clause-reads

@@ -11,6 +11,8 @@ use Rattle.toml.specs.declared.value.Value.{Value}
 use Rattle.scenario_fields.specs.Fields.{with_front}
 use Rattle.scenario_fields.specs.declared.fault.ScenarioFault.{ScenarioFault}
 use Rattle.scenario.proofs.Loops.{front_moved}
+use Rattle.scenario.proofs.CardParts.{apps_keep, app_names_differ}
+use Rattle.scenario.specs.CardRules.{IsNewApp}
 use Rattle.scenario.specs.Cards.{app_item, apps_from}
 use Rattle.scenario.proofs.card.read_apps.Goals as goal
 
@@ -31,11 +33,13 @@ apps_pushed card keys i j vs v old new x whole inside item_is at pushed is befor
 
 pub loop-value-preserved : goal.loop-value-preserved
 loop-value-preserved c = record {
+  rules = apps_keep c.loop-value.apps.items c.push.new.self.items c.in_ok-app.app c.in_ok-push.ensures.items c.loop-value.invariant.rules (subst (λ (apps : List AppImage). IsNewApp (seen_apps apps) (seen_app c.in_ok-app.app)) c.as_slice.ensures.value c.in_ok-app.ensures.new);
+  names = app_names_differ c.loop-value.apps.items c.push.new.self.items c.in_ok-app.app c.in_ok-push.ensures.items c.loop-value.invariant.names (subst (λ (apps : List AppImage). IsNewApp (seen_apps apps) (seen_app c.in_ok-app.app)) c.as_slice.ensures.value c.in_ok-app.ensures.new);
   count = search rules;
   read =
       apps_pushed c.args.card c.args.keys.now c.loop-value.value-index c.len.result c.args.values.now
       c.value-item.result c.loop-value.apps.items c.push.new.self.items c.in_ok-app.app _
       c.loop-value-test.true c.value-item.is (omega (arith, c.len.ensures)) c.in_ok-push.ensures.items
-      (subst (λ (apps : List AppImage). app_item c.args.card c.len.result c.args.keys.now (seen_apps apps) (view c.value-item.result) ≡ Ok (seen_app c.in_ok-app.app)) c.as_slice.ensures.value c.in_ok-app.ensures)
+      (subst (λ (apps : List AppImage). app_item c.args.card c.len.result c.args.keys.now (seen_apps apps) (view c.value-item.result) ≡ Ok (seen_app c.in_ok-app.app)) c.as_slice.ensures.value c.in_ok-app.ensures.exact)
       c.loop-value.invariant.read;
 }

@@ -1,6 +1,8 @@
 use Rattle.std.proofs.Common.{◌≡◌, ℕ, ◌+◌, ◌<◌, List, [], ◌∷◌, ◌++◌, length, get_or, drop, Result, Ok, ap, sym, subst, ◌∙◌, rules, arith}
 use Rattle.std.proofs.lemmas.List.{map-append}
 use Rattle.scenario.specs.Seen.{seen_card, seen_cards}
+use Rattle.scenario.proofs.CardParts.{cards_keep, card_names_differ}
+use Rattle.scenario.specs.CardRules.{IsNewCard}
 use Rattle.scenario.specs.Cards.{CardData}
 use Rattle.scenario.specs.declared.plan.NamedImage.{NamedImage}
 use Rattle.issuer_host.specs.declared.keys.HostKeys.{HostKeys}
@@ -11,6 +13,8 @@ use Rattle.toml.specs.declared.value.Value.{Value}
 use Rattle.scenario_fields.specs.Fields.{with_front}
 use Rattle.scenario_fields.specs.declared.fault.ScenarioFault.{ScenarioFault}
 use Rattle.scenario.proofs.Loops.{front_moved}
+use Rattle.scenario.proofs.CardParts.{cards_keep, card_names_differ}
+use Rattle.scenario.specs.CardRules.{IsNewCard}
 use Rattle.scenario.specs.Cards.{card_item, cards_from}
 use Rattle.scenario.proofs.card.read_cards.Goals as goal
 
@@ -31,11 +35,13 @@ cards_pushed keys i j vs v old new x whole inside item_is at pushed is before =
 
 pub loop-value-preserved : goal.loop-value-preserved
 loop-value-preserved c = record {
+  cards = cards_keep c.loop-value.cards.items c.push.new.self.items c.in_ok-card.card c.in_ok-push.ensures.items c.loop-value.invariant.cards (subst (λ (cards : List NamedImage). IsNewCard (seen_cards cards) (seen_card c.in_ok-card.card)) c.as_slice.ensures.value c.in_ok-card.ensures.new);
+  names = card_names_differ c.loop-value.cards.items c.push.new.self.items c.in_ok-card.card c.in_ok-push.ensures.items c.loop-value.invariant.names (subst (λ (cards : List NamedImage). IsNewCard (seen_cards cards) (seen_card c.in_ok-card.card)) c.as_slice.ensures.value c.in_ok-card.ensures.new);
   count = search rules;
   read =
       cards_pushed c.args.keys.now c.loop-value.value-index c.len.result c.args.values.now
       c.value-item.result c.loop-value.cards.items c.push.new.self.items c.in_ok-card.card _
       c.loop-value-test.true c.value-item.is (omega (arith, c.len.ensures)) c.in_ok-push.ensures.items
-      (subst (λ (cards : List NamedImage). card_item c.len.result c.args.keys.now (seen_cards cards) (view c.value-item.result) ≡ Ok (seen_card c.in_ok-card.card)) c.as_slice.ensures.value c.in_ok-card.ensures)
+      (subst (λ (cards : List NamedImage). card_item c.len.result c.args.keys.now (seen_cards cards) (view c.value-item.result) ≡ Ok (seen_card c.in_ok-card.card)) c.as_slice.ensures.value c.in_ok-card.ensures.exact)
       c.loop-value.invariant.read;
 }

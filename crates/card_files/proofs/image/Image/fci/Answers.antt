@@ -3,6 +3,7 @@ use Rattle.std.specs.Prelude.{slice_get, Some}
 use Rattle.card_files.specs.Kept.{KeepsRules}
 use Rattle.card_files.specs.SeenApp.{seen_app}
 use Rattle.card_files.specs.declared.app.AppImage.{AppImage}
+use Rattle.card_files.proofs.ControlItems.{is_fci}
 use Rattle.card_files.proofs.SizeLemmas.{label_size, pdol_size, lookup}
 use Rattle.card_files.proofs.image.Image.fci.Goals as goal
 
@@ -22,10 +23,18 @@ write_fci-requires-clause-pdol c =
     let kept : KeepsRules (seen_app app) = rw (← c.index-apps-from.is) at (c.apps.ensures.rules c.from.result app within) in
     pdol_size (λ list. list.items) app.pdol kept.pdol
 
-pub returns : goal.returns
-returns c =
+pub returns-clause-bytes : goal.returns-clause-bytes
+returns-clause-bytes c =
     let app : AppImage = c.index-apps-from.result in
     let within : c.from.result < length c.apps.result.now = omega arith in
     let there : slice_get c.args.self.now c.args.app ≡ Some (seen_app app) =
     rw (c.apps.ensures.apps, c.from.ensures) at (lookup c.apps.result.now c.from.result app within c.index-apps-from.is) in
     rw there c.write_fci.ensures
+
+pub returns-clause-read : goal.returns-clause-read
+returns-clause-read c =
+    let app : AppImage = c.index-apps-from.result in
+    let within : c.from.result < length c.apps.result.now = omega arith in
+    let there : slice_get c.args.self.now c.args.app ≡ Some (seen_app app) =
+    rw (c.apps.ensures.apps, c.from.ensures) at (lookup c.apps.result.now c.from.result app within c.index-apps-from.is) in
+    rw there (is_fci (seen_app app) _ c.write_fci.ensures)

@@ -1,13 +1,26 @@
-use Rattle.std.proofs.Common.{◌≡◌, ◌∙◌, List, map, take, ap}
+use Rattle.std.proofs.Common.{◌≡◌, ◌≤◌, ◌∙◌, ℕ, false, List, length, map, take, ap}
 use Rattle.std.proofs.lemmas.List.{take_all}
+use Rattle.card_files.specs.Files.{opening_of}
 use Rattle.card_files.specs.declared.app.AppImage.{AppImage}
-use Rattle.card_files.proofs.OpeningLemmas.{opened}
+use Rattle.card_files.proofs.OpeningLemmas.{opened, no_totals}
+use Rattle.card_state.specs.declared.state.CardState.{CardState}
+use Rattle.card_files.specs.Views.{AppData}
+use Rattle.card_files.specs.SeenApp.{seen_apps}
 use Rattle.card_files.proofs.image.Image.opening.Goals as goal
 
-pub returns : goal.returns
-returns c =
-    let apps : List AppImage = c.apps-image-items.result.now in
-    let whole : take c.loop-image.image-index apps ≡ apps = take_all c.loop-image.image-index apps c.loop-image-test.false in
-    rw c.apps-image-items.ensures.apps at
-    (opened c.loop-image.out apps c.loop-image.invariant.free
-    (c.loop-image.invariant.opened ∙ ap (λ (xs : List AppImage). map (λ a. a.opening) xs) whole))
+filled : (out : CardState) (items : List AppImage) (apps : List AppData) (index : ℕ) → length items ≤ index → out.blocked ≡ false
+    → out.apps.items ≡ map (λ a. a.opening) (take index items) → seen_apps items ≡ apps → out ≡ opening_of apps
+filled out items apps index past free so_far seen =
+    rw (← seen) (opened out items free (so_far ∙ ap (λ (xs : List AppImage). map (λ a. a.opening) xs) (take_all index items past)))
+
+pub returns-clause-value : goal.returns-clause-value
+returns-clause-value c =
+    filled c.loop-image.out c.apps-image-items.result.now c.args.self.now c.loop-image.image-index c.loop-image-test.false
+    c.loop-image.invariant.free c.loop-image.invariant.opened c.apps-image-items.ensures.apps
+
+pub returns-clause-totals : goal.returns-clause-totals
+returns-clause-totals c =
+    no_totals c.loop-image.out c.args.self.now
+    (filled c.loop-image.out c.apps-image-items.result.now c.args.self.now c.loop-image.image-index c.loop-image-test.false
+    c.loop-image.invariant.free c.loop-image.invariant.opened c.apps-image-items.ensures.apps)
+    c.apps-image-items.ensures.image

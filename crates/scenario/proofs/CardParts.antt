@@ -1,0 +1,90 @@
+-- One more record, application or card behind those that keep to their rules.
+use Rattle.std.proofs.Common.{◌≡◌, ◌≢◌, ◌≤◌, ℕ, false, List, [], ◌∷◌, ◌++◌, length, refl, sym, subst}
+use Rattle.std.specs.Prelude.{IsTrue, nat_le}
+use Rattle.std.specs.List.{All, AllPairs, list_all}
+use Rattle.std.proofs.lemmas.Bool.{and_from, le-leb, eq-eqb}
+use Rattle.std.proofs.lemmas.List.{map-append}
+use Rattle.std.proofs.lemmas.List.Elements.{All-push}
+use Rattle.std.proofs.lemmas.List.Quantifiers.{all_pairs_push}
+use Rattle.std.proofs.lemmas.List.Sums.{list_all-from_AllPass}
+use Rattle.card_files.proofs.OwnNames.{not_taken}
+use Rattle.card_files.proofs.Records.{are_apart-push}
+use Rattle.card_files.specs.AppRules.{has_size, is_printable, is_label, are_apart}
+use Rattle.card_files.specs.Kept.{KeepsRules}
+use Rattle.card_files.specs.Seen.{seen_record, seen_records}
+use Rattle.card_files.specs.SeenApp.{seen_app, seen_apps}
+use Rattle.card_files.specs.Views.{AppData}
+use Rattle.card_files.specs.declared.app.AppImage.{AppImage}
+use Rattle.card_files.specs.declared.app.RecordImage.{RecordImage}
+use Rattle.issuer_host.specs.declared.keys.HostKeys.{HostKeys}
+use Rattle.scenario_fields.specs.Value.{is_one_of}
+use Rattle.scenario_fields.specs.declared.spot.Characters.TheVariants.{Printable}
+use Rattle.scenario.specs.CardRules.{KeepsFiles, KeepsHolder, KeepsCounters, KeepsAccess, IsNewRecord, IsNewApp, IsCard, IsNewCard}
+use Rattle.scenario.specs.Cards.{FilesData, HolderData, CountersData, AccessData, app_with, opening_of, has_name, is_named}
+use Rattle.scenario.specs.Seen.{seen_card, seen_cards}
+use Rattle.scenario.specs.declared.plan.NamedImage.{NamedImage}
+
+pub records_apart : (old new : List RecordImage) (r : RecordImage) → new ≡ old ++ r ∷ [] → IsTrue (are_apart (seen_records old))
+    → IsNewRecord (seen_records old) (seen_record r) → IsTrue (are_apart (seen_records new))
+records_apart old new r pushed apart is =
+    rw (pushed, map-append) (are_apart-push (seen_records old) (seen_record r) apart is.in_limits is.first)
+
+pub label_passes : (text : List ℕ) → (1 ≤ length text) × (length text ≤ 16) → All (λ c. IsTrue (is_one_of Printable c)) text → IsTrue (is_label text)
+label_passes text within all =
+    and_from (has_size 1 16 text) (list_all is_printable text)
+    (and_from (nat_le 1 (length text)) (nat_le (length text) 16) (le-leb 1 (length text) within.0) (le-leb (length text) 16 within.1))
+    (list_all-from_AllPass is_printable text all)
+
+app_keeps : (keys : HostKeys) (files : FilesData) (holder : HolderData) (counters : CountersData) (access : AccessData)
+    → KeepsFiles files → KeepsHolder holder → KeepsCounters counters → KeepsAccess access → KeepsRules (app_with keys files holder counters access)
+unfolding app_with opening_of
+app_keeps keys files holder counters access f h c a = record {
+  name = f.name;
+  label = f.label;
+  pdol = f.pdol;
+  afl = f.afl;
+  gpo_format = f.gpo_format;
+  ac_format = f.ac_format;
+  cdol1 = f.cdol1;
+  cdol2 = f.cdol2;
+  records = f.records;
+  pan = h.pan;
+  sequence = h.sequence;
+  currency = h.currency;
+  sum_limit = c;
+  pin = a.pin;
+  tries = a.tries;
+  opening = eq-eqb access.tries access.tries refl;
+}
+
+-- an application of parts that keep to their rules
+pub is_new : (keys : HostKeys) (files : FilesData) (holder : HolderData) (counters : CountersData) (access : AccessData) (earlier : List AppData) (app : AppData)
+    → app ≡ app_with keys files holder counters access → KeepsFiles files → KeepsHolder holder → KeepsCounters counters → KeepsAccess access
+    → has_name files.name earlier ≡ false → IsNewApp earlier app
+unfolding app_with
+is_new keys files holder counters access earlier app same f h c a first =
+    let new : IsNewApp earlier (app_with keys files holder counters access) =
+    record { rules = app_keeps keys files holder counters access f h c a; first = first } in
+    subst (λ (x : AppData). IsNewApp earlier x) (sym same) new
+
+pub apps_keep : (old new : List AppImage) (app : AppImage) → new ≡ old ++ app ∷ [] → All KeepsRules (seen_apps old)
+    → IsNewApp (seen_apps old) (seen_app app) → All KeepsRules (seen_apps new)
+apps_keep old new app pushed keep is = rw (pushed, map-append) (All-push KeepsRules (seen_apps old) (seen_app app) keep is.rules)
+
+pub app_names_differ : (old new : List AppImage) (app : AppImage) → new ≡ old ++ app ∷ [] → AllPairs (λ a b. a.name ≢ b.name) (seen_apps old)
+    → IsNewApp (seen_apps old) (seen_app app) → AllPairs (λ a b. a.name ≢ b.name) (seen_apps new)
+unfolding has_name
+app_names_differ old new app pushed differ is =
+    rw (pushed, map-append)
+    (all_pairs_push (λ a b. a.name ≢ b.name) (seen_apps old) (seen_app app) differ (not_taken (λ a. a.name) (seen_app app).name (seen_apps old) is.first))
+
+pub cards_keep : (old new : List NamedImage) (card : NamedImage) → new ≡ old ++ card ∷ [] → All IsCard (seen_cards old)
+    → IsNewCard (seen_cards old) (seen_card card) → All IsCard (seen_cards new)
+cards_keep old new card pushed keep is = rw (pushed, map-append) (All-push IsCard (seen_cards old) (seen_card card) keep is.rules)
+
+pub card_names_differ : (old new : List NamedImage) (card : NamedImage) → new ≡ old ++ card ∷ [] → AllPairs (λ a b. a.name ≢ b.name) (seen_cards old)
+    → IsNewCard (seen_cards old) (seen_card card) → AllPairs (λ a b. a.name ≢ b.name) (seen_cards new)
+unfolding is_named
+card_names_differ old new card pushed differ is =
+    rw (pushed, map-append)
+    (all_pairs_push (λ a b. a.name ≢ b.name) (seen_cards old) (seen_card card) differ (not_taken (λ c. c.name) (seen_card card).name (seen_cards old) is.first))

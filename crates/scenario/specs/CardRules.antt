@@ -1,0 +1,62 @@
+-- What the readers of a card's keys make sure of: the rules of its image, part by part.
+use Rattle.std.specs.Prelude.{◌≡◌, ◌≢◌, ◌≤◌, false, List, length, IsTrue}
+use Rattle.std.specs.List.{All, AllPairs, list_any}
+use Rattle.card_files.specs.AppRules.{is_name, is_label, is_afl, is_format, is_record, is_pair, are_records, is_reference_pin, is_sum_limit, is_tries}
+use Rattle.card_files.specs.Kept.{KeepsRules, IsImage}
+use Rattle.card_files.specs.Lists.{is_optional_pdol, is_cdol1, is_cdol2}
+use Rattle.card_files.specs.Views.{RecordData, AppData}
+use Rattle.emv_dict.specs.Bcd.{has_digits}
+use Rattle.emv_dict.specs.Pan.{is_pan_length}
+use Rattle.emv_dict.specs.Settings.{is_code}
+use Rattle.scenario.specs.Cards.{FilesData, HolderData, CountersData, AccessData, CardData, has_name, is_named}
+
+-- a record in its limits, of a number that no earlier one of its file has
+pub record IsNewRecord (earlier : List RecordData) (r : RecordData) : Type 0 where
+  pub in_limits : IsTrue (is_record r)
+  pub first : list_any (is_pair r) earlier ≡ false
+
+pub record KeepsFiles (files : FilesData) : Type 0 where
+  pub name : IsTrue (is_name files.name)
+  pub label : IsTrue (is_label files.label)
+  pub pdol : IsTrue (is_optional_pdol files.pdol)
+  pub afl : IsTrue (is_afl files.afl)
+  pub gpo_format : IsTrue (is_format files.gpo_format)
+  pub ac_format : IsTrue (is_format files.ac_format)
+  pub cdol1 : IsTrue (is_cdol1 files.cdol1)
+  pub cdol2 : IsTrue (is_cdol2 files.cdol2)
+  pub records : IsTrue (are_records files.records)
+
+pub record KeepsHolder (holder : HolderData) : Type 0 where
+  pub pan : IsTrue (is_pan_length (length holder.pan))
+  pub sequence : IsTrue (has_digits holder.sequence)
+  pub currency : IsTrue (is_code holder.currency)
+
+abbrev pub KeepsCounters : CountersData → Type 0
+KeepsCounters counters = IsTrue (is_sum_limit counters.sum_limit)
+
+pub record KeepsAccess (access : AccessData) : Type 0 where
+  pub pin : IsTrue (is_reference_pin access.pin)
+  pub tries : IsTrue (is_tries access.tries)
+
+-- an application in its rules, of a name that no earlier one has
+pub record IsNewApp (earlier : List AppData) (app : AppData) : Type 0 where
+  pub rules : KeepsRules app
+  pub first : has_name app.name earlier ≡ false
+
+-- a card of a scenario by itself: its name has 1 to 16 characters, and its applications are an image
+pub record IsCard (card : CardData) : Type 0 where
+  pub some_name : 1 ≤ length card.name
+  pub short_name : length card.name ≤ 16
+  pub image : IsImage card.image
+
+-- such a card, of a name that no earlier one has
+pub record IsNewCard (earlier : List CardData) (card : CardData) : Type 0 where
+  pub rules : IsCard card
+  pub first : is_named card.name earlier ≡ false
+
+-- the cards of a scenario: 1 to 64, each in its rules and with a name of its own
+pub record AreCards (cards : List CardData) : Type 0 where
+  pub some : 1 ≤ length cards
+  pub few : length cards ≤ 64
+  pub each : All IsCard cards
+  pub names : AllPairs (λ a b. a.name ≢ b.name) cards
