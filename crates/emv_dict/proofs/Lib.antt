@@ -3,3 +3,4 @@ pub mod FlagBits
 pub mod HexDigits
 pub mod PanFields
 mod Searches
+pub mod Steps

@@ -8,5 +8,6 @@ pub mod Listing
 pub mod Name
 pub mod Nibbles
 pub mod Pan
+pub mod Progress
 pub mod Settings
 pub mod Views
