@@ -4,3 +4,4 @@ pub mod HexDigits
 pub mod PanFields
 mod Searches
 pub mod Steps
+mod Unions

@@ -1,7 +1,8 @@
 -- The bits of the terminal verification results (EMV 4.3 Book 3 Annex C5) and of the transaction status
 -- information (Annex C6). Bytes are counted from 1 at the left, and the bits of a byte from 8 at the left to 1.
-use Rattle.std.specs.Prelude.{ℕ, ◌+◌, ◌-◌, ◌*◌, ◌^◌, ◌==◌, ◌≤◌, Bool, false, not, ◌||◌, List, [], ◌∷◌, codes, drop, bit_and, slice_index, IsBitSet}
-use Rattle.std.specs.Int.{to_be_bytes, w64}
+use Rattle.std.specs.Prelude.{ℕ, ◌+◌, ◌-◌, ◌*◌, ◌^◌, ◌==◌, ◌≤◌, Bool, false, not, ◌||◌, ◌&&◌, if◌then◌else◌, List, [], ◌∷◌, codes, drop, bit_and, bit_or, slice_index, IsBitSet}
+use Rattle.std.specs.Int.{to_be_bytes, w64, bit_at}
+use Rattle.std.specs.List.{list_any}
 
 -- the place of a bit, counted from 0 at the right, among so many bytes
 abbrev pub place_among : ℕ → ℕ → ℕ → ℕ
@@ -75,3 +76,16 @@ abbrev pub have_common_bit : List ℕ → List ℕ → Bool
 have_common_bit [] codes = false
 have_common_bit (byte ∷ bytes) [] = false
 have_common_bit (byte ∷ bytes) (code ∷ codes) = not (bit_and byte code == 0) || have_common_bit bytes codes
+
+-- these bits, and those of the rows whose condition holds
+abbrev pub bits_from : ℕ → List (Bool × ℕ) → ℕ
+bits_from set [] = set
+bits_from set ((holds, bits) ∷ rows) = bits_from (if holds then bit_or set bits else set) rows
+
+-- the bits of the rows whose condition holds, as one number
+abbrev pub bits_where : List (Bool × ℕ) → ℕ
+bits_where rows = bits_from 0 rows
+
+-- whether some row whose condition holds has the bit at this place, counted from 0 at the right
+abbrev pub some_row_has : ℕ → List (Bool × ℕ) → Bool
+some_row_has place rows = list_any (λ row. row.0 && (bit_at row.1 place == 1)) rows

@@ -120,6 +120,12 @@ fn flags_are_the_annexes_bits(rt: HostRuntime) {
         assert_eq!(rt; flag.bytes(), bytes);
         assert_eq!(rt; Tsi::from_bytes(bytes), flag);
     }
+    let rows = [
+        (true, Tvr::EXPIRED),
+        (false, Tvr::NEW_CARD),
+        (true, Tvr::EXCEPTION_FILE),
+    ];
+    assert_eq!(rt; Tvr::of_conditions(&rows).bytes(), [0x10, 0x40, 0, 0, 0]);
     let seen = Tvr::from_bytes([0x80, 0, 0x40, 0, 0]);
     assert!(rt; seen.meets([0, 0, 0xC0, 0, 0]));
     assert!(rt; !seen.meets([0x7F, 0xFF, 0xBF, 0xFF, 0xFF]));

@@ -1,5 +1,6 @@
-ghost use Rattle.std.specs.Prelude.{⊤, ◌≡◌, ◌≢◌, ◌<◌, ◌^◌, ◌↔◌, ℕ, bit_and};
-ghost use Rattle.emv_dict.specs.Flags.{tvr_bit, tvr_bits, tvr_bytes, IsWithin, StandsIn, have_common_bit};
+ghost use Rattle.std.specs.Prelude.{⊤, ◌≡◌, ◌≢◌, ◌<◌, ◌^◌, ◌↔◌, ◌==◌, ℕ, bit_and, map};
+ghost use Rattle.std.specs.Int.{bit_at};
+ghost use Rattle.emv_dict.specs.Flags.{tvr_bit, tvr_bits, tvr_bytes, bits_where, some_row_has, IsWithin, StandsIn, have_common_bit};
 
 use bitflags::{Flag, Flags, bitflag_items};
 
@@ -80,6 +81,16 @@ impl Tvr {
         Tvr(u64::from_be_bytes([0, 0, 0, a, b, c, d, e]))
     }
 
+    /// The results whose condition holds: for each row a condition and its bits.
+    pub fn of_conditions(rows: &[(bool, Tvr)]) -> Tvr
+        ensures union { result.0 ≡ bits_where (map (λ row. (row.0, row.1.0)) rows.now) }
+        // A bit stands exactly where a row that has it holds.
+        ensures bits { (place : ℕ) → (bit_at result.0 place == 1)
+            ≡ some_row_has place (map (λ row. (row.0, row.1.0)) rows.now) }
+    {
+        union_of(rows)
+    }
+
     /// Whether some bit of the results stands in the action code too (EMV 4.3 Book 3 section 10.7).
     pub fn meets(&self, code: [u8; 5]) -> bool
         ensures { result ≡ have_common_bit (tvr_bytes self.now.0) code }
@@ -88,4 +99,17 @@ impl Tvr {
         let [v, w, x, y, z] = code;
         a & v != 0 || b & w != 0 || c & x != 0 || d & y != 0 || e & z != 0
     }
+}
+
+/// The bits of the rows whose condition holds.
+fn union_of(rows: &[(bool, Tvr)]) -> Tvr
+    ensures { result.0 ≡ bits_where (map (λ row. (row.0, row.1.0)) rows.now) }
+{
+    let mut results = Tvr::default();
+    for (holds, bits) in rows {
+        if *holds {
+            results.0 |= bits.0;
+        }
+    }
+    results
 }
