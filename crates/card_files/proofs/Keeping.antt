@@ -88,8 +88,24 @@ faultless apps none =
 unbroken : (app : AppData) → KeepsRules app → app_fault app ≡ None
 unfolding app_fault file_lines state_lines
 unbroken app keeps =
-    rw (keeps.name, keeps.label, keeps.pdol, keeps.afl, keeps.gpo_format, keeps.ac_format, keeps.cdol1, keeps.cdol2, keeps.records,
-    keeps.pan, keeps.sequence, keeps.currency, keeps.sum_limit, keeps.pin, keeps.tries, keeps.opening) refl
+    rw (
+      keeps.name,
+      keeps.label,
+      keeps.pdol,
+      keeps.afl,
+      keeps.gpo_format,
+      keeps.ac_format,
+      keeps.cdol1,
+      keeps.cdol2,
+      keeps.records,
+      keeps.pan,
+      keeps.sequence,
+      keeps.currency,
+      keeps.sum_limit,
+      keeps.pin,
+      keeps.tries,
+      keeps.opening,
+    ) refl
 
 no_field : (number : ℕ) (apps : List AppData) → All KeepsRules apps → field_fault number apps ≡ None
 no_field number [] keep = refl
