@@ -56,15 +56,16 @@ stand bytes front [] is tags =
 stand bytes front ((tag, value) ∷ objects) is tags =
     let next : List ℕ = front ++ written tag value in
     let whole : bytes ≡ next ++ all_written objects = is ∙ sym (append_assoc front (written tag value) (all_written objects)) in
-    let size : length bytes ≡ length front + length (written tag value ++ all_written objects) = ap length is ∙ length-append front (written tag value ++ all_written objects) in
-    (length next,
-    record {
-      start = length front;
-      zeros = no_zeros bytes (length front) (omega arith);
-      begins = subst (λ (bs : List ℕ). Begins bs (length front)) (sym is) (begins front (all_written objects) value tag tags.0);
-      stands = rw whole (appended_read front next tag value refl tags.0.readable (all_written objects));
-    },
-    stand bytes next objects whole tags.1)
+    let size : length bytes ≡ length front + length (written tag value ++ all_written objects) = ap length is ∙ length-append front (written tag value ++ all_written objects) in (
+      length next,
+      record {
+        start = length front;
+        zeros = no_zeros bytes (length front) (omega arith);
+        begins = subst (λ (bs : List ℕ). Begins bs (length front)) (sym is) (begins front (all_written objects) value tag tags.0);
+        stands = rw whole (appended_read front next tag value refl tags.0.readable (all_written objects));
+      },
+      stand bytes next objects whole tags.1,
+    )
 
 what_stands : (front : List ℕ) (objects : Objects) → map (λ i. (i.tag, i.value)) (items_behind_front front objects) ≡ objects
 what_stands front [] = refl

@@ -4,14 +4,11 @@ use Rattle.std.specs.Prelude.{if◌then◌else◌, nat_le}
 use Rattle.std.specs.Option.{option_or}
 use Rattle.std.specs.List.{All}
 use Rattle.std.proofs.lemmas.Bool.{true≢false, and_parts, and_from, leb-true, le-leb}
-use Rattle.std.proofs.lemmas.List.{get_or-map, length-map}
 use Rattle.card_files.specs.AppRules.{is_within}
 use Rattle.card_files.specs.Faults.{Line, Fault, OfField, OfCount, file_lines, state_lines, first_broken, app_fault, field_fault, name_fault, image_fault}
 use Rattle.card_files.specs.Kept.{KeepsRules, IsImage}
-use Rattle.card_files.specs.SeenApp.{seen_app, seen_apps}
 use Rattle.card_files.specs.Views.{AppData}
 use Rattle.card_files.proofs.OwnNames.{names_apart, no_name}
-use Rattle.card_files.specs.declared.app.AppImage.{AppImage}
 
 some_is_not_none : {A : Type 0} (x : A) → Some x ≡ None → true ≡ false
 some_is_not_none x e = ap is_some e
@@ -61,7 +58,7 @@ unmapped : {A B : Type 0} (f : A → B) (o : Option A) → option_map f o ≡ No
 unmapped f None none = refl
 unmapped f (Some x) none = absurd (true≢false (some_is_not_none (f x) none))
 
-each_kept : (number : ℕ) (apps : List AppData) → field_fault number apps ≡ None → All (λ app. KeepsRules app) apps
+each_kept : (number : ℕ) (apps : List AppData) → field_fault number apps ≡ None → All KeepsRules apps
 each_kept number [] none k d within = absurd (omega arith)
 each_kept number (app ∷ apps) none zero d within =
     let parts = first_none (option_map (OfField number) (app_fault app)) (field_fault (number + 1) apps) none in
@@ -91,10 +88,26 @@ faultless apps none =
 unbroken : (app : AppData) → KeepsRules app → app_fault app ≡ None
 unfolding app_fault file_lines state_lines
 unbroken app keeps =
-    rw (keeps.name, keeps.label, keeps.pdol, keeps.afl, keeps.gpo_format, keeps.ac_format, keeps.cdol1, keeps.cdol2, keeps.records,
-    keeps.pan, keeps.sequence, keeps.currency, keeps.sum_limit, keeps.pin, keeps.tries, keeps.opening) refl
+    rw (
+      keeps.name,
+      keeps.label,
+      keeps.pdol,
+      keeps.afl,
+      keeps.gpo_format,
+      keeps.ac_format,
+      keeps.cdol1,
+      keeps.cdol2,
+      keeps.records,
+      keeps.pan,
+      keeps.sequence,
+      keeps.currency,
+      keeps.sum_limit,
+      keeps.pin,
+      keeps.tries,
+      keeps.opening,
+    ) refl
 
-no_field : (number : ℕ) (apps : List AppData) → All (λ app. KeepsRules app) apps → field_fault number apps ≡ None
+no_field : (number : ℕ) (apps : List AppData) → All KeepsRules apps → field_fault number apps ≡ None
 no_field number [] keep = refl
 no_field number (app ∷ apps) keep =
     rw (unbroken app (keep 0 app (omega arith))) (no_field (number + 1) apps (λ k d within. keep (suc k) d (omega arith)))
@@ -105,10 +118,3 @@ unfolding image_fault
 has_no_fault apps is =
     rw (and_from (nat_le 1 (length apps)) (nat_le (length apps) 4) (le-leb 1 (length apps) is.some) (le-leb (length apps) 4 is.few), no_field 0 apps is.rules)
     (no_name [] apps is.names)
-
--- the same of the applications as they are
-pub all_of_images : (apps : List AppImage) → IsImage (seen_apps apps) → All (λ app. KeepsRules (seen_app app)) apps
-all_of_images apps is k d within =
-    let long : length (seen_apps apps) ≡ length apps = length-map apps seen_app in
-    let at : KeepsRules (get_or (seen_apps apps) k (seen_app d)) = is.rules k (seen_app d) (omega arith) in
-    rw (get_or-map seen_app apps k d (seen_app d) within) at at

@@ -1,7 +1,6 @@
 mod ControlItems
 mod FaultLemmas
 mod Keeping
-mod Mapped
 mod NameLemmas
 mod OpeningLemmas
 pub mod OwnNames

@@ -105,15 +105,17 @@ pub any_record : (apps : List AppData) (a : AppData) (app sfi : ℕ) (found : Bo
     → IsTrue found ↔ ((number : ℕ) × (bytes : List ℕ) × HasRecord apps app sfi number bytes)
 any_record apps a app sfi found at is = (
   λ test.
-    let any = Any-from_list_any (λ r. r.sfi == sfi) a.records (sym is ∙ test) in
-    let r : RecordData = any.1 in
-    let file : r.sfi ≡ sfi = eqb-true r.sfi sfi any.4 in
-    let whole : r ≡ row sfi r.number r.bytes = same_row r sfi r.number r.bytes file refl refl in
-    (r.number, r.bytes,
-    subst (λ (o : Option AppData). IsSomeAnd o (λ x. Contains x.records (row sfi r.number r.bytes))) at
-    (any.0, any.2, get_or_default a.records any.0 (row sfi r.number r.bytes) r any.2 ∙ any.3 ∙ whole)),
+      let any = Any-from_list_any (λ r. r.sfi == sfi) a.records (sym is ∙ test) in
+      let r : RecordData = any.1 in
+      let file : r.sfi ≡ sfi = eqb-true r.sfi sfi any.4 in
+      let whole : r ≡ row sfi r.number r.bytes = same_row r sfi r.number r.bytes file refl refl in (
+        r.number,
+        r.bytes,
+        subst (λ (o : Option AppData). IsSomeAnd o (λ x. Contains x.records (row sfi r.number r.bytes))) at
+            (any.0, any.2, get_or_default a.records any.0 (row sfi r.number r.bytes) r any.2 ∙ any.3 ∙ whole),
+      ),
   λ there.
-    let inside : Contains a.records (row sfi there.0 there.1) = in_app apps a app sfi there.0 there.1 at there.2 in
-    is ∙ list_any_at (λ r. r.sfi == sfi) a.records inside.0 (row sfi there.0 there.1) inside.1
-    (eq-eqb _ sfi (ap (λ (r : RecordData). r.sfi) inside.2)),
+      let inside : Contains a.records (row sfi there.0 there.1) = in_app apps a app sfi there.0 there.1 at there.2 in
+      is ∙ list_any_at (λ r. r.sfi == sfi) a.records inside.0 (row sfi there.0 there.1) inside.1
+      (eq-eqb _ sfi (ap (λ (r : RecordData). r.sfi) inside.2)),
 )

@@ -3,12 +3,11 @@ use Rattle.std.proofs.Common.{◌≡◌, ℕ, ◌<◌, ◌≤◌, Bool, true, fa
 use Rattle.std.specs.Prelude.{if◌then◌else◌, IfSome, IsTrue, nat_le, slice_get}
 use Rattle.std.specs.List.{list_all}
 use Rattle.std.proofs.lemmas.Bool.{true≢false, and_parts, leb-true}
-use Rattle.std.proofs.lemmas.Option.{slice_get-map, slice_get-get_or}
+use Rattle.std.proofs.lemmas.Option.{slice_get-get_or}
 use Rattle.object_lists.specs.DolEntries.{DolEntry, dol_of}
 use Rattle.card_files.specs.AppRules.{is_label, is_printable, has_size}
 use Rattle.card_files.specs.Lists.{entries_within, fitting, is_optional_pdol}
-use Rattle.card_files.specs.SeenApp.{seen_app, seen_apps}
-use Rattle.card_files.specs.declared.app.AppImage.{AppImage}
+use Rattle.card_files.specs.Views.{AppData}
 
 pub label_size : (text : List ℕ) → IsTrue (is_label text) → length text ≤ 16
 label_size text is =
@@ -20,13 +19,10 @@ short_if : (test : Bool) (rest : Option (List DolEntry)) → is_some (if test th
 short_if true rest some = refl
 short_if false rest some = absurd (true≢false (sym some))
 
-pub pdol_size : {V : Type 0} (bytes_of : V → List ℕ) (pdol : Option V) → IsTrue (is_optional_pdol (option_map bytes_of pdol))
-    → IfSome pdol (λ v. length (bytes_of v) ≤ 200)
+pub pdol_size : (pdol : Option (List ℕ)) → IsTrue (is_optional_pdol pdol) → IfSome pdol (λ list. length list ≤ 200)
 unfolding entries_within
-pdol_size bytes_of None is = tt
-pdol_size bytes_of (Some v) is =
-    leb-true (length (bytes_of v)) 200 (short_if (nat_le (length (bytes_of v)) 200) (fitting (dol_of (bytes_of v))) is)
+pdol_size None is = tt
+pdol_size (Some list) is = leb-true (length list) 200 (short_if (nat_le (length list) 200) (fitting (dol_of list)) is)
 
-pub lookup : (apps : List AppImage) (k : ℕ) (x : AppImage) → k < length apps → x ≡ get_or apps k x → slice_get (seen_apps apps) k ≡ Some (seen_app x)
-lookup apps k x within is =
-    slice_get-map seen_app apps k ∙ ap (λ (o : Option AppImage). option_map seen_app o) (slice_get-get_or apps k x within ∙ ap (λ (y : AppImage). Some y) (sym is))
+pub lookup : (apps : List AppData) (k : ℕ) (x : AppData) → k < length apps → x ≡ get_or apps k x → slice_get apps k ≡ Some x
+lookup apps k x within is = slice_get-get_or apps k x within ∙ ap (λ (y : AppData). Some y) (sym is)

@@ -4,7 +4,5 @@ pub mod Faults
 pub mod Files
 pub mod Kept
 pub mod Lists
-pub mod Seen
-pub mod SeenApp
 pub mod Views
 pub mod SeenFault

@@ -1,8 +1,9 @@
 use card_state::AppState;
 use emv_dict::{Digits, Name};
+use std::marker::Model;
 use triple_des::Key16;
 
-/// A record of a file of a card (EMV 4.3 Book 3 section 5.3).
+/// A record of a file of a card (EMV 4.3 Book 3 section 5.3). Contracts see it with a list of its bytes.
 #[derive(Drop)]
 pub struct RecordImage {
     /// The short file identifier, from 1 to 30.
@@ -13,7 +14,16 @@ pub struct RecordImage {
     pub bytes: Vec<u8>,
 }
 
-/// An application as it stands on a card before its first transaction.
+impl Model for RecordImage {
+    ghost use Rattle.card_files.specs.Views.{RecordData};
+
+    ghost Value = { RecordData };
+
+    ghost view = { λ r. record { sfi = r.sfi; number = r.number; bytes = r.bytes.items } };
+}
+
+/// An application as it stands on a card before its first transaction. Contracts see it with lists in
+/// place of vectors.
 #[derive(Drop)]
 pub struct AppImage {
     /// The application's name on the card, the DF name, object 84: 5 to 16 bytes.
@@ -55,4 +65,33 @@ pub struct AppImage {
     pub mac_key: Key16,
     /// The master key for enciphered data of script commands (EMV 4.3 Book 2 section 9.3).
     pub enc_key: Key16,
+}
+
+impl Model for AppImage {
+    ghost use Rattle.std.specs.Prelude.{option_map};
+    ghost use Rattle.card_files.specs.Views.{AppData};
+
+    ghost Value = { AppData };
+
+    ghost view = { λ a. record {
+      name = a.name;
+      label = a.label.items;
+      priority = a.priority;
+      pdol = option_map (λ list. list.items) a.pdol;
+      aip = a.aip;
+      afl = a.afl.items;
+      gpo_format = a.gpo_format;
+      ac_format = a.ac_format;
+      cdol1 = a.cdol1.items;
+      cdol2 = a.cdol2.items;
+      records = a.records.items;
+      pan = a.pan;
+      sequence = a.sequence;
+      currency = a.currency;
+      opening = a.opening;
+      tries = a.tries;
+      ac_key = a.ac_key;
+      mac_key = a.mac_key;
+      enc_key = a.enc_key;
+    } };
 }

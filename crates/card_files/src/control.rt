@@ -4,7 +4,6 @@ ghost use Rattle.arrayvec.specs.ArrayVec.{array_vec_len};
 ghost use Rattle.ber_tlv.specs.Tag.{is_readable};
 ghost use Rattle.ber_tlv.specs.Written.{written};
 ghost use Rattle.card_files.specs.Control.{written_some, one_byte, proprietary as proprietary_of, fci_bytes};
-ghost use Rattle.card_files.specs.SeenApp.{seen_app};
 
 use crate::app::AppImage;
 use arrayvec::ArrayVec;
@@ -40,7 +39,7 @@ fn put_priority(out: &mut ArrayVec<u8, 240>, priority: Option<u8>)
 #[tactic(auto, unfolding(ber_tlv::specs::Written::written))]
 fn put_pdol(out: &mut ArrayVec<u8, 240>, pdol: &Option<Vec<u8>>)
     requires room { array_vec_len out.old ≤ 36 }
-    requires short { IfSome pdol.now (λ list. length list.items ≤ 200) }
+    requires short { IfSome (option_map (λ list. list.items) pdol.now) (λ list. length list ≤ 200) }
     ensures items { out.new.items ≡ out.old.items ++ written_some 0x9F38 (option_map (λ list. list.items) pdol.now) }
     ensures len { array_vec_len out.new ≤ array_vec_len out.old + 204 }
 {
@@ -52,11 +51,11 @@ fn put_pdol(out: &mut ArrayVec<u8, 240>, pdol: &Option<Vec<u8>>)
 }
 
 /// The proprietary template's value.
-#[tactic(auto, unfolding(crate::specs::Control::proprietary, crate::specs::SeenApp::seen_app))]
+#[tactic(auto, unfolding(crate::specs::Control::proprietary))]
 fn proprietary(app: &AppImage) -> ArrayVec<u8, 240>
-    requires label { length app.now.label.items ≤ 16 }
-    requires pdol { IfSome app.now.pdol (λ list. length list.items ≤ 200) }
-    ensures items { result.items ≡ proprietary_of (seen_app app.now) }
+    requires label { length app.now.label ≤ 16 }
+    requires pdol { IfSome app.now.pdol (λ list. length list ≤ 200) }
+    ensures items { result.items ≡ proprietary_of app.now }
     ensures len { array_vec_len result ≤ 227 }
 {
     let mut out = ArrayVec::new();
@@ -67,11 +66,11 @@ fn proprietary(app: &AppImage) -> ArrayVec<u8, 240>
 }
 
 /// Replaces `out` by the file control information.
-#[tactic(auto, unfolding(crate::specs::Control::fci_bytes, crate::specs::SeenApp::seen_app))]
+#[tactic(auto, unfolding(crate::specs::Control::fci_bytes))]
 pub(crate) fn write_fci(app: &AppImage, out: &mut ArrayVec<u8, 256>)
-    requires label { length app.now.label.items ≤ 16 }
-    requires pdol { IfSome app.now.pdol (λ list. length list.items ≤ 200) }
-    ensures { out.new.items ≡ fci_bytes (seen_app app.now) }
+    requires label { length app.now.label ≤ 16 }
+    requires pdol { IfSome app.now.pdol (λ list. length list ≤ 200) }
+    ensures { out.new.items ≡ fci_bytes app.now }
 {
     let value = proprietary(app);
     let mut template: ArrayVec<u8, 252> = ArrayVec::new();

@@ -4,7 +4,6 @@ ghost use Rattle.std.specs.List.{list_any};
 ghost use Rattle.std.specs.Str.{bytes_eq};
 ghost use Rattle.card_files.specs.Faults as spec;
 ghost use Rattle.card_files.specs.Faults.{first_broken, file_lines, state_lines, app_fault, field_fault, name_fault, image_fault, OfField};
-ghost use Rattle.card_files.specs.SeenApp.{seen_app, seen_apps};
 ghost use Rattle.card_files.specs.SeenFault.{seen_fault};
 
 use crate::app::AppImage;
@@ -30,9 +29,9 @@ pub enum ImageFault {
 }
 
 /// The first key of the application's files that is against its rule.
-#[tactic(auto, unfolding(crate::specs::Faults::file_lines, crate::specs::SeenApp::seen_app))]
+#[tactic(auto, unfolding(crate::specs::Faults::file_lines))]
 fn first_file_key(app: &AppImage) -> Option<&'static str>
-    ensures key { option_copied result ≡ first_broken (file_lines (seen_app app.now)) }
+    ensures key { option_copied result ≡ first_broken (file_lines app.now) }
     ensures short { IfSome result (λ key. length key.now ≤ 16) }
 {
     if !is_name(app.name.as_slice()) {
@@ -66,9 +65,9 @@ fn first_file_key(app: &AppImage) -> Option<&'static str>
 }
 
 /// The first key of the application's account and state that is against its rule.
-#[tactic(auto, unfolding(crate::specs::Faults::state_lines, crate::specs::SeenApp::seen_app))]
+#[tactic(auto, unfolding(crate::specs::Faults::state_lines))]
 fn first_state_key(app: &AppImage) -> Option<&'static str>
-    ensures key { option_copied result ≡ first_broken (state_lines (seen_app app.now)) }
+    ensures key { option_copied result ≡ first_broken (state_lines app.now) }
     ensures short { IfSome result (λ key. length key.now ≤ 16) }
 {
     if !is_pan_length(app.pan.len()) {
@@ -98,7 +97,7 @@ fn first_state_key(app: &AppImage) -> Option<&'static str>
 /// The first key of the application that is against its rule.
 #[tactic(auto, unfolding(crate::specs::Faults::app_fault), using(crate::proofs::FaultLemmas::first_broken_append))]
 fn first_key(app: &AppImage) -> Option<&'static str>
-    ensures key { option_copied result ≡ app_fault (seen_app app.now) }
+    ensures key { option_copied result ≡ app_fault app.now }
     ensures short { IfSome result (λ key. length key.now ≤ 16) }
 {
     match first_file_key(app) {
@@ -120,7 +119,7 @@ fn key_bytes(key: &str) -> ArrayVec<u8, 16>
 
 /// The application's first key that is against its rule, as a fault of the application of this number.
 fn field_of(number: u8, app: &AppImage) -> Option<ImageFault>
-    ensures { option_map seen_fault result ≡ option_map (OfField number) (app_fault (seen_app app.now)) }
+    ensures { option_map seen_fault result ≡ option_map (OfField number) (app_fault app.now) }
 {
     match first_key(app) {
         Some(key) => Some(ImageFault::Field {
@@ -134,7 +133,7 @@ fn field_of(number: u8, app: &AppImage) -> Option<ImageFault>
 /// The first key of any application, the applications counted from this number on.
 fn first_field(number: u8, apps: &[AppImage]) -> Option<ImageFault>
     requires { number + length apps.now ≤ 4 }
-    ensures { option_map seen_fault result ≡ field_fault number (seen_apps apps.now) }
+    ensures { option_map seen_fault result ≡ field_fault number apps.now }
 {
     match apps {
         [] => None,
@@ -145,28 +144,20 @@ fn first_field(number: u8, apps: &[AppImage]) -> Option<ImageFault>
     }
 }
 
-#[tactic(auto, unfolding(crate::specs::SeenApp::seen_app))]
 fn has_name(app: &AppImage, name: &[u8]) -> bool
-    ensures { result ≡ bytes_eq (seen_app app.now).name name.now }
+    ensures { result ≡ bytes_eq app.now.name name.now }
 {
     app.name.as_slice() == name
 }
 
-fn any_named(apps: &[AppImage], name: &[u8]) -> bool
-    ensures { result ≡ list_any (λ other. bytes_eq (seen_app other).name name.now) apps.now }
+fn is_named(apps: &[AppImage], name: &[u8]) -> bool
+    ensures { result ≡ list_any (λ other. bytes_eq other.name name.now) apps.now }
 {
     apps.iter().any(|other| has_name(other, name))
 }
 
-fn is_named(apps: &[AppImage], name: &[u8]) -> bool
-    ensures { result ≡ list_any (λ other. bytes_eq other.name name.now) (seen_apps apps.now) }
-{
-    any_named(apps, name)
-}
-
-#[tactic(auto, unfolding(crate::specs::SeenApp::seen_app))]
 fn is_repeated(apps: &[AppImage], app: &AppImage) -> bool
-    ensures { result ≡ list_any (λ other. bytes_eq other.name (seen_app app.now).name) (seen_apps apps.now) }
+    ensures { result ≡ list_any (λ other. bytes_eq other.name app.now.name) apps.now }
 {
     is_named(apps, app.name.as_slice())
 }
@@ -174,7 +165,7 @@ fn is_repeated(apps: &[AppImage], app: &AppImage) -> bool
 /// The first application whose name an earlier one has.
 fn first_same_name(apps: &[AppImage]) -> Option<ImageFault>
     requires { length apps.now ≤ 4 }
-    ensures { option_map seen_fault result ≡ name_fault [] (seen_apps apps.now) }
+    ensures { option_map seen_fault result ≡ name_fault [] apps.now }
 {
     for i in 0..apps.len() {
         if is_repeated(&apps[..i], &apps[i]) {
@@ -188,7 +179,7 @@ fn first_same_name(apps: &[AppImage]) -> Option<ImageFault>
 /// applications in order; else the first name that an earlier application has.
 #[tactic(auto, unfolding(crate::specs::Faults::image_fault))]
 pub(crate) fn first_fault(apps: &[AppImage]) -> Option<ImageFault>
-    ensures { option_map seen_fault result ≡ image_fault (seen_apps apps.now) }
+    ensures { option_map seen_fault result ≡ image_fault apps.now }
 {
     if apps.is_empty() || apps.len() > 4 {
         return Some(ImageFault::Count(apps.len()));

@@ -4,15 +4,13 @@ ghost use Rattle.std.specs.List.{list_any, list_all};
 ghost use Rattle.card_files.specs.AppRules.{is_record};
 ghost use Rattle.card_files.specs.Files as spec;
 ghost use Rattle.card_files.specs.Files.{has_record_of};
-ghost use Rattle.card_files.specs.Seen.{seen_record, seen_records};
 
 use crate::app::RecordImage;
 
 /// The bytes of the record of a file with this number.
-#[tactic(auto, unfolding(crate::specs::Seen::seen_record))]
 pub(crate) fn record_in(records: &[RecordImage], sfi: u8, number: u8) -> Option<&[u8]>
-    requires { IsTrue (list_all is_record (seen_records records.now)) }
-    ensures exact { option_map (λ bytes. bytes.now) result ≡ spec.record_in sfi number (seen_records records.now) }
+    requires { IsTrue (list_all is_record records.now) }
+    ensures exact { option_map (λ bytes. bytes.now) result ≡ spec.record_in sfi number records.now }
     ensures size { IfSome result (λ bytes. (1 ≤ length bytes.now) × (length bytes.now ≤ 256)) }
 {
     match records {
@@ -26,16 +24,9 @@ pub(crate) fn record_in(records: &[RecordImage], sfi: u8, number: u8) -> Option<
     }
 }
 
-#[tactic(auto, unfolding(crate::specs::Seen::seen_record))]
-fn any_of_file(records: &[RecordImage], sfi: u8) -> bool
-    ensures { result ≡ list_any (λ r. (seen_record r).sfi == sfi) records.now }
-{
-    records.iter().any(|r| r.sfi == sfi)
-}
-
 /// Whether any record of the file is there.
 pub(crate) fn is_file(records: &[RecordImage], sfi: u8) -> bool
-    ensures { result ≡ has_record_of sfi (seen_records records.now) }
+    ensures { result ≡ has_record_of sfi records.now }
 {
-    any_of_file(records, sfi)
+    records.iter().any(|r| r.sfi == sfi)
 }

@@ -6,7 +6,6 @@ ghost use Rattle.card_files.specs.Faults.{image_fault};
 ghost use Rattle.card_files.specs.Files as spec;
 ghost use Rattle.card_files.specs.Files.{record_of, HasRecord, opening_of};
 ghost use Rattle.card_files.specs.Kept.{KeepsRules, IsImage};
-ghost use Rattle.card_files.specs.SeenApp.{seen_app, seen_apps};
 ghost use Rattle.card_files.specs.SeenFault.{seen_fault};
 
 use crate::app::AppImage;
@@ -30,13 +29,12 @@ impl Model for Image {
 
     ghost Value = { List AppData };
 
-    ghost use Rattle.std.specs.Prelude.{◌≡◌, [], None};
+    ghost use Rattle.std.specs.Prelude.{◌≡◌, None};
     ghost use Rattle.card_files.specs.Faults.{image_fault};
-    ghost use Rattle.card_files.specs.SeenApp.{seen_apps};
 
-    ghost view = { λ image. seen_apps image.apps.items };
+    ghost view = { λ image. image.apps.items };
 
-    ghost invariant = { λ image. image_fault (seen_apps image.apps.items) ≡ None };
+    ghost invariant = { λ image. image_fault image.apps.items ≡ None };
 }
 
 impl Image {
@@ -47,10 +45,10 @@ impl Image {
     /// such a key, `SameName` comes for the first one whose name an earlier one has. No memory is taken.
     pub fn new(apps: Vec<AppImage>) -> Result<Image, ImageFault>
         ensures exact { MatchResult result
-            (λ image. (image ≡ seen_apps apps.items) × (image_fault (seen_apps apps.items) ≡ None))
-            (λ fault. image_fault (seen_apps apps.items) ≡ Some (seen_fault fault)) }
+            (λ image. (image ≡ apps.items) × (image_fault apps.items ≡ None))
+            (λ fault. image_fault apps.items ≡ Some (seen_fault fault)) }
         ensures image { IfOk result IsImage }
-        ensures all { IsImage (seen_apps apps.items) → IsOk result }
+        ensures all { IsImage apps.items → IsOk result }
     {
         match first_fault(&apps) {
             Some(fault) => Err(fault),
@@ -60,28 +58,27 @@ impl Image {
 
     /// The applications, in order.
     pub fn apps(&self) -> &[AppImage]
-        ensures apps { seen_apps result.now ≡ self.now }
+        ensures apps { result.now ≡ self.now }
         ensures faultless { image_fault self.now ≡ None }
         ensures image { IsImage self.now }
         ensures count { length result.now ≡ length self.now }
         ensures some { 1 ≤ length result.now }
         ensures few { length result.now ≤ 4 }
-        ensures rules { All (λ app. KeepsRules (seen_app app)) result.now }
+        ensures rules { All KeepsRules result.now }
     {
         &self.apps
     }
 
     /// The application of this number, where there is one.
     fn find(&self, app: u8) -> Option<&AppImage>
-        ensures found { option_map (λ image. seen_app image.now) result ≡ slice_get self.now app }
-        ensures rules { IfSome result (λ image. KeepsRules (seen_app image.now)) }
+        ensures found { option_map (λ image. image.now) result ≡ slice_get self.now app }
+        ensures rules { IfSome result (λ image. KeepsRules image.now) }
     {
         self.apps().get(usize::from(app))
     }
 
     /// The bytes of the record of this number in a file of an application; `None` where there is no
     /// such application, file or number.
-    #[tactic(auto, unfolding(crate::specs::SeenApp::seen_app))]
     pub fn record(&self, app: u8, sfi: u8, number: u8) -> Option<&[u8]>
         ensures exact { option_map (λ bytes. bytes.now) result ≡ record_of self.now app sfi number }
         ensures held { IfSome result (λ bytes. HasRecord self.now app sfi number bytes.now) }
@@ -96,7 +93,6 @@ impl Image {
     }
 
     /// Whether an application has a file of this identifier.
-    #[tactic(auto, unfolding(crate::specs::SeenApp::seen_app))]
     pub fn has_file(&self, app: u8, sfi: u8) -> bool
         ensures value { result ≡ spec.has_file self.now app sfi }
         ensures some { IsTrue result

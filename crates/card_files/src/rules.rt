@@ -4,7 +4,6 @@ ghost use Rattle.std.specs.List.{list_all, list_any};
 ghost use Rattle.emv_dict.specs.Digits.{least_pin, most_pin};
 ghost use Rattle.pin_block.specs.Block.{IsPin, block_of};
 ghost use Rattle.card_files.specs.AppRules as spec;
-ghost use Rattle.card_files.specs.Seen.{seen_record, seen_records};
 
 use crate::app::RecordImage;
 use card_state::AppState;
@@ -53,45 +52,31 @@ pub fn is_format(number: u8) -> bool
 }
 
 /// Whether a file's identifier is 1 to 30, the record's number 1 to 255, and its size 1 to 256 bytes.
-#[tactic(auto, unfolding(crate::specs::Seen::seen_record))]
 pub fn is_record(image: &RecordImage) -> bool
-    ensures { result ≡ spec.is_record (seen_record image.now) }
+    ensures { result ≡ spec.is_record image.now }
 {
     (1 <= image.sfi && image.sfi <= 30)
         && 1 <= image.number
         && (!image.bytes.is_empty() && image.bytes.len() <= 256)
 }
 
-fn all_records(images: &[RecordImage]) -> bool
-    ensures { result ≡ list_all (λ r. spec.is_record (seen_record r)) images.now }
-{
-    images.iter().all(is_record)
-}
-
 /// Whether the two records have one number in one file.
-#[tactic(auto, unfolding(crate::specs::Seen::seen_record))]
 pub fn is_pair(first: &RecordImage, second: &RecordImage) -> bool
-    ensures { result ≡ spec.is_pair (seen_record first.now) (seen_record second.now) }
+    ensures { result ≡ spec.is_pair first.now second.now }
 {
     first.sfi == second.sfi && first.number == second.number
 }
 
-fn any_pair(image: &RecordImage, images: &[RecordImage]) -> bool
-    ensures { result ≡ list_any (λ other. spec.is_pair (seen_record image.now) (seen_record other)) images.now }
+/// Whether any of these records has the number of this one in its file.
+pub fn is_among(image: &RecordImage, images: &[RecordImage]) -> bool
+    ensures { result ≡ list_any (spec.is_pair image.now) images.now }
 {
     images.iter().any(|other| is_pair(image, other))
 }
 
-/// Whether any of these records has the number of this one in its file.
-pub fn is_among(image: &RecordImage, images: &[RecordImage]) -> bool
-    ensures { result ≡ list_any (spec.is_pair (seen_record image.now)) (seen_records images.now) }
-{
-    any_pair(image, images)
-}
-
 /// Whether any two records have one number in one file.
 pub fn has_twins(images: &[RecordImage]) -> bool
-    ensures { result ≡ spec.has_twins (seen_records images.now) }
+    ensures { result ≡ spec.has_twins images.now }
 {
     match images {
         [] => false,
@@ -100,15 +85,15 @@ pub fn has_twins(images: &[RecordImage]) -> bool
 }
 
 fn each_record(images: &[RecordImage]) -> bool
-    ensures { result ≡ list_all spec.is_record (seen_records images.now) }
+    ensures { result ≡ list_all spec.is_record images.now }
 {
-    all_records(images)
+    images.iter().all(is_record)
 }
 
 /// Whether these may be an application's records: at most 64, each in its limits, and no two of one
 /// number in one file.
 pub fn are_records(images: &[RecordImage]) -> bool
-    ensures { result ≡ spec.are_records (seen_records images.now) }
+    ensures { result ≡ spec.are_records images.now }
 {
     images.len() <= MOST_RECORDS && (each_record(images) && !has_twins(images))
 }

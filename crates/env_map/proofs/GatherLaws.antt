@@ -1,5 +1,5 @@
 -- What a map has after the primitive objects of a walk were put.
-use Rattle.std.proofs.Common.{◌≡◌, ◌≢◌, ℕ, Bool, true, false, ◌+◌, ◌==◌, nat_lt, nat_le, if◌then◌else◌, List, [], ◌∷◌, length, Option, Some, None, is_some, Result, Ok, Err, refl, arith, sym, ap, ◌∙◌, subst, OnOk}
+use Rattle.std.proofs.Common.{◌≡◌, ◌≢◌, ℕ, Bool, true, false, if◌then◌else◌, List, ◌∷◌, Option, Some, None, is_some, Result, Ok, Err, refl, sym, ap, ◌∙◌, subst, OnOk}
 use Rattle.std.specs.List.{AllByRecursion}
 use Rattle.std.specs.Result.{result_err}
 use Rattle.env_map.specs.declared.gathering.GatherFault.{GatherFault}
@@ -7,12 +7,12 @@ use Rattle.ber_tlv.specs.Item.{ItemData}
 use Rattle.ber_tlv.specs.Tag.{names_template}
 use Rattle.ber_tlv.specs.Walked.{Walked, Done, Broken, Met}
 use Rattle.ber_tlv.specs.declared.tag.Tag.{Tag}
-use Rattle.env_map.specs.Entries.{Entries, value_of, with_entry, size_of_values}
-use Rattle.env_map.specs.Gathered.{Gathered, primitives, gathered, after_put}
+use Rattle.env_map.specs.Entries.{Entries, value_of}
+use Rattle.env_map.specs.Gathered.{primitives, gathered, after_put}
 use Rattle.env_map.specs.Put.{put_of}
 use Rattle.env_map.specs.declared.env.EnvFault.{EnvFault}
-use Rattle.env_map.specs.declared.env.EnvFault.TheVariants.{Repeated, TooMany, TooLong}
-use Rattle.env_map.proofs.EntryLemmas.{Puts, put_of-puts}
+use Rattle.env_map.specs.declared.env.EnvFault.TheVariants.{Repeated}
+use Rattle.env_map.proofs.EntryLemmas.{put_of-puts}
 
 new_at : (found : Option (List ℕ)) (tag : Tag) (rest : Result Entries EnvFault) (new : Entries) → (if is_some found then Err (Repeated tag) else rest) ≡ Ok new → found ≡ None
 new_at None tag rest new e = refl

@@ -1,6 +1,6 @@
 -- What was read is spelled by the bytes that were passed over.
-use Rattle.std.proofs.Common.{◌≡◌, ℕ, zero, suc, ◌+◌, ◌<◌, ◌≤◌, List, [], ◌∷◌, ◌++◌, length, drop, Option, Some, None, slice_get, refl, arith, sym, ap, ◌∙◌, subst, append_assoc, append-nil, length-append, length-drop}
-use Rattle.ber_tlv.specs.Spelled.{Spelled, IsCutTag, HasLongTag, StopsTag}
+use Rattle.std.proofs.Common.{◌≡◌, ℕ, zero, suc, ◌+◌, ◌<◌, List, [], ◌∷◌, ◌++◌, length, drop, Some, None, slice_get, refl, arith, sym, ap, ◌∙◌, append_assoc, append-nil, length-append, length-drop}
+use Rattle.ber_tlv.specs.Spelled.{Spelled, StopsTag}
 use Rattle.ber_tlv.specs.Written.{tag_bytes}
 use Rattle.ber_tlv.specs.declared.item.TlvFault.{TlvFault}
 use Rattle.ber_tlv.specs.declared.item.TlvFault.TheVariants as tlv
@@ -8,7 +8,7 @@ use Rattle.ber_tlv.proofs.Spelling.{drop-at, drop-past}
 use Rattle.object_lists.specs.DolEntries.{DolEntry, fault_of_tag}
 use Rattle.object_lists.specs.DolSpelled.{entry_bytes, dol_bytes, SpelledEntry, IsCutEntry, StopsEntry, FaultBehindEntries}
 use Rattle.object_lists.specs.declared.dol.DolFault.{DolFault}
-use Rattle.object_lists.specs.declared.dol.DolFault.TheVariants.{Truncated, LongTag}
+use Rattle.object_lists.specs.declared.dol.DolFault.TheVariants.{Truncated}
 
 -- a tag, and the byte behind it
 pub entry_spelled : (bytes : List ℕ) (start tag next count : ℕ) → Spelled bytes start tag next → slice_get bytes next ≡ Some count

@@ -1,5 +1,5 @@
 -- What a terminal has of a card once its records are read.
-use Rattle.std.specs.Prelude.{◌≡◌, ℕ, List, [], Some, Ok, Result, Err, option_and_then, Option, None, unwrap_or}
+use Rattle.std.specs.Prelude.{◌≡◌, ℕ, List, [], Some, option_and_then, unwrap_or}
 use Rattle.std.specs.Result.{result_ok}
 use Rattle.emv_dict.specs.Pan.{pan_of}
 use Rattle.env_map.specs.Entries.{Entries, value_of}

@@ -1,17 +1,10 @@
--- The names of applications and of cards.
+-- The names of cards.
 use Rattle.std.proofs.Common.{◌≡◌, ℕ, suc, List, [], ◌∷◌, length, Bool, ◌||◌, refl, ap}
 use Rattle.std.specs.List.{list_any}
 use Rattle.std.specs.Str.{bytes_eq}
-use Rattle.card_files.specs.SeenApp.{seen_app, seen_apps}
-use Rattle.card_files.specs.declared.app.AppImage.{AppImage}
-use Rattle.scenario.specs.Cards.{has_name, is_named, card_names}
+use Rattle.scenario.specs.Cards.{is_named, card_names}
 use Rattle.scenario.specs.Seen.{names_of, seen_card, seen_cards}
 use Rattle.scenario.specs.declared.plan.NamedImage.{NamedImage}
-
-pub has_name_seen : (name : List ℕ) (apps : List AppImage) → list_any (λ a. bytes_eq a.name name) apps ≡ has_name name (seen_apps apps)
-unfolding has_name seen_app
-has_name_seen name [] = refl
-has_name_seen name (a ∷ apps) = ap (λ (b : Bool). bytes_eq a.name name || b) (has_name_seen name apps)
 
 pub is_named_seen : (name : List ℕ) (cards : List NamedImage) → list_any (λ c. bytes_eq c.name.items name) cards ≡ is_named name (seen_cards cards)
 unfolding is_named seen_card

@@ -11,11 +11,8 @@ use Rattle.card_files.proofs.OwnNames.{not_taken}
 use Rattle.card_files.proofs.Records.{are_apart-push}
 use Rattle.card_files.specs.AppRules.{has_size, is_printable, is_label, are_apart}
 use Rattle.card_files.specs.Kept.{KeepsRules}
-use Rattle.card_files.specs.Seen.{seen_record, seen_records}
-use Rattle.card_files.specs.SeenApp.{seen_app, seen_apps}
 use Rattle.card_files.specs.Views.{AppData}
-use Rattle.card_files.specs.declared.app.AppImage.{AppImage}
-use Rattle.card_files.specs.declared.app.RecordImage.{RecordImage}
+use Rattle.card_files.specs.Views.{RecordData}
 use Rattle.issuer_host.specs.declared.keys.HostKeys.{HostKeys}
 use Rattle.scenario_fields.specs.Value.{is_one_of}
 use Rattle.scenario_fields.specs.declared.spot.Characters.TheVariants.{Printable}
@@ -24,10 +21,10 @@ use Rattle.scenario.specs.Cards.{FilesData, HolderData, CountersData, AccessData
 use Rattle.scenario.specs.Seen.{seen_card, seen_cards}
 use Rattle.scenario.specs.declared.plan.NamedImage.{NamedImage}
 
-pub records_apart : (old new : List RecordImage) (r : RecordImage) → new ≡ old ++ r ∷ [] → IsTrue (are_apart (seen_records old))
-    → IsNewRecord (seen_records old) (seen_record r) → IsTrue (are_apart (seen_records new))
+pub records_apart : (old new : List RecordData) (r : RecordData) → new ≡ old ++ r ∷ [] → IsTrue (are_apart old)
+    → IsNewRecord old r → IsTrue (are_apart new)
 records_apart old new r pushed apart is =
-    rw (pushed, map-append) (are_apart-push (seen_records old) (seen_record r) apart is.in_limits is.first)
+    rw pushed (are_apart-push old r apart is.in_limits is.first)
 
 pub label_passes : (text : List ℕ) → (1 ≤ length text) × (length text ≤ 16) → All (λ c. IsTrue (is_one_of Printable c)) text → IsTrue (is_label text)
 label_passes text within all =
@@ -67,16 +64,16 @@ is_new keys files holder counters access earlier app same f h c a first =
     record { rules = app_keeps keys files holder counters access f h c a; first = first } in
     subst (λ (x : AppData). IsNewApp earlier x) (sym same) new
 
-pub apps_keep : (old new : List AppImage) (app : AppImage) → new ≡ old ++ app ∷ [] → All KeepsRules (seen_apps old)
-    → IsNewApp (seen_apps old) (seen_app app) → All KeepsRules (seen_apps new)
-apps_keep old new app pushed keep is = rw (pushed, map-append) (All-push KeepsRules (seen_apps old) (seen_app app) keep is.rules)
+pub apps_keep : (old new : List AppData) (app : AppData) → new ≡ old ++ app ∷ [] → All KeepsRules old
+    → IsNewApp old app → All KeepsRules new
+apps_keep old new app pushed keep is = rw pushed (All-push KeepsRules old app keep is.rules)
 
-pub app_names_differ : (old new : List AppImage) (app : AppImage) → new ≡ old ++ app ∷ [] → AllPairs (λ a b. a.name ≢ b.name) (seen_apps old)
-    → IsNewApp (seen_apps old) (seen_app app) → AllPairs (λ a b. a.name ≢ b.name) (seen_apps new)
+pub app_names_differ : (old new : List AppData) (app : AppData) → new ≡ old ++ app ∷ [] → AllPairs (λ a b. a.name ≢ b.name) old
+    → IsNewApp old app → AllPairs (λ a b. a.name ≢ b.name) new
 unfolding has_name
 app_names_differ old new app pushed differ is =
-    rw (pushed, map-append)
-    (all_pairs_push (λ a b. a.name ≢ b.name) (seen_apps old) (seen_app app) differ (not_taken (λ a. a.name) (seen_app app).name (seen_apps old) is.first))
+    rw pushed
+    (all_pairs_push (λ a b. a.name ≢ b.name) old app differ (not_taken (λ a. a.name) app.name old is.first))
 
 pub cards_keep : (old new : List NamedImage) (card : NamedImage) → new ≡ old ++ card ∷ [] → All IsCard (seen_cards old)
     → IsNewCard (seen_cards old) (seen_card card) → All IsCard (seen_cards new)

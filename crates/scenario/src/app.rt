@@ -5,7 +5,6 @@ ghost use Rattle.std.specs.Str.{bytes_eq};
 ghost use Rattle.emv_dict.specs.Bcd.{has_digits};
 ghost use Rattle.card_files.specs.AppRules.{is_name, is_label, is_format};
 ghost use Rattle.card_files.specs.Lists.{has_all, holds_all, entries_within, is_optional_pdol, most_cdol};
-ghost use Rattle.card_files.specs.SeenApp.{seen_app, seen_apps};
 ghost use Rattle.toml.specs.View.{view, table_view};
 ghost use Rattle.scenario_fields.specs.Fault.{Gives};
 ghost use Rattle.scenario_fields.specs.Fields.{only, text_at, listed_or, number_or, optional_number};
@@ -14,7 +13,7 @@ ghost use Rattle.scenario.specs.Cards as spec;
 ghost use Rattle.scenario.specs.Cards.{list_of, pdol_at as pdol_found, cdol_at as cdol_found, app_keys, app_of, app_item as item_of, files_of, sequence_at as sequence_found, holder_of, counters_of, access_of, app_with, opening_of, own_or};
 ghost use Rattle.scenario.specs.CardRules.{KeepsFiles, KeepsHolder, KeepsCounters, KeepsAccess, IsNewApp};
 ghost use Rattle.scenario_fields.specs.declared.spot.Characters.TheVariants.{Printable};
-ghost use Rattle.scenario.specs.SeenCards.{seen_files, seen_holder, seen_counters, seen_access, wanted_by};
+ghost use Rattle.scenario.specs.SeenCards.{wanted_by};
 
 use crate::record::records_at;
 use card_files::lists::{MOST_CDOL, MOST_DATA, MOST_PDOL, has_cdol1_entries, has_cdol2_entries};
@@ -27,6 +26,7 @@ use issuer_host::HostKeys;
 use object_lists::{Dol, read_dol, total};
 use scenario_fields::{Characters, Fields, Place, ScenarioFault, Spot};
 use std::alloc::Global;
+use std::marker::Model;
 use toml::{Table, Value};
 use triple_des::Key16;
 
@@ -120,17 +120,12 @@ fn cdol_at(
     Ok(bytes)
 }
 
-fn any_has(name: &[u8], apps: &[AppImage]) -> bool
-    ensures { result ≡ list_any (λ a. bytes_eq a.name name.now) apps.now }
+/// Whether an application has this name.
+#[tactic(auto, unfolding(crate::specs::Cards::has_name))]
+fn has_name(name: &[u8], apps: &[AppImage]) -> bool
+    ensures { result ≡ spec.has_name name.now apps.now }
 {
     apps.iter().any(|app| app.name.as_slice() == name)
-}
-
-/// Whether an application has this name.
-fn has_name(name: &[u8], apps: &[AppImage]) -> bool
-    ensures { result ≡ spec.has_name name.now (seen_apps apps.now) }
-{
-    any_has(name, apps)
 }
 
 /// A name that no earlier application has.
@@ -142,9 +137,9 @@ fn new_name(
     earlier: &[AppImage],
     table: &Table,
 ) -> Result<Name, ScenarioFault>
-    ensures exact { Gives (λ name. name) result (spec.new_name card index (seen_apps earlier.now) (table_view table.now)) }
+    ensures exact { Gives (λ name. name) result (spec.new_name card index earlier.now (table_view table.now)) }
     ensures rule { IfOk result (λ name. IsTrue (is_name name)) }
-    ensures first { IfOk result (λ name. spec.has_name name (seen_apps earlier.now) ≡ false) }
+    ensures first { IfOk result (λ name. spec.has_name name earlier.now ≡ false) }
 {
     let fields = Fields {
         alloc,
@@ -192,6 +187,27 @@ pub struct Files {
     records: Vec<RecordImage>,
 }
 
+impl Model for Files {
+    ghost use Rattle.std.specs.Prelude.{option_map};
+    ghost use Rattle.scenario.specs.Cards.{FilesData};
+
+    ghost Value = { FilesData };
+
+    ghost view = { λ x. record {
+      name = x.name;
+      label = x.label.items;
+      priority = x.priority;
+      pdol = option_map (λ list. list.items) x.pdol;
+      aip = x.aip;
+      afl = x.afl.items;
+      gpo_format = x.gpo_format;
+      ac_format = x.ac_format;
+      cdol1 = x.cdol1.items;
+      cdol2 = x.cdol2.items;
+      records = x.records.items;
+    } };
+}
+
 /// The application priority indicator, where there is one.
 fn priority_at(fields: &Fields) -> Result<Option<u8>, ScenarioFault>
     ensures { Gives (λ o. o) result (optional_number (path fields.now.place) (codes "priority") 0 255 (table_view fields.now.table.now)) }
@@ -203,7 +219,7 @@ fn priority_at(fields: &Fields) -> Result<Option<u8>, ScenarioFault>
 }
 
 /// The keys up to the records.
-#[tactic(auto, unfolding(crate::specs::Cards::files_of, crate::specs::SeenCards::seen_files))]
+#[tactic(auto, unfolding(crate::specs::Cards::files_of))]
 fn read_files(
     alloc: Global,
     card: usize,
@@ -211,9 +227,9 @@ fn read_files(
     earlier: &[AppImage],
     table: &Table,
 ) -> Result<Files, ScenarioFault>
-    ensures exact { Gives seen_files result (files_of card index (seen_apps earlier.now) (table_view table.now)) }
-    ensures rules { IfOk result (λ files. KeepsFiles (seen_files files)) }
-    ensures first { IfOk result (λ files. spec.has_name files.name (seen_apps earlier.now) ≡ false) }
+    ensures exact { Gives (λ x. x) result (files_of card index earlier.now (table_view table.now)) }
+    ensures rules { IfOk result (λ files. KeepsFiles files) }
+    ensures first { IfOk result (λ files. spec.has_name files.name earlier.now ≡ false) }
 {
     let fields = Fields {
         alloc,
@@ -254,8 +270,20 @@ pub struct Holder {
     currency: [u8; 2],
 }
 
+impl Model for Holder {
+    ghost use Rattle.scenario.specs.Cards.{HolderData};
+
+    ghost Value = { HolderData };
+
+    ghost view = { λ x. record {
+      pan = x.pan;
+      sequence = x.sequence;
+      currency = x.currency;
+    } };
+}
+
 /// The counters with which it opens, and its limits.
-#[derive(Clone, Copy)]
+#[derive(Drop)]
 pub struct Counters {
     counter: u16,
     last_online: u16,
@@ -263,13 +291,39 @@ pub struct Counters {
     sum_limit: u64,
 }
 
+impl Model for Counters {
+    ghost use Rattle.scenario.specs.Cards.{CountersData};
+
+    ghost Value = { CountersData };
+
+    ghost view = { λ x. record {
+      counter = x.counter;
+      last_online = x.last_online;
+      count_limit = x.count_limit;
+      sum_limit = x.sum_limit;
+    } };
+}
+
 /// Its PIN as a plain block or zeros, its tries, and its own key, where it has one.
-#[derive(Clone, Copy)]
+#[derive(Drop)]
 pub struct Access {
     pin: [u8; 8],
     tries: u8,
     blocked: bool,
     ac_key: Option<[u8; 16]>,
+}
+
+impl Model for Access {
+    ghost use Rattle.scenario.specs.Cards.{AccessData};
+
+    ghost Value = { AccessData };
+
+    ghost view = { λ x. record {
+      pin = x.pin;
+      tries = x.tries;
+      blocked = x.blocked;
+      ac_key = x.ac_key;
+    } };
 }
 
 /// The sequence number as the byte of its two digits; 00 where the key is absent.
@@ -283,15 +337,15 @@ fn sequence_at(fields: &Fields) -> Result<u8, ScenarioFault>
 }
 
 /// The keys from the PAN to the currency.
-#[tactic(auto, unfolding(crate::specs::Cards::holder_of, crate::specs::SeenCards::seen_holder))]
+#[tactic(auto, unfolding(crate::specs::Cards::holder_of))]
 fn read_holder(
     alloc: Global,
     card: usize,
     index: usize,
     table: &Table,
 ) -> Result<Holder, ScenarioFault>
-    ensures exact { Gives seen_holder result (holder_of card index (table_view table.now)) }
-    ensures rules { IfOk result (λ holder. KeepsHolder (seen_holder holder)) }
+    ensures exact { Gives (λ x. x) result (holder_of card index (table_view table.now)) }
+    ensures rules { IfOk result (λ holder. KeepsHolder holder) }
 {
     let fields = Fields {
         alloc,
@@ -316,15 +370,15 @@ fn counter_at(fields: &Fields, key: &str) -> Result<u16, ScenarioFault>
 }
 
 /// The counters and limits.
-#[tactic(auto, unfolding(crate::specs::Cards::counters_of, crate::specs::SeenCards::seen_counters))]
+#[tactic(auto, unfolding(crate::specs::Cards::counters_of))]
 fn read_counters(
     alloc: Global,
     card: usize,
     index: usize,
     table: &Table,
 ) -> Result<Counters, ScenarioFault>
-    ensures exact { Gives seen_counters result (counters_of card index (table_view table.now)) }
-    ensures rule { IfOk result (λ counters. KeepsCounters (seen_counters counters)) }
+    ensures exact { Gives (λ x. x) result (counters_of card index (table_view table.now)) }
+    ensures rule { IfOk result (λ counters. KeepsCounters counters) }
 {
     let fields = Fields {
         alloc,
@@ -344,15 +398,15 @@ fn read_counters(
 }
 
 /// The keys from the PIN on.
-#[tactic(auto, unfolding(crate::specs::Cards::access_of, crate::specs::SeenCards::seen_access))]
+#[tactic(auto, unfolding(crate::specs::Cards::access_of))]
 fn read_access(
     alloc: Global,
     card: usize,
     index: usize,
     table: &Table,
 ) -> Result<Access, ScenarioFault>
-    ensures exact { Gives seen_access result (access_of card index (table_view table.now)) }
-    ensures rules { IfOk result (λ access. KeepsAccess (seen_access access)) }
+    ensures exact { Gives (λ x. x) result (access_of card index (table_view table.now)) }
+    ensures rules { IfOk result (λ access. KeepsAccess access) }
 {
     let fields = Fields {
         alloc,
@@ -412,7 +466,7 @@ fn own_or(derived: Key16, own: Option<[u8; 16]>) -> Key16
 }
 
 /// The application of its parts; its other keys are derived from the issuer's.
-#[tactic(auto, unfolding(crate::specs::Cards::app_with, crate::specs::SeenCards::seen_files, crate::specs::SeenCards::seen_holder, crate::specs::SeenCards::seen_counters, crate::specs::SeenCards::seen_access, card_files::specs::SeenApp::seen_app))]
+#[tactic(auto, unfolding(crate::specs::Cards::app_with))]
 fn app_with(
     keys: &HostKeys,
     files: Files,
@@ -420,7 +474,7 @@ fn app_with(
     counters: Counters,
     access: Access,
 ) -> AppImage
-    ensures { seen_app result ≡ app_with keys.now (seen_files files) (seen_holder holder) (seen_counters counters) (seen_access access) }
+    ensures { result ≡ app_with keys.now files holder counters access }
 {
     let derived = master_key(&keys.ac, &holder.pan, holder.sequence);
     let mac_key = master_key(&keys.mac, &holder.pan, holder.sequence);
@@ -453,9 +507,9 @@ fn app_with(
 }
 
 /// The state in which an application opens: nothing is counted yet.
-#[tactic(auto, unfolding(crate::specs::Cards::opening_of, crate::specs::SeenCards::seen_counters, crate::specs::SeenCards::seen_access))]
+#[tactic(auto, unfolding(crate::specs::Cards::opening_of))]
 fn opening_of(counters: &Counters, access: &Access) -> AppState
-    ensures { result ≡ opening_of (seen_counters counters.now) (seen_access access.now) }
+    ensures { result ≡ opening_of counters.now access.now }
 {
     let pin = access.pin;
     AppState {
@@ -482,8 +536,8 @@ fn read_app(
     earlier: &[AppImage],
     table: &Table,
 ) -> Result<AppImage, ScenarioFault>
-    ensures exact { Gives seen_app result (app_of card index keys.now (seen_apps earlier.now) (table_view table.now)) }
-    ensures new { IfOk result (λ app. IsNewApp (seen_apps earlier.now) (seen_app app)) }
+    ensures exact { Gives (λ x. x) result (app_of card index keys.now earlier.now (table_view table.now)) }
+    ensures new { IfOk result (λ app. IsNewApp earlier.now app) }
 {
     let fields = Fields {
         alloc,
@@ -508,8 +562,8 @@ pub fn app_item(
     earlier: &[AppImage],
     value: &Value,
 ) -> Result<AppImage, ScenarioFault>
-    ensures exact { Gives seen_app result (item_of card index keys.now (seen_apps earlier.now) (view value.now)) }
-    ensures new { IfOk result (λ app. IsNewApp (seen_apps earlier.now) (seen_app app)) }
+    ensures exact { Gives (λ x. x) result (item_of card index keys.now earlier.now (view value.now)) }
+    ensures new { IfOk result (λ app. IsNewApp earlier.now app) }
 {
     let spot = Spot {
         alloc,

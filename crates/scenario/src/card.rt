@@ -3,7 +3,6 @@ ghost use Rattle.std.specs.Prelude.{◌≡◌, ◌≢◌, ◌≤◌, [], length,
 ghost use Rattle.std.specs.List.{All, AllPairs, list_any};
 ghost use Rattle.std.specs.Str.{bytes_eq};
 ghost use Rattle.card_files.specs.Kept.{KeepsRules, IsImage};
-ghost use Rattle.card_files.specs.SeenApp.{seen_apps};
 ghost use Rattle.toml.specs.View.{view, table_view, items_view};
 ghost use Rattle.scenario_fields.specs.Fault.{Gives};
 ghost use Rattle.scenario_fields.specs.Fields.{only};
@@ -66,10 +65,10 @@ fn read_apps(
     keys: &HostKeys,
     values: &[Value],
 ) -> Result<Vec<AppImage>, ScenarioFault>
-    ensures exact { Gives (λ apps. seen_apps apps.items) result (apps_from card 0 keys.now [] (items_view values.now)) }
+    ensures exact { Gives (λ apps. apps.items) result (apps_from card 0 keys.now [] (items_view values.now)) }
     ensures count { IfOk result (λ apps. vec_len apps ≡ length values.now) }
-    ensures rules { IfOk result (λ apps. All KeepsRules (seen_apps apps.items)) }
-    ensures names { IfOk result (λ apps. AllPairs (λ a b. a.name ≢ b.name) (seen_apps apps.items)) }
+    ensures rules { IfOk result (λ apps. All KeepsRules apps.items) }
+    ensures names { IfOk result (λ apps. AllPairs (λ a b. a.name ≢ b.name) apps.items) }
 {
     let mut apps: Vec<AppImage> = Vec::new(alloc);
     for value in values {
@@ -87,8 +86,8 @@ fn apps_at(
     keys: &HostKeys,
     table: &Table,
 ) -> Result<Vec<AppImage>, ScenarioFault>
-    ensures exact { Gives (λ apps. seen_apps apps.items) result (apps_found card keys.now (table_view table.now)) }
-    ensures image { IfOk result (λ apps. IsImage (seen_apps apps.items)) }
+    ensures exact { Gives (λ apps. apps.items) result (apps_found card keys.now (table_view table.now)) }
+    ensures image { IfOk result (λ apps. IsImage apps.items) }
 {
     let fields = Fields {
         alloc,

@@ -1,7 +1,6 @@
 //! The table of a record.
 ghost use Rattle.std.specs.Prelude.{◌≡◌, [], length, codes, vec_len, IsTrue, IfOk};
 ghost use Rattle.card_files.specs.AppRules.{are_apart, are_records};
-ghost use Rattle.card_files.specs.Seen.{seen_record, seen_records};
 ghost use Rattle.toml.specs.View.{view, table_view, items_view};
 ghost use Rattle.scenario_fields.specs.Fault.{Gives, Tells};
 ghost use Rattle.scenario_fields.specs.Fields.{only};
@@ -45,15 +44,15 @@ fn twin(alloc: Global, at: RecordPlace) -> ScenarioFault
 }
 
 /// A record behind earlier ones: no two of one number in one file.
-#[tactic(auto, unfolding(crate::specs::Cards::record_of, card_files::specs::Seen::seen_record))]
+#[tactic(auto, unfolding(crate::specs::Cards::record_of))]
 fn read_record(
     alloc: Global,
     at: RecordPlace,
     earlier: &[RecordImage],
     table: &Table,
 ) -> Result<RecordImage, ScenarioFault>
-    ensures new { IfOk result (λ r. IsNewRecord (seen_records earlier.now) (seen_record r)) }
-    ensures exact { Gives seen_record result (record_of at.card at.app at.index (seen_records earlier.now) (table_view table.now)) }
+    ensures new { IfOk result (λ r. IsNewRecord earlier.now r) }
+    ensures exact { Gives (λ x. x) result (record_of at.card at.app at.index earlier.now (table_view table.now)) }
 {
     let fields = Fields {
         alloc,
@@ -79,8 +78,8 @@ fn record_item(
     earlier: &[RecordImage],
     value: &Value,
 ) -> Result<RecordImage, ScenarioFault>
-    ensures new { IfOk result (λ r. IsNewRecord (seen_records earlier.now) (seen_record r)) }
-    ensures exact { Gives seen_record result (record_item at.card at.app at.index (seen_records earlier.now) (view value.now)) }
+    ensures new { IfOk result (λ r. IsNewRecord earlier.now r) }
+    ensures exact { Gives (λ x. x) result (record_item at.card at.app at.index earlier.now (view value.now)) }
 {
     let spot = Spot {
         alloc,
@@ -99,9 +98,9 @@ fn read_records(
     app: usize,
     values: &[Value],
 ) -> Result<Vec<RecordImage>, ScenarioFault>
-    ensures exact { Gives (λ records. seen_records records.items) result (records_from card app 0 [] (items_view values.now)) }
+    ensures exact { Gives (λ records. records.items) result (records_from card app 0 [] (items_view values.now)) }
     ensures count { IfOk result (λ records. vec_len records ≡ length values.now) }
-    ensures apart { IfOk result (λ records. IsTrue (are_apart (seen_records records.items))) }
+    ensures apart { IfOk result (λ records. IsTrue (are_apart records.items)) }
 {
     let mut records: Vec<RecordImage> = Vec::new(alloc);
     for value in values {
@@ -124,8 +123,8 @@ pub fn records_at(
     app: usize,
     table: &Table,
 ) -> Result<Vec<RecordImage>, ScenarioFault>
-    ensures exact { Gives (λ records. seen_records records.items) result (records_at card app (table_view table.now)) }
-    ensures rule { IfOk result (λ records. IsTrue (are_records (seen_records records.items))) }
+    ensures exact { Gives (λ records. records.items) result (records_at card app (table_view table.now)) }
+    ensures rule { IfOk result (λ records. IsTrue (are_records records.items)) }
 {
     let fields = Fields {
         alloc,

@@ -1,8 +1,5 @@
 use Rattle.std.proofs.Common.{◌≡◌, ℕ, ◌+◌, ◌<◌, List, [], ◌∷◌, ◌++◌, length, get_or, drop, Result, Ok, ap, sym, subst, ◌∙◌, rules, arith}
-use Rattle.std.proofs.lemmas.List.{map-append}
-use Rattle.card_files.specs.SeenApp.{seen_app, seen_apps}
 use Rattle.card_files.specs.Views.{AppData}
-use Rattle.card_files.specs.declared.app.AppImage.{AppImage}
 use Rattle.issuer_host.specs.declared.keys.HostKeys.{HostKeys}
 use Rattle.toml.proofs.Views.{items_view-drop}
 use Rattle.toml.specs.Data.{Data, Items, item}
@@ -20,26 +17,26 @@ apps_step : (card : ℕ) (keys : HostKeys) (front earlier : List AppData) (i : �
     with_front (front ++ x ∷ []) (apps_from card (i + 1) keys (earlier ++ x ∷ []) ds) ≡ with_front front (apps_from card i keys earlier (item d ds))
 apps_step card keys front earlier i d ds x is = rw is (front_moved front x (apps_from card (i + 1) keys (earlier ++ x ∷ []) ds))
 
-apps_pushed : (card : ℕ) (keys : HostKeys) (i j : ℕ) (vs : List Value) (v : Value) (old new : List AppImage) (x : AppImage) (whole : Result (List AppData) ScenarioFault) →
-    i < length vs → v ≡ get_or vs i v → j ≡ i → new ≡ old ++ x ∷ [] → app_item card j keys (seen_apps old) (view v) ≡ Ok (seen_app x) →
-    with_front (seen_apps old) (apps_from card i keys (seen_apps old) (items_view (drop i vs))) ≡ whole →
-    with_front (seen_apps new) (apps_from card (i + 1) keys (seen_apps new) (items_view (drop (i + 1) vs))) ≡ whole
+apps_pushed : (card : ℕ) (keys : HostKeys) (i j : ℕ) (vs : List Value) (v : Value) (old new : List AppData) (x : AppData) (whole : Result (List AppData) ScenarioFault) →
+    i < length vs → v ≡ get_or vs i v → j ≡ i → new ≡ old ++ x ∷ [] → app_item card j keys old (view v) ≡ Ok x →
+    with_front old (apps_from card i keys old (items_view (drop i vs))) ≡ whole →
+    with_front new (apps_from card (i + 1) keys new (items_view (drop (i + 1) vs))) ≡ whole
 apps_pushed card keys i j vs v old new x whole inside item_is at pushed is before =
-    rw (pushed, map-append)
-    (apps_step card keys (seen_apps old) (seen_apps old) i (view (get_or vs i v)) (items_view (drop (i + 1) vs)) (seen_app x)
-    (subst (λ (k : ℕ). app_item card k keys (seen_apps old) (view (get_or vs i v)) ≡ Ok (seen_app x)) at
-    (subst (λ (w : Value). app_item card j keys (seen_apps old) (view w) ≡ Ok (seen_app x)) item_is is))
-    ∙ (ap (λ (ds : Items). with_front (seen_apps old) (apps_from card i keys (seen_apps old) ds)) (sym (items_view-drop vs i v inside)) ∙ before))
+    rw pushed
+    (apps_step card keys old old i (view (get_or vs i v)) (items_view (drop (i + 1) vs)) x
+    (subst (λ (k : ℕ). app_item card k keys old (view (get_or vs i v)) ≡ Ok x) at
+    (subst (λ (w : Value). app_item card j keys old (view w) ≡ Ok x) item_is is))
+    ∙ (ap (λ (ds : Items). with_front old (apps_from card i keys old ds)) (sym (items_view-drop vs i v inside)) ∙ before))
 
 pub loop-value-preserved : goal.loop-value-preserved
 loop-value-preserved c = record {
-  rules = apps_keep c.loop-value.apps.items c.push.new.self.items c.in_ok-app.app c.in_ok-push.ensures.items c.loop-value.invariant.rules (subst (λ (apps : List AppImage). IsNewApp (seen_apps apps) (seen_app c.in_ok-app.app)) c.as_slice.ensures.value c.in_ok-app.ensures.new);
-  names = app_names_differ c.loop-value.apps.items c.push.new.self.items c.in_ok-app.app c.in_ok-push.ensures.items c.loop-value.invariant.names (subst (λ (apps : List AppImage). IsNewApp (seen_apps apps) (seen_app c.in_ok-app.app)) c.as_slice.ensures.value c.in_ok-app.ensures.new);
+  rules = apps_keep c.loop-value.apps.items c.push.new.self.items c.in_ok-app.app c.in_ok-push.ensures.items c.loop-value.invariant.rules (subst (λ (apps : List AppData). IsNewApp apps c.in_ok-app.app) c.as_slice.ensures.value c.in_ok-app.ensures.new);
+  names = app_names_differ c.loop-value.apps.items c.push.new.self.items c.in_ok-app.app c.in_ok-push.ensures.items c.loop-value.invariant.names (subst (λ (apps : List AppData). IsNewApp apps c.in_ok-app.app) c.as_slice.ensures.value c.in_ok-app.ensures.new);
   count = search rules;
   read =
       apps_pushed c.args.card c.args.keys.now c.loop-value.value-index c.len.result c.args.values.now
       c.value-item.result c.loop-value.apps.items c.push.new.self.items c.in_ok-app.app _
       c.loop-value-test.true c.value-item.is (omega (arith, c.len.ensures)) c.in_ok-push.ensures.items
-      (subst (λ (apps : List AppImage). app_item c.args.card c.len.result c.args.keys.now (seen_apps apps) (view c.value-item.result) ≡ Ok (seen_app c.in_ok-app.app)) c.as_slice.ensures.value c.in_ok-app.ensures.exact)
+      (subst (λ (apps : List AppData). app_item c.args.card c.len.result c.args.keys.now apps (view c.value-item.result) ≡ Ok c.in_ok-app.app) c.as_slice.ensures.value c.in_ok-app.ensures.exact)
       c.loop-value.invariant.read;
 }

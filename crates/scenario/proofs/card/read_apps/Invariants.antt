@@ -1,7 +1,6 @@
 use Rattle.std.proofs.Common.{◌≡◌, ◌≢◌, [], drop, length}
 use Rattle.std.specs.List.{All, AllPairs}
 use Rattle.card_files.specs.Kept.{KeepsRules}
-use Rattle.card_files.specs.SeenApp.{seen_apps}
 use Rattle.toml.specs.View.{items_view}
 use Rattle.scenario_fields.specs.Fields.{with_front}
 use Rattle.scenario.specs.Cards.{apps_from}
@@ -9,10 +8,10 @@ use Rattle.scenario.proofs.card.read_apps.Given as goal
 
 abbrev pub invariant-loop-value : goal.invariant-loop-value
 invariant-loop-value l = record {
-  rules : All KeepsRules (seen_apps l.apps.items);
-  names : AllPairs (λ a b. a.name ≢ b.name) (seen_apps l.apps.items);
+  rules : All KeepsRules l.apps.items;
+  names : AllPairs (λ a b. a.name ≢ b.name) l.apps.items;
   count : length l.apps.items ≡ l.value-index;
   read :
-      with_front (seen_apps l.apps.items) (apps_from l.card l.value-index l.keys (seen_apps l.apps.items) (items_view (drop l.value-index l.values)))
+      with_front l.apps.items (apps_from l.card l.value-index l.keys l.apps.items (items_view (drop l.value-index l.values)))
       ≡ apps_from l.card 0 l.keys [] (items_view l.values);
 }

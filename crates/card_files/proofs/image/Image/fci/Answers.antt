@@ -1,40 +1,37 @@
 use Rattle.std.proofs.Common.{◌≡◌, ◌<◌, length, arith}
 use Rattle.std.specs.Prelude.{slice_get, Some}
 use Rattle.card_files.specs.Kept.{KeepsRules}
-use Rattle.card_files.specs.SeenApp.{seen_app}
-use Rattle.card_files.specs.declared.app.AppImage.{AppImage}
+use Rattle.card_files.specs.Views.{AppData}
 use Rattle.card_files.proofs.ControlItems.{is_fci}
 use Rattle.card_files.proofs.SizeLemmas.{label_size, pdol_size, lookup}
 use Rattle.card_files.proofs.image.Image.fci.Goals as goal
 
 pub write_fci-requires-clause-label : goal.write_fci-requires-clause-label
-unfolding seen_app
 write_fci-requires-clause-label c =
-    let app : AppImage = c.index-apps-from.result in
+    let app : AppData = c.index-apps-from.result in
     let within : c.from.result < length c.apps.result.now = omega arith in
-    let kept : KeepsRules (seen_app app) = rw (← c.index-apps-from.is) at (c.apps.ensures.rules c.from.result app within) in
-    label_size app.label.items kept.label
+    let kept : KeepsRules app = rw (← c.index-apps-from.is) at (c.apps.ensures.rules c.from.result app within) in
+    label_size app.label kept.label
 
 pub write_fci-requires-clause-pdol : goal.write_fci-requires-clause-pdol
-unfolding seen_app
 write_fci-requires-clause-pdol c =
-    let app : AppImage = c.index-apps-from.result in
+    let app : AppData = c.index-apps-from.result in
     let within : c.from.result < length c.apps.result.now = omega arith in
-    let kept : KeepsRules (seen_app app) = rw (← c.index-apps-from.is) at (c.apps.ensures.rules c.from.result app within) in
-    pdol_size (λ list. list.items) app.pdol kept.pdol
+    let kept : KeepsRules app = rw (← c.index-apps-from.is) at (c.apps.ensures.rules c.from.result app within) in
+    pdol_size app.pdol kept.pdol
 
 pub returns-clause-bytes : goal.returns-clause-bytes
 returns-clause-bytes c =
-    let app : AppImage = c.index-apps-from.result in
+    let app : AppData = c.index-apps-from.result in
     let within : c.from.result < length c.apps.result.now = omega arith in
-    let there : slice_get c.args.self.now c.args.app ≡ Some (seen_app app) =
+    let there : slice_get c.args.self.now c.args.app ≡ Some app =
     rw (c.apps.ensures.apps, c.from.ensures) at (lookup c.apps.result.now c.from.result app within c.index-apps-from.is) in
     rw there c.write_fci.ensures
 
 pub returns-clause-read : goal.returns-clause-read
 returns-clause-read c =
-    let app : AppImage = c.index-apps-from.result in
+    let app : AppData = c.index-apps-from.result in
     let within : c.from.result < length c.apps.result.now = omega arith in
-    let there : slice_get c.args.self.now c.args.app ≡ Some (seen_app app) =
+    let there : slice_get c.args.self.now c.args.app ≡ Some app =
     rw (c.apps.ensures.apps, c.from.ensures) at (lookup c.apps.result.now c.from.result app within c.index-apps-from.is) in
-    rw there (is_fci (seen_app app) _ c.write_fci.ensures)
+    rw there (is_fci app _ c.write_fci.ensures)

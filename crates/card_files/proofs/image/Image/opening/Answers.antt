@@ -1,17 +1,15 @@
-use Rattle.std.proofs.Common.{◌≡◌, ◌≤◌, ◌∙◌, ℕ, false, List, length, map, take, ap}
+use Rattle.std.proofs.Common.{◌≡◌, ◌≤◌, ◌∙◌, ℕ, false, List, length, map, take, ap, sym}
 use Rattle.std.proofs.lemmas.List.{take_all}
-use Rattle.card_files.specs.Files.{opening_of}
-use Rattle.card_files.specs.declared.app.AppImage.{AppImage}
-use Rattle.card_files.proofs.OpeningLemmas.{opened, no_totals}
 use Rattle.card_state.specs.declared.state.CardState.{CardState}
+use Rattle.card_files.specs.Files.{opening_of}
 use Rattle.card_files.specs.Views.{AppData}
-use Rattle.card_files.specs.SeenApp.{seen_apps}
+use Rattle.card_files.proofs.OpeningLemmas.{opened, no_totals}
 use Rattle.card_files.proofs.image.Image.opening.Goals as goal
 
-filled : (out : CardState) (items : List AppImage) (apps : List AppData) (index : ℕ) → length items ≤ index → out.blocked ≡ false
-    → out.apps.items ≡ map (λ a. a.opening) (take index items) → seen_apps items ≡ apps → out ≡ opening_of apps
-filled out items apps index past free so_far seen =
-    rw (← seen) (opened out items free (so_far ∙ ap (λ (xs : List AppImage). map (λ a. a.opening) xs) (take_all index items past)))
+filled : (out : CardState) (items apps : List AppData) (index : ℕ) → length items ≤ index → out.blocked ≡ false
+    → out.apps.items ≡ map (λ a. a.opening) (take index items) → items ≡ apps → out ≡ opening_of apps
+filled out items apps index past free so_far same =
+    rw (← same) (opened out items free (so_far ∙ ap (λ (xs : List AppData). map (λ a. a.opening) xs) (take_all index items past)))
 
 pub returns-clause-value : goal.returns-clause-value
 returns-clause-value c =
