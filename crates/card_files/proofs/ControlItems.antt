@@ -1,11 +1,10 @@
 -- The data objects of what was written, read again.
-use Rattle.std.proofs.Common.{◌≡◌, ℕ, ◌+◌, ◌<◌, ◌≤◌, List, [], ◌∷◌, ◌++◌, length, map, get_or, Option, Some, None, Result, Ok, refl, sym, ap, subst, ◌∙◌, arith, append_assoc, length-append}
+use Rattle.std.proofs.Common.{◌≡◌, ℕ, ◌+◌, ◌<◌, List, [], ◌∷◌, ◌++◌, length, map, Option, Some, None, refl, sym, ap, subst, ◌∙◌, arith, append_assoc, length-append}
 use Rattle.std.specs.Prelude.{IsTrue, slice_get}
 use Rattle.std.proofs.lemmas.List.{append-nil, get_or_at}
 use Rattle.std.proofs.lemmas.Option.{slice_get-get_or}
-use Rattle.ber_tlv.specs.Item.{ItemData, item_at}
-use Rattle.ber_tlv.specs.Items.{Items, NextItem, Begins}
-use Rattle.ber_tlv.specs.Left.{items_of}
+use Rattle.ber_tlv.specs.Item.{ItemData}
+use Rattle.ber_tlv.specs.Items.{Items, Begins}
 use Rattle.ber_tlv.specs.Tag.{is_readable}
 use Rattle.ber_tlv.specs.Written.{written, tag_bytes, length_bytes}
 use Rattle.ber_tlv.proofs.ReadAgain.{appended_read}

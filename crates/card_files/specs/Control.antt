@@ -1,9 +1,8 @@
 -- The file control information of an application (EMV 4.3 Book 1 section 11.3.4).
-use Rattle.std.specs.Prelude.{◌≡◌, ℕ, List, [], ◌∷◌, ◌++◌, map, Option, Some, None, Result, Ok, Err}
+use Rattle.std.specs.Prelude.{◌≡◌, ℕ, List, [], ◌∷◌, ◌++◌, map, Option, Some, None, Ok}
 use Rattle.ber_tlv.specs.Item.{ItemData}
 use Rattle.ber_tlv.specs.Left.{items_of}
 use Rattle.ber_tlv.specs.Written.{written}
-use Rattle.ber_tlv.specs.declared.item.TlvFault.{TlvFault}
 use Rattle.card_files.specs.Views.{AppData}
 
 -- an object that may be absent

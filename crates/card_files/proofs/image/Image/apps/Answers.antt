@@ -1,6 +1,4 @@
-use Rattle.std.proofs.Common.{◌≡◌}
 use Rattle.card_files.proofs.Keeping.{faultless}
-use Rattle.card_files.specs.Kept.{IsImage}
 use Rattle.card_files.proofs.image.Image.apps.Goals as goal
 
 pub returns-clause-image : goal.returns-clause-image

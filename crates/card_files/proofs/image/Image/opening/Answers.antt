@@ -1,4 +1,4 @@
-use Rattle.std.proofs.Common.{◌≡◌, ◌≤◌, ◌∙◌, ℕ, false, List, length, map, take, ap, sym}
+use Rattle.std.proofs.Common.{◌≡◌, ◌≤◌, ◌∙◌, ℕ, false, List, length, map, take, ap}
 use Rattle.std.proofs.lemmas.List.{take_all}
 use Rattle.card_state.specs.declared.state.CardState.{CardState}
 use Rattle.card_files.specs.Files.{opening_of}
