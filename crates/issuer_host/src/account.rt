@@ -25,11 +25,11 @@ impl Model for Account {
     ghost Value = { AccountData };
 
     ghost view = { λ a. record {
-        pan = a.pan;
-        currency = a.currency;
-        balance = a.balance;
-        blocked = a.blocked;
-        pin = a.pin;
-        scripts = a.scripts.items;
+      pan = a.pan;
+      currency = a.currency;
+      balance = a.balance;
+      blocked = a.blocked;
+      pin = a.pin;
+      scripts = a.scripts.items;
     } };
 }

@@ -1,9 +1,9 @@
 -- The names of cards.
-use Rattle.std.proofs.Common.{◌≡◌, ℕ, suc, List, [], ◌∷◌, length, Bool, ◌||◌, refl, ap}
+use Rattle.std.proofs.Common.{◌≡◌, ℕ, suc, List, [], ◌∷◌, length, map, Bool, ◌||◌, refl, ap}
 use Rattle.std.specs.List.{list_any}
 use Rattle.std.specs.Str.{bytes_eq}
 use Rattle.scenario.specs.Cards.{is_named, card_names}
-use Rattle.scenario.specs.Seen.{names_of, seen_card, seen_cards}
+use Rattle.scenario.specs.Seen.{seen_card, seen_cards}
 use Rattle.scenario.specs.declared.plan.NamedImage.{NamedImage}
 
 pub is_named_seen : (name : List ℕ) (cards : List NamedImage) → list_any (λ c. bytes_eq c.name.items name) cards ≡ is_named name (seen_cards cards)
@@ -11,7 +11,7 @@ unfolding is_named seen_card
 is_named_seen name [] = refl
 is_named_seen name (c ∷ cards) = ap (λ (b : Bool). bytes_eq c.name.items name || b) (is_named_seen name cards)
 
-pub card_names_seen : (cards : List NamedImage) → card_names (seen_cards cards) ≡ names_of cards
+pub card_names_seen : (cards : List NamedImage) → card_names (seen_cards cards) ≡ map (λ c. c.name.items) cards
 unfolding card_names seen_card
 card_names_seen [] = refl
 card_names_seen (c ∷ cards) = ap (λ (names : List (List ℕ)). c.name.items ∷ names) (card_names_seen cards)

@@ -1,4 +1,4 @@
+pub mod AccountLoop
 pub mod CardNames
 pub mod CardParts
 pub mod Loops
-pub mod Pans

@@ -4,15 +4,15 @@ use Rattle.std.specs.List.{list_any}
 use Rattle.std.specs.Str.{bytes_eq}
 use Rattle.emv_dict.specs.Settings.{most_amount}
 use Rattle.script_words.specs.MadeLength.{all_made_length}
-use Rattle.issuer_host.specs.Seen.{AccountData}
-use Rattle.script_words.specs.Seen.{ScriptData}
+use Rattle.issuer_host.specs.Account.{AccountData}
+use Rattle.script_words.specs.Script.{ScriptData}
 use Rattle.script_words.specs.declared.script.Ordered.{Ordered}
 use Rattle.script_words.specs.Order.{order_of}
 use Rattle.toml.specs.Data.{Data, Items, no_items, item, Members}
 use Rattle.scenario_fields.specs.Fault.{◌>>=◌, or_fault, keep_if}
-use Rattle.scenario_fields.specs.Fields.{number_at, flag_or, str_at, digits_at, optional_digits, optional_bytes, code_at, array_at, array_or_none, each, only}
-use Rattle.scenario_fields.specs.Place.{item_path, at_top, in_account, in_scripts}
-use Rattle.scenario_fields.specs.Value.{str_of, table_of}
+use Rattle.scenario_fields.specs.Fields.{number_at, flag_or, str_at, digits_at, optional_digits, optional_bytes, code_at, array_at, array_or_none, table_item, each, only}
+use Rattle.scenario_fields.specs.Place.{item_path, in_account, in_scripts}
+use Rattle.scenario_fields.specs.Value.{str_of}
 use Rattle.scenario_fields.specs.declared.fault.ScenarioFault.{ScenarioFault}
 use Rattle.scenario_fields.specs.declared.fault.ScenarioFault.TheVariants.{BadValue, OutOfLimit}
 
@@ -24,75 +24,76 @@ is_before path word =
     else Err (BadValue (path (codes "when")))
 
 -- a command
-unfoldable pub command_item : ℕ → ℕ → ℕ → Data → Result Ordered ScenarioFault
-command_item i j k d = do
-  text ← str_of (in_scripts i j (item_path (codes "commands") k [])) d
-  or_fault (BadValue (in_scripts i j (item_path (codes "commands") k []))) (order_of text)
+unfoldable pub command_item : (List ℕ → List ℕ) → ℕ → Data → Result Ordered ScenarioFault
+command_item path k d = do
+  text ← str_of (path (item_path (codes "commands") k [])) d
+  or_fault (BadValue (path (item_path (codes "commands") k []))) (order_of text)
 
-unfoldable pub commands_at : ℕ → ℕ → Members → Result (List Ordered) ScenarioFault
-commands_at i j ms = array_at (in_scripts i j) (codes "commands") 1 16 ms >>= each (command_item i j) 0
+unfoldable pub commands_at : (List ℕ → List ℕ) → Members → Result (List Ordered) ScenarioFault
+commands_at path ms = array_at path (codes "commands") 1 16 ms >>= each (command_item path) 0
 
 unfoldable pub script_keys : List (List ℕ)
 script_keys = codes "when" ∷ codes "id" ∷ codes "commands" ∷ []
 
-unfoldable pub script_of : ℕ → ℕ → Members → Result ScriptData ScenarioFault
-script_of i j ms = do
-  word ← str_at (in_scripts i j) (codes "when") ms
-  before ← is_before (in_scripts i j) word
-  id ← optional_bytes (in_scripts i j) (codes "id") 4 4 ms
-  commands ← commands_at i j ms
-  _ ← only (in_scripts i j) script_keys ms
+unfoldable pub script_of : (List ℕ → List ℕ) → Members → Result ScriptData ScenarioFault
+script_of path ms = do
+  word ← str_at path (codes "when") ms
+  before ← is_before path word
+  id ← optional_bytes path (codes "id") 4 4 ms
+  commands ← commands_at path ms
+  _ ← only path script_keys ms
   Ok (record { before = before; id = id; commands = commands })
 
-unfoldable pub script_item : ℕ → ℕ → Data → Result ScriptData ScenarioFault
-script_item i j d = table_of (in_account i (item_path (codes "scripts") j [])) d >>= script_of i j
+-- script `j` of account `i`, whose keys have these paths
+unfoldable pub script_item : (List ℕ → List ℕ) → ℕ → ℕ → Data → Result ScriptData ScenarioFault
+script_item path i j d = table_item path (codes "scripts") j d >>= script_of (in_scripts i j)
 
 -- at most 8 scripts, which get at most 1,024 bytes
-unfoldable pub scripts_at : ℕ → Members → Result (List ScriptData) ScenarioFault
-scripts_at i ms = do
-  items ← array_or_none (in_account i) (codes "scripts") 8 ms
-  scripts ← each (script_item i) 0 items
-  keep_if (nat_le (all_made_length scripts) 1024) (OutOfLimit (in_account i (codes "scripts"))) scripts
+unfoldable pub scripts_at : (List ℕ → List ℕ) → ℕ → Members → Result (List ScriptData) ScenarioFault
+scripts_at path i ms = do
+  items ← array_or_none path (codes "scripts") 8 ms
+  scripts ← each (script_item path i) 0 items
+  keep_if (nat_le (all_made_length scripts) 1024) (OutOfLimit (path (codes "scripts"))) scripts
 
 -- an account has this PAN
 unfoldable pub has_pan : List ℕ → List AccountData → Bool
 has_pan pan accounts = list_any (λ a. bytes_eq a.pan pan) accounts
 
 -- a PAN that no earlier account has
-unfoldable pub new_pan : ℕ → List AccountData → Members → Result (List ℕ) ScenarioFault
-new_pan i earlier ms = do
-  pan ← digits_at (in_account i) (codes "pan") 13 16 ms
-  keep_if (not (has_pan pan earlier)) (BadValue (in_account i (codes "pan"))) pan
+unfoldable pub new_pan : (List ℕ → List ℕ) → List AccountData → Members → Result (List ℕ) ScenarioFault
+new_pan path earlier ms = do
+  pan ← digits_at path (codes "pan") 13 16 ms
+  keep_if (not (has_pan pan earlier)) (BadValue (path (codes "pan"))) pan
 
 unfoldable pub account_keys : List (List ℕ)
 account_keys =
     codes "pan" ∷ codes "currency" ∷ codes "balance" ∷ codes "blocked" ∷ codes "pin" ∷ codes "scripts" ∷ []
 
--- an account behind these
-unfoldable pub account_of : ℕ → List AccountData → Members → Result AccountData ScenarioFault
-account_of i earlier ms = do
-  pan ← new_pan i earlier ms
-  currency ← code_at (in_account i) (codes "currency") ms
-  balance ← number_at (in_account i) (codes "balance") 0 most_amount ms
-  blocked ← flag_or false (in_account i) (codes "blocked") ms
-  pin ← optional_digits (in_account i) (codes "pin") 4 12 ms
-  scripts ← scripts_at i ms
-  _ ← only (in_account i) account_keys ms
+-- account `i` behind these
+unfoldable pub account_of : (List ℕ → List ℕ) → ℕ → List AccountData → Members → Result AccountData ScenarioFault
+account_of path i earlier ms = do
+  pan ← new_pan path earlier ms
+  currency ← code_at path (codes "currency") ms
+  balance ← number_at path (codes "balance") 0 most_amount ms
+  blocked ← flag_or false path (codes "blocked") ms
+  pin ← optional_digits path (codes "pin") 4 12 ms
+  scripts ← scripts_at path i ms
+  _ ← only path account_keys ms
   Ok (record { pan = pan; currency = currency; balance = balance; blocked = blocked; pin = pin; scripts = scripts })
 
-unfoldable pub account_item : ℕ → List AccountData → Data → Result AccountData ScenarioFault
-account_item i earlier d = table_of (item_path (codes "account") i []) d >>= account_of i earlier
+unfoldable pub account_item : (List ℕ → List ℕ) → ℕ → List AccountData → Data → Result AccountData ScenarioFault
+account_item path i earlier d = table_item path (codes "account") i d >>= account_of (in_account i) i earlier
 
 -- the accounts from number `i` on, behind these
-abbrev pub accounts_from : ℕ → List AccountData → Items → Result (List AccountData) ScenarioFault
-accounts_from i earlier no_items = Ok []
-accounts_from i earlier (item d ds) = do
-  account ← account_item i earlier d
-  accounts ← accounts_from (i + 1) (earlier ++ account ∷ []) ds
+abbrev pub accounts_from : (List ℕ → List ℕ) → ℕ → List AccountData → Items → Result (List AccountData) ScenarioFault
+accounts_from path i earlier no_items = Ok []
+accounts_from path i earlier (item d ds) = do
+  account ← account_item path i earlier d
+  accounts ← accounts_from path (i + 1) (earlier ++ account ∷ []) ds
   Ok (account ∷ accounts)
 
 -- all accounts at their key in the document
-unfoldable pub accounts_at : Members → Result (List AccountData) ScenarioFault
-accounts_at ms = do
-  items ← array_at at_top (codes "account") 0 1000 ms
-  accounts_from 0 [] items
+unfoldable pub accounts_at : (List ℕ → List ℕ) → Members → Result (List AccountData) ScenarioFault
+accounts_at path ms = do
+  items ← array_at path (codes "account") 0 1000 ms
+  accounts_from path 0 [] items

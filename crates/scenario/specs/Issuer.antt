@@ -4,21 +4,21 @@ use Rattle.toml.specs.Data.{Members}
 use Rattle.issuer_host.specs.declared.keys.HostKeys.{HostKeys}
 use Rattle.scenario_fields.specs.Fault.{◌>>=◌}
 use Rattle.scenario_fields.specs.Fields.{bytes_at, table_at, only}
-use Rattle.scenario_fields.specs.Place.{at_top, in_issuer}
+use Rattle.scenario_fields.specs.Place.{in_issuer}
 use Rattle.scenario_fields.specs.declared.fault.ScenarioFault.{ScenarioFault}
 
 unfoldable pub issuer_keys : List (List ℕ)
 issuer_keys = codes "ac_key" ∷ codes "mac_key" ∷ codes "enc_key" ∷ codes "pin_key" ∷ []
 
-unfoldable pub issuer_of : Members → Result HostKeys ScenarioFault
-issuer_of ms = do
-  ac ← bytes_at in_issuer (codes "ac_key") 16 16 ms
-  mac ← bytes_at in_issuer (codes "mac_key") 16 16 ms
-  enc ← bytes_at in_issuer (codes "enc_key") 16 16 ms
-  pin ← bytes_at in_issuer (codes "pin_key") 16 16 ms
-  _ ← only in_issuer issuer_keys ms
+unfoldable pub issuer_of : (List ℕ → List ℕ) → Members → Result HostKeys ScenarioFault
+issuer_of path ms = do
+  ac ← bytes_at path (codes "ac_key") 16 16 ms
+  mac ← bytes_at path (codes "mac_key") 16 16 ms
+  enc ← bytes_at path (codes "enc_key") 16 16 ms
+  pin ← bytes_at path (codes "pin_key") 16 16 ms
+  _ ← only path issuer_keys ms
   Ok (record { ac = ac; mac = mac; enc = enc; pin = pin })
 
 -- at its key in the document
-unfoldable pub issuer_at : Members → Result HostKeys ScenarioFault
-issuer_at ms = table_at at_top (codes "issuer") ms >>= issuer_of
+unfoldable pub issuer_at : (List ℕ → List ℕ) → Members → Result HostKeys ScenarioFault
+issuer_at path ms = table_at path (codes "issuer") ms >>= issuer_of in_issuer

@@ -1,12 +1,9 @@
 pub mod Accounts
-pub mod Cards
 pub mod CardRules
-pub mod SeenCards
-pub mod Data
+pub mod Cards
 pub mod Issuer
-pub mod Lanes
-pub mod Names
-pub mod Purchases
+pub mod Plan
 pub mod Scenario
-pub mod Rules
+pub mod Schedule
 pub mod Seen
+pub mod SeenCards

@@ -10,10 +10,11 @@ use Rattle.scenario_fields.specs.declared.fault.ScenarioFault.{ScenarioFault}
 use Rattle.scenario_fields.specs.declared.fault.ScenarioFault.TheVariants.{Toml, OutOfLimit}
 use Rattle.scenario.specs.Accounts.{accounts_at}
 use Rattle.scenario.specs.Cards.{cards_at, card_names}
-use Rattle.scenario.specs.Data.{ScenarioData}
 use Rattle.scenario.specs.Issuer.{issuer_at}
-use Rattle.scenario.specs.Lanes.{lanes_at}
-use Rattle.scenario.specs.Names.{schedule_at, all_known_cards, known_lanes}
+use Rattle.scenario.specs.Plan.{ScenarioData}
+use Rattle.scenario.specs.Schedule.{schedule_at, known_lanes}
+use Rattle.scenario_lanes.specs.Cards.{known_from}
+use Rattle.scenario_lanes.specs.Lanes.{lanes_at}
 
 unfoldable pub top_keys : List (List ℕ)
 top_keys = codes "issuer" ∷ codes "account" ∷ codes "card" ∷ codes "lane" ∷ codes "schedule" ∷ codes "copies" ∷ []
@@ -21,11 +22,11 @@ top_keys = codes "issuer" ∷ codes "account" ∷ codes "card" ∷ codes "lane" 
 -- the document's keys in their order, and the keys that it doesn't know
 unfoldable pub tables_of : Members → Result ScenarioData ScenarioFault
 tables_of ms = do
-  issuer ← issuer_at ms
-  accounts ← accounts_at ms
+  issuer ← issuer_at at_top ms
+  accounts ← accounts_at at_top ms
   cards ← cards_at issuer ms
-  lanes ← lanes_at (card_names cards) issuer.pin ms
-  schedule ← schedule_at ms
+  lanes ← lanes_at at_top (card_names cards) issuer.pin ms
+  schedule ← schedule_at at_top ms
   copies ← number_or 1 at_top (codes "copies") 1 3 ms
   _ ← only at_top top_keys ms
   Ok (record { issuer = issuer; accounts = accounts; cards = cards; lanes = lanes; schedule = schedule; copies = copies })
@@ -33,7 +34,7 @@ tables_of ms = do
 -- each card and each lane that is named is there
 unfoldable pub names_known : ScenarioData → Result (Unit {0}) ScenarioFault
 names_known scenario = do
-  _ ← all_known_cards (length scenario.cards) 0 scenario.lanes
+  _ ← known_from (length scenario.cards) 0 scenario.lanes
   known_lanes (length scenario.lanes) 0 scenario.schedule
 
 -- the tables, and behind all the names
@@ -48,8 +49,12 @@ abbrev pub of_document : Option Members → Result ScenarioData ScenarioFault
 of_document None = Err Toml
 of_document (Some ms) = scenario_of ms
 
--- what the bytes give: more than 4,194,304 of them are refused unread
-pub record IsReading {X : Type 0} (seen : X → ScenarioData) (bytes : List ℕ) (result : Result X ScenarioFault) : Type 0 where
-  pub long : 4194304 < length bytes → Gives seen result (Err (OutOfLimit (codes "file")))
-  pub text : length bytes ≤ 4194304 → IsUtf8 bytes → Gives seen result (of_document (parse_document bytes))
-  pub other : length bytes ≤ 4194304 → (IsUtf8 bytes → ⊥) → Gives seen result (Err Toml)
+-- a document has at most so many bytes
+abbrev pub most_bytes : ℕ
+most_bytes = 4194304
+
+-- what the bytes give: too many of them are refused unread
+pub record IsReading (bytes : List ℕ) (result : Result ScenarioData ScenarioFault) : Type 0 where
+  pub long : most_bytes < length bytes → Gives (λ s. s) result (Err (OutOfLimit (codes "file")))
+  pub text : length bytes ≤ most_bytes → IsUtf8 bytes → Gives (λ s. s) result (of_document (parse_document bytes))
+  pub other : length bytes ≤ most_bytes → (IsUtf8 bytes → ⊥) → Gives (λ s. s) result (Err Toml)

@@ -1,51 +1,33 @@
 //! The table of an account.
 ghost use Rattle.std.specs.Prelude.{◌≡◌, ◌≤◌, [], length, IfOk, vec_len};
-ghost use Rattle.std.specs.List.{list_any};
-ghost use Rattle.std.specs.Str.{bytes_eq};
-ghost use Rattle.issuer_host.specs.Seen.{seen_account, seen_accounts};
+ghost use Rattle.std.specs.List.{All};
+ghost use Rattle.issuer_host.specs.Account.{IsAccount};
 ghost use Rattle.toml.specs.View.{view, table_view, items_view};
 ghost use Rattle.scenario_fields.specs.Fault.{Gives};
 ghost use Rattle.scenario_fields.specs.Fields.{only};
 ghost use Rattle.scenario_fields.specs.Place.{path};
 ghost use Rattle.scenario.specs.Accounts.{has_pan, new_pan, account_keys, account_of, account_item, accounts_from, accounts_at};
 
-use crate::purchase::MOST_AMOUNT;
 use crate::script::scripts_at;
 use emv_dict::Digits;
 use issuer_host::Account;
-use scenario_fields::{Fields, Place, ScenarioFault, Spot};
-use std::alloc::Global;
-use toml::{Table, Value};
+use scenario_fields::{Fields, MOST_AMOUNT, Place, ScenarioFault};
+use toml::Value;
 
 /// Whether an account has this PAN.
-fn any_has(pan: &[u8], accounts: &[Account]) -> bool
-    ensures { result ≡ list_any (λ a. bytes_eq a.pan pan.now) accounts.now }
+#[tactic(auto, unfolding(crate::specs::Accounts::has_pan))]
+fn has_pan(pan: &[u8], accounts: &[Account]) -> bool
+    ensures { result ≡ has_pan pan.now accounts.now }
 {
     accounts.iter().any(|account| account.pan.as_slice() == pan)
 }
 
-/// Whether an account has this PAN.
-fn has_pan(pan: &[u8], accounts: &[Account]) -> bool
-    ensures { result ≡ has_pan pan.now (seen_accounts accounts.now) }
-{
-    any_has(pan, accounts)
-}
-
 /// A PAN that no earlier account has.
 #[tactic(auto, unfolding(crate::specs::Accounts::new_pan))]
-fn new_pan(
-    alloc: Global,
-    index: usize,
-    earlier: &[Account],
-    table: &Table,
-) -> Result<Digits, ScenarioFault>
-    ensures { Gives (λ pan. pan) result (new_pan index (seen_accounts earlier.now) (table_view table.now)) }
+fn new_pan(fields: &Fields, earlier: &[Account]) -> Result<Digits, ScenarioFault>
+    ensures exact { Gives (λ pan. pan) result (new_pan (path fields.now.place) earlier.now (table_view fields.now.table.now)) }
+    ensures within { IfOk result (λ pan. (13 ≤ length pan) × (length pan ≤ 16)) }
 {
-    let fields = Fields {
-        alloc,
-        place: Place::Account(index),
-        table,
-    };
     let pan = fields.digits("pan", 13, 16)?;
     if has_pan(pan.as_slice(), earlier) {
         return Err(fields.spot("pan").bad());
@@ -61,27 +43,22 @@ fn only_account_keys(fields: &Fields) -> Result<(), ScenarioFault>
 }
 
 /// An account behind earlier ones.
-#[tactic(auto, unfolding(crate::specs::Accounts::account_of, issuer_host::specs::Seen::seen_account))]
+#[tactic(auto, unfolding(crate::specs::Accounts::account_of))]
 fn read_account(
-    alloc: Global,
+    fields: &Fields,
     index: usize,
     earlier: &[Account],
-    table: &Table,
 ) -> Result<Account, ScenarioFault>
-    ensures { Gives seen_account result (account_of index (seen_accounts earlier.now) (table_view table.now)) }
+    ensures exact { Gives (λ account. account) result (account_of (path fields.now.place) index earlier.now (table_view fields.now.table.now)) }
+    ensures rules { IfOk result IsAccount }
 {
-    let fields = Fields {
-        alloc,
-        place: Place::Account(index),
-        table,
-    };
-    let pan = new_pan(alloc, index, earlier, table)?;
+    let pan = new_pan(fields, earlier)?;
     let currency = fields.code("currency")?;
     let balance = fields.number("balance", 0, MOST_AMOUNT)?;
     let blocked = fields.flag_or(false, "blocked")?;
     let pin = fields.optional_digits("pin", 4, 12)?;
-    let scripts = scripts_at(alloc, index, table)?;
-    only_account_keys(&fields)?;
+    let scripts = scripts_at(fields, index)?;
+    only_account_keys(fields)?;
     Ok(Account {
         pan,
         currency,
@@ -95,31 +72,27 @@ fn read_account(
 /// An account among those of the document.
 #[tactic(auto, unfolding(crate::specs::Accounts::account_item))]
 fn account_item(
-    alloc: Global,
+    document: &Fields,
     index: usize,
     earlier: &[Account],
     value: &Value,
 ) -> Result<Account, ScenarioFault>
-    ensures { Gives seen_account result (account_item index (seen_accounts earlier.now) (view value.now)) }
+    ensures exact { Gives (λ account. account) result (account_item (path document.now.place) index earlier.now (view value.now)) }
+    ensures rules { IfOk result IsAccount }
 {
-    let spot = Spot {
-        alloc,
-        place: Place::Top,
-        key: "account",
-        index: Some(index),
-    };
-    let table = spot.table(value)?;
-    read_account(alloc, index, earlier, table)
+    let fields = document.element("account", index, Place::Account(index), value)?;
+    read_account(&fields, index, earlier)
 }
 
 /// Each account of the document.
-fn read_accounts(alloc: Global, values: &[Value]) -> Result<Vec<Account>, ScenarioFault>
-    ensures exact { Gives (λ accounts. seen_accounts accounts.items) result (accounts_from 0 [] (items_view values.now)) }
+fn read_accounts(document: &Fields, values: &[Value]) -> Result<Vec<Account>, ScenarioFault>
+    ensures exact { Gives (λ accounts. accounts.items) result (accounts_from (path document.now.place) 0 [] (items_view values.now)) }
     ensures count { IfOk result (λ accounts. vec_len accounts ≡ length values.now) }
+    ensures rules { IfOk result (λ accounts. All IsAccount accounts.items) }
 {
-    let mut accounts: Vec<Account> = Vec::new(alloc);
+    let mut accounts: Vec<Account> = Vec::new(document.alloc);
     for value in values {
-        let account = account_item(alloc, accounts.len(), accounts.as_slice(), value)?;
+        let account = account_item(document, accounts.len(), accounts.as_slice(), value)?;
         accounts.push(account)?;
     }
     Ok(accounts)
@@ -127,14 +100,10 @@ fn read_accounts(alloc: Global, values: &[Value]) -> Result<Vec<Account>, Scenar
 
 /// The accounts at their key in the document.
 #[tactic(auto, unfolding(crate::specs::Accounts::accounts_at))]
-pub fn accounts_at(alloc: Global, document: &Table) -> Result<Vec<Account>, ScenarioFault>
-    ensures exact { Gives (λ accounts. seen_accounts accounts.items) result (accounts_at (table_view document.now)) }
+pub fn accounts_at(document: &Fields) -> Result<Vec<Account>, ScenarioFault>
+    ensures exact { Gives (λ accounts. accounts.items) result (accounts_at (path document.now.place) (table_view document.now.table.now)) }
     ensures count { IfOk result (λ accounts. vec_len accounts ≤ 1000) }
+    ensures rules { IfOk result (λ accounts. All IsAccount accounts.items) }
 {
-    let fields = Fields {
-        alloc,
-        place: Place::Top,
-        table: document,
-    };
-    read_accounts(alloc, fields.array("account", 0, 1000)?)
+    read_accounts(document, document.array("account", 0, 1000)?)
 }

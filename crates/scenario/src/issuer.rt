@@ -8,8 +8,6 @@ ghost use Rattle.scenario.specs.Issuer.{issuer_keys, issuer_of, issuer_at};
 
 use issuer_host::HostKeys;
 use scenario_fields::{Fields, Place, ScenarioFault};
-use std::alloc::Global;
-use toml::Table;
 use triple_des::Key16;
 
 #[tactic(auto, unfolding(crate::specs::Issuer::issuer_keys))]
@@ -21,19 +19,14 @@ fn only_issuer_keys(fields: &Fields) -> Result<(), ScenarioFault>
 
 /// The keys of an issuer's table.
 #[tactic(auto, unfolding(crate::specs::Issuer::issuer_of))]
-fn read_issuer(alloc: Global, table: &Table) -> Result<HostKeys, ScenarioFault>
-    ensures { Gives (λ keys. keys) result (issuer_of (table_view table.now)) }
+fn read_issuer(fields: &Fields) -> Result<HostKeys, ScenarioFault>
+    ensures { Gives (λ keys. keys) result (issuer_of (path fields.now.place) (table_view fields.now.table.now)) }
 {
-    let fields = Fields {
-        alloc,
-        place: Place::Issuer,
-        table,
-    };
     let ac = fields.byte_array("ac_key")?;
     let mac = fields.byte_array("mac_key")?;
     let enc = fields.byte_array("enc_key")?;
     let pin = fields.byte_array("pin_key")?;
-    only_issuer_keys(&fields)?;
+    only_issuer_keys(fields)?;
     Ok(HostKeys {
         ac: Key16::new(ac),
         mac: Key16::new(mac),
@@ -44,13 +37,8 @@ fn read_issuer(alloc: Global, table: &Table) -> Result<HostKeys, ScenarioFault>
 
 /// The issuer's keys at their key in the document.
 #[tactic(auto, unfolding(crate::specs::Issuer::issuer_at))]
-pub fn issuer_at(alloc: Global, document: &Table) -> Result<HostKeys, ScenarioFault>
-    ensures { Gives (λ keys. keys) result (issuer_at (table_view document.now)) }
+pub fn issuer_at(document: &Fields) -> Result<HostKeys, ScenarioFault>
+    ensures { Gives (λ keys. keys) result (issuer_at (path document.now.place) (table_view document.now.table.now)) }
 {
-    let fields = Fields {
-        alloc,
-        place: Place::Top,
-        table: document,
-    };
-    read_issuer(alloc, fields.table("issuer")?)
+    read_issuer(&document.inner("issuer", Place::Issuer)?)
 }

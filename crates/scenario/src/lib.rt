@@ -6,14 +6,13 @@ pub mod account;
 pub mod app;
 pub mod card;
 pub mod issuer;
-pub mod lane;
-pub mod names;
 pub mod plan;
-pub mod purchase;
 pub mod read;
 pub mod record;
+pub mod schedule;
 pub mod script;
 
-pub use plan::{Lane, Link, NamedImage, Planned, Scenario};
+pub use plan::{NamedImage, Scenario};
 pub use read::read_scenario;
 pub use scenario_fields::{Path, ScenarioFault};
+pub use scenario_lanes::{Lane, Link, Planned};

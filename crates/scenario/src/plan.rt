@@ -1,7 +1,7 @@
 use card_files::Image;
-use emv_dict::{Purchase, Settings};
-use emv_ports::Tear;
 use issuer_host::{Account, HostKeys};
+use scenario_lanes::Lane;
+use std::marker::Model;
 
 /// A card of a scenario.
 #[derive(Drop)]
@@ -12,39 +12,8 @@ pub struct NamedImage {
     pub image: Image,
 }
 
-/// What becomes of a message to the issuer's host.
-#[derive(Clone, Copy, PartialEq, Eq, Debug)]
-pub enum Link {
-    /// It is delivered and its reply comes back.
-    Sound,
-    /// It is not delivered.
-    RequestLost,
-    /// It is delivered and its reply is lost.
-    ReplyLost,
-    /// It is delivered twice, and the first reply comes back.
-    Twice,
-}
-
-/// A purchase of a lane.
-#[derive(Drop)]
-pub struct Planned {
-    pub purchase: Purchase,
-    /// The index of its card among the scenario's cards.
-    pub card: usize,
-    /// What becomes of its message to the issuer's host.
-    pub link: Link,
-    /// Where the power of its card is cut.
-    pub tear: Option<Tear>,
-}
-
-/// A terminal and its purchases in their order.
-#[derive(Drop)]
-pub struct Lane {
-    pub settings: Settings,
-    pub purchases: Vec<Planned>,
-}
-
-/// An issuer with its accounts, cards, and lanes with their purchases.
+/// An issuer with its accounts, cards, and lanes with their purchases. Contracts see lists in place of
+/// the vectors.
 #[derive(Drop)]
 pub struct Scenario {
     /// The issuer's keys.
@@ -59,4 +28,20 @@ pub struct Scenario {
     pub schedule: Vec<u8>,
     /// How often each settlement message is sent, from 1 to 3.
     pub copies: u8,
+}
+
+impl Model for Scenario {
+    ghost use Rattle.scenario.specs.Plan.{ScenarioData};
+    ghost use Rattle.scenario.specs.Seen.{seen_cards};
+
+    ghost Value = { ScenarioData };
+
+    ghost view = { λ s. record {
+      issuer = s.issuer;
+      accounts = s.accounts.items;
+      cards = seen_cards s.cards.items;
+      lanes = s.lanes.items;
+      schedule = s.schedule.items;
+      copies = s.copies;
+    } };
 }

@@ -2,18 +2,17 @@
 ghost use Rattle.std.specs.Prelude.{◌≡◌, ◌≤◌, length, nat_le, IfOk, vec_len};
 ghost use Rattle.std.specs.List.{All};
 ghost use Rattle.script_words.specs.MadeLength.{all_made_length};
-ghost use Rattle.script_words.specs.Seen.{seen_script, seen_scripts};
+ghost use Rattle.script_words.specs.Script.{IsScript};
+ghost use Rattle.script_words.specs.Spelling.{IsWord};
 ghost use Rattle.toml.specs.View.{view, table_view, items_view};
 ghost use Rattle.scenario_fields.specs.Fault.{Gives};
 ghost use Rattle.scenario_fields.specs.Fields.{only, each};
 ghost use Rattle.scenario_fields.specs.Place.{path};
-ghost use Rattle.scenario_fields.specs.declared.place.Place.TheVariants.{Account as AccountPlace, Scripts as ScriptsPlace};
 ghost use Rattle.scenario.specs.Accounts.{is_before, command_item, commands_at, script_keys, script_of, script_item, scripts_at};
 
-use script_words::{Ordered, Script, made_length, read_order};
 use scenario_fields::{Fields, Place, ScenarioFault};
-use std::alloc::Global;
-use toml::{Table, Value};
+use script_words::{Ordered, Script, made_length, read_order};
+use toml::Value;
 
 /// The scripts of an account get at most so many bytes in the issuer's reply.
 pub const MOST_SCRIPT_BYTES: usize = 1_024;
@@ -34,15 +33,9 @@ fn is_before(fields: &Fields, word: &str) -> Result<bool, ScenarioFault>
 
 /// A command among those of a script.
 #[tactic(auto, unfolding(crate::specs::Accounts::command_item))]
-fn command_item(
-    fields: &Fields,
-    account: usize,
-    script: usize,
-    index: usize,
-    value: &Value,
-) -> Result<Ordered, ScenarioFault>
-    requires { fields.now.place ≡ ScriptsPlace account script }
-    ensures { Gives (λ order. order) result (command_item account script index (view value.now)) }
+fn command_item(fields: &Fields, index: usize, value: &Value) -> Result<Ordered, ScenarioFault>
+    ensures exact { Gives (λ order. order) result (command_item (path fields.now.place) index (view value.now)) }
+    ensures rules { IfOk result (λ order. IsWord order.word) }
 {
     let spot = fields.item("commands", index);
     match read_order(spot.str_of(value)?.as_bytes()) {
@@ -52,35 +45,27 @@ fn command_item(
 }
 
 /// Each command of a script.
-fn read_commands(
-    fields: &Fields,
-    account: usize,
-    script: usize,
-    values: &[Value],
-) -> Result<Vec<Ordered>, ScenarioFault>
-    requires { fields.now.place ≡ ScriptsPlace account script }
-    ensures exact { Gives (λ orders. orders.items) result (each (command_item account script) 0 (items_view values.now)) }
+fn read_commands(fields: &Fields, values: &[Value]) -> Result<Vec<Ordered>, ScenarioFault>
+    ensures exact { Gives (λ orders. orders.items) result (each (command_item (path fields.now.place)) 0 (items_view values.now)) }
     ensures count { IfOk result (λ orders. vec_len orders ≡ length values.now) }
+    ensures rules { IfOk result (λ orders. All (λ order. IsWord order.word) orders.items) }
 {
     let mut commands = Vec::new(fields.alloc);
     for value in values {
-        commands.push(command_item(fields, account, script, commands.len(), value)?)?;
+        commands.push(command_item(fields, commands.len(), value)?)?;
     }
     Ok(commands)
 }
 
 /// The commands of a script.
 #[tactic(auto, unfolding(crate::specs::Accounts::commands_at))]
-fn commands_at(
-    fields: &Fields,
-    account: usize,
-    script: usize,
-) -> Result<Vec<Ordered>, ScenarioFault>
-    requires { fields.now.place ≡ ScriptsPlace account script }
-    ensures exact { Gives (λ orders. orders.items) result (commands_at account script (table_view fields.now.table.now)) }
+fn commands_at(fields: &Fields) -> Result<Vec<Ordered>, ScenarioFault>
+    ensures exact { Gives (λ orders. orders.items) result (commands_at (path fields.now.place) (table_view fields.now.table.now)) }
+    ensures some { IfOk result (λ orders. 1 ≤ vec_len orders) }
     ensures few { IfOk result (λ orders. vec_len orders ≤ 16) }
+    ensures rules { IfOk result (λ orders. All (λ order. IsWord order.word) orders.items) }
 {
-    read_commands(fields, account, script, fields.array("commands", 1, 16)?)
+    read_commands(fields, fields.array("commands", 1, 16)?)
 }
 
 #[tactic(auto, unfolding(crate::specs::Accounts::script_keys))]
@@ -91,25 +76,15 @@ fn only_script_keys(fields: &Fields) -> Result<(), ScenarioFault>
 }
 
 /// A script of an account.
-#[tactic(auto, unfolding(crate::specs::Accounts::script_of, script_words::specs::Seen::seen_script))]
-fn read_script(
-    alloc: Global,
-    account: usize,
-    index: usize,
-    table: &Table,
-) -> Result<Script, ScenarioFault>
-    ensures exact { Gives seen_script result (script_of account index (table_view table.now)) }
-    ensures few { IfOk result (λ script. vec_len script.commands ≤ 16) }
+#[tactic(auto, unfolding(crate::specs::Accounts::script_of))]
+fn read_script(fields: &Fields) -> Result<Script, ScenarioFault>
+    ensures exact { Gives (λ script. script) result (script_of (path fields.now.place) (table_view fields.now.table.now)) }
+    ensures rules { IfOk result IsScript }
 {
-    let fields = Fields {
-        alloc,
-        place: Place::Scripts(account, index),
-        table,
-    };
-    let before = is_before(&fields, fields.str_at("when")?)?;
+    let before = is_before(fields, fields.str_at("when")?)?;
     let id = fields.optional_byte_array("id")?;
-    let commands = commands_at(&fields, account, index)?;
-    only_script_keys(&fields)?;
+    let commands = commands_at(fields)?;
+    only_script_keys(fields)?;
     Ok(Script {
         before,
         id,
@@ -125,12 +100,10 @@ fn script_item(
     index: usize,
     value: &Value,
 ) -> Result<Script, ScenarioFault>
-    requires { fields.now.place ≡ AccountPlace account }
-    ensures exact { Gives seen_script result (script_item account index (view value.now)) }
-    ensures few { IfOk result (λ script. vec_len script.commands ≤ 16) }
+    ensures exact { Gives (λ script. script) result (script_item (path fields.now.place) account index (view value.now)) }
+    ensures rules { IfOk result IsScript }
 {
-    let table = fields.item("scripts", index).table(value)?;
-    read_script(fields.alloc, account, index, table)
+    read_script(&fields.element("scripts", index, Place::Scripts(account, index), value)?)
 }
 
 /// Each script of an account.
@@ -139,9 +112,9 @@ fn read_scripts(
     account: usize,
     values: &[Value],
 ) -> Result<Vec<Script>, ScenarioFault>
-    requires { fields.now.place ≡ AccountPlace account }
-    ensures exact { Gives (λ scripts. seen_scripts scripts.items) result (each (script_item account) 0 (items_view values.now)) }
-    ensures few { IfOk result (λ scripts. All (λ script. vec_len script.commands ≤ 16) scripts.items) }
+    ensures exact { Gives (λ scripts. scripts.items) result (each (script_item (path fields.now.place) account) 0 (items_view values.now)) }
+    ensures count { IfOk result (λ scripts. vec_len scripts ≡ length values.now) }
+    ensures rules { IfOk result (λ scripts. All IsScript scripts.items) }
 {
     let mut scripts = Vec::new(fields.alloc);
     for value in values {
@@ -152,8 +125,8 @@ fn read_scripts(
 
 /// Whether the scripts get at most `room` bytes.
 fn fit(scripts: &[Script], room: usize) -> bool
-    requires { All (λ script. vec_len script.commands ≤ 16) scripts.now }
-    ensures { result ≡ nat_le (all_made_length (seen_scripts scripts.now)) room }
+    requires { All IsScript scripts.now }
+    ensures { result ≡ nat_le (all_made_length scripts.now) room }
 {
     match scripts {
         [] => true,
@@ -166,19 +139,13 @@ fn fit(scripts: &[Script], room: usize) -> bool
 
 /// The scripts of an account.
 #[tactic(auto, unfolding(crate::specs::Accounts::scripts_at))]
-pub fn scripts_at(
-    alloc: Global,
-    account: usize,
-    table: &Table,
-) -> Result<Vec<Script>, ScenarioFault>
-    ensures { Gives (λ scripts. seen_scripts scripts.items) result (scripts_at account (table_view table.now)) }
+pub fn scripts_at(fields: &Fields, account: usize) -> Result<Vec<Script>, ScenarioFault>
+    ensures exact { Gives (λ scripts. scripts.items) result (scripts_at (path fields.now.place) account (table_view fields.now.table.now)) }
+    ensures few { IfOk result (λ scripts. vec_len scripts ≤ 8) }
+    ensures rules { IfOk result (λ scripts. All IsScript scripts.items) }
+    ensures short { IfOk result (λ scripts. all_made_length scripts.items ≤ 1024) }
 {
-    let fields = Fields {
-        alloc,
-        place: Place::Account(account),
-        table,
-    };
-    let scripts = read_scripts(&fields, account, fields.array_or_none("scripts", 8)?)?;
+    let scripts = read_scripts(fields, account, fields.array_or_none("scripts", 8)?)?;
     if !fit(&scripts, MOST_SCRIPT_BYTES) {
         return Err(fields.spot("scripts").far());
     }

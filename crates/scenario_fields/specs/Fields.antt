@@ -83,6 +83,10 @@ table_at path key ms = required path key ms >>= table_of (path key)
 unfoldable pub optional_table : (List ℕ → List ℕ) → List ℕ → Members → Result (Option Members) ScenarioFault
 optional_table path key ms = if_there (table_of (path key)) (get_member key ms)
 
+-- a table that is an item of the array at a key
+unfoldable pub table_item : (List ℕ → List ℕ) → List ℕ → ℕ → Data → Result Members ScenarioFault
+table_item path key i d = table_of (path (item_path key i [])) d
+
 -- each item of an array in turn, from index `i` on
 abbrev pub each : {A : Type 0} → (ℕ → Data → Result A ScenarioFault) → ℕ → Items → Result (List A) ScenarioFault
 each read i no_items = Ok []

@@ -12,8 +12,9 @@ ghost use Rattle.toml.specs.View.{view, table_view, items_view};
 ghost use Rattle.scenario_fields.specs.Fault.{Tells, Fails, Gives};
 ghost use Rattle.scenario_fields.specs.Place.{path, spot_path};
 ghost use Rattle.scenario_fields.specs.Value.{is_one_of, is_listed};
-ghost use Rattle.scenario_fields.specs.Fields.{required, number_at, number_or, optional_number, listed_or, flag_or, str_at, text_at, digits_at, optional_digits, code_at, six_digits_or, day_at, bytes_at, optional_bytes, array_at, array_or_none, table_at, optional_table, digits_item, digits_list, each, only, least_other};
+ghost use Rattle.scenario_fields.specs.Fields.{required, number_at, number_or, optional_number, listed_or, flag_or, str_at, text_at, digits_at, optional_digits, code_at, six_digits_or, day_at, bytes_at, optional_bytes, array_at, array_or_none, table_at, optional_table, table_item, digits_item, digits_list, each, only, least_other};
 ghost use Rattle.scenario_fields.specs.declared.fault.ScenarioFault.TheVariants.{MissingKey, UnknownKey};
+ghost use Rattle.scenario_fields.specs.declared.place.Place.TheVariants.{Top};
 
 use crate::fault::{Path, ScenarioFault};
 use crate::place::{Place, path_text};
@@ -40,6 +41,18 @@ pub struct Fields<'a> {
 }
 
 impl<'a> Fields<'a> {
+    /// The keys of a whole document.
+    pub fn document(alloc: Global, table: &'a Table) -> Fields<'a>
+        ensures place { result.place ≡ Top }
+        ensures table { result.table.now ≡ table.now }
+    {
+        Fields {
+            alloc,
+            place: Place::Top,
+            table,
+        }
+    }
+
     /// Where the value at a key stands.
     pub fn spot<'k>(&self, key: &'k str) -> Spot<'k>
         ensures place { result.place ≡ self.now.place }
@@ -361,23 +374,59 @@ impl<'a> Fields<'a> {
         }
     }
 
-    /// A table.
+    /// The keys of the table at a key, which is this place.
     #[tactic(auto, unfolding(crate::specs::Fields::table_at))]
-    pub fn table(&self, key: &str) -> Result<&'a Table, ScenarioFault>
-        ensures { Gives (λ t. table_view t.now) result (table_at (path self.now.place) key.now (table_view self.now.table.now)) }
+    pub fn inner(&self, key: &str, place: Place) -> Result<Fields<'a>, ScenarioFault>
+        ensures exact { Gives (λ f. table_view f.table.now) result (table_at (path self.now.place) key.now (table_view self.now.table.now)) }
+        ensures place { IfOk result (λ f. f.place ≡ place) }
     {
-        self.spot(key).table(self.required(key)?)
+        let table = self.spot(key).table(self.required(key)?)?;
+        Ok(Fields {
+            alloc: self.alloc,
+            place,
+            table,
+        })
     }
 
-    /// A table, where the key is there.
+    /// The keys of the table at a key, which is this place, where the key is there.
     #[tactic(auto, unfolding(crate::specs::Fields::optional_table))]
-    pub fn optional_table(&self, key: &str) -> Result<Option<&'a Table>, ScenarioFault>
-        ensures { Gives (λ o. option_map (λ t. table_view t.now) o) result (optional_table (path self.now.place) key.now (table_view self.now.table.now)) }
+    pub fn optional_inner(
+        &self,
+        key: &str,
+        place: Place,
+    ) -> Result<Option<Fields<'a>>, ScenarioFault>
+        ensures exact { Gives (λ o. option_map (λ f. table_view f.table.now) o) result (optional_table (path self.now.place) key.now (table_view self.now.table.now)) }
+        ensures place { IfOk result (λ o. IfSome o (λ f. f.place ≡ place)) }
     {
-        match member(self.table, key) {
-            Some(value) => Ok(Some(self.spot(key).table(value)?)),
-            None => Ok(None),
-        }
+        let Some(value) = member(self.table, key) else {
+            return Ok(None);
+        };
+        let table = self.spot(key).table(value)?;
+        Ok(Some(Fields {
+            alloc: self.alloc,
+            place,
+            table,
+        }))
+    }
+
+    /// The keys of a table that is an item of the array at a key, which is this place.
+    #[tactic(auto, unfolding(crate::specs::Fields::table_item))]
+    pub fn element<'v>(
+        &self,
+        key: &str,
+        index: usize,
+        place: Place,
+        value: &'v Value,
+    ) -> Result<Fields<'v>, ScenarioFault>
+        ensures exact { Gives (λ f. table_view f.table.now) result (table_item (path self.now.place) key.now index (view value.now)) }
+        ensures place { IfOk result (λ f. f.place ≡ place) }
+    {
+        let table = self.item(key, index).table(value)?;
+        Ok(Fields {
+            alloc: self.alloc,
+            place,
+            table,
+        })
     }
 
     /// At most `count` texts of `least` to `most` decimal digits each, at most 19; none where the key

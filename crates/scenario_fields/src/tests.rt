@@ -128,8 +128,20 @@ fn reads_arrays_and_tables(rt: HostRuntime) {
     assert!(rt; fields.array_or_none("g", 2).expect(&rt, "g").is_empty());
     let digits = fields.digits_list("a", 2, 2, 3).expect(&rt, "a");
     assert!(rt; digits.len() == 2 && digits[1].as_slice() == [3, 4, 5].as_slice());
-    assert!(rt; fields.table("t").expect(&rt, "t").len() == 1);
-    assert!(rt; fields.optional_table("s").expect(&rt, "s").is_none());
+    assert!(rt;
+        fields
+            .inner("t", Place::Issuer)
+            .expect(&rt, "t")
+            .table
+            .len()
+            == 1
+    );
+    assert!(rt;
+        fields
+            .optional_inner("s", Place::Issuer)
+            .expect(&rt, "s")
+            .is_none()
+    );
     assert!(rt; fields.only(&["a", "t"]).is_ok());
 }
 

@@ -2,8 +2,8 @@
 ghost use Rattle.std.specs.Prelude.{◌≡◌, ◌≤◌, length};
 ghost use Rattle.script_words.specs.MadeLength.{made_length as made_spec, order_length as order_spec, identifier_length as identifier_spec, template_tag as tag_spec, data_length as data_spec};
 
-use ber_tlv::{Tag, written_length};
 use crate::script::{Ordered, Script, Word};
+use ber_tlv::{Tag, written_length};
 
 /// How many bytes the script takes in the issuer's reply: its template with tag and length, which
 /// holds the identifier, where there is one, and a data object 86 for each command, with its message

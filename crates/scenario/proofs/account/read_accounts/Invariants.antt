@@ -1,14 +1,17 @@
 use Rattle.std.proofs.Common.{◌≡◌, [], drop, length}
-use Rattle.issuer_host.specs.Seen.{seen_accounts}
+use Rattle.std.specs.List.{All}
+use Rattle.issuer_host.specs.Account.{IsAccount}
 use Rattle.toml.specs.View.{items_view}
 use Rattle.scenario_fields.specs.Fields.{with_front}
+use Rattle.scenario_fields.specs.Place.{path}
 use Rattle.scenario.specs.Accounts.{accounts_from}
 use Rattle.scenario.proofs.account.read_accounts.Given as goal
 
 abbrev pub invariant-loop-value : goal.invariant-loop-value
 invariant-loop-value l = record {
   count : length l.accounts.items ≡ l.value-index;
+  rules : All IsAccount l.accounts.items;
   read :
-      with_front (seen_accounts l.accounts.items) (accounts_from l.value-index (seen_accounts l.accounts.items) (items_view (drop l.value-index l.values)))
-      ≡ accounts_from 0 [] (items_view l.values);
+      with_front l.accounts.items (accounts_from (path l.document.place) l.value-index l.accounts.items (items_view (drop l.value-index l.values)))
+      ≡ accounts_from (path l.document.place) 0 [] (items_view l.values);
 }

@@ -1,0 +1,15 @@
+use Rattle.std.proofs.Common.{◌≡◌, Ok, refl}
+use Rattle.scenario_fields.specs.Place.{at_top}
+use Rattle.scenario_lanes.specs.Lanes.{lanes_at}
+use Rattle.scenario.specs.Cards.{card_names}
+use Rattle.scenario.specs.Scenario.{tables_of}
+use Rattle.scenario.specs.Seen.{seen_cards}
+use Rattle.toml.specs.View.{table_view}
+use Rattle.scenario.proofs.read.read_tables.Goals as goal
+
+pub returns-clause-exact : goal.returns-clause-exact
+unfolding tables_of
+returns-clause-exact c =
+    let lanes : lanes_at at_top (card_names (seen_cards c.in_ok-cards.cards.items)) c.in_ok-issuer.issuer.pin (table_view c.args.document.now) ≡ Ok c.in_ok-lanes.lanes.items =
+    rw (← c.as_slice.ensures.value, ← c.bytes.ensures) c.in_ok-lanes.ensures.exact in
+    rw (c.in_ok-issuer.ensures, c.in_ok-accounts.ensures.exact, c.in_ok-cards.ensures.exact, lanes, c.in_ok-schedule.ensures.exact, c.in_ok-copies.ensures.exact, c.in_ok-only_top_keys.ensures) refl

@@ -1,0 +1,91 @@
+-- The tables of a lane and of its applications.
+use Rattle.std.specs.Prelude.{ℕ, ◌+◌, List, [], ◌∷◌, length, codes, false, Result, Ok}
+use Rattle.emv_dict.specs.Settings.{most_amount}
+use Rattle.emv_dict.specs.Views.{SettingsData}
+use Rattle.emv_dict.specs.declared.purchase.AidRow.{AidRow}
+use Rattle.toml.specs.Data.{Data, Items, no_items, item, Members}
+use Rattle.scenario_fields.specs.Fault.{◌>>=◌}
+use Rattle.scenario_fields.specs.Fields.{number_at, flag_or, text_at, code_at, bytes_at, array_at, digits_list, table_item, each, only}
+use Rattle.scenario_fields.specs.Place.{in_lane, in_aid}
+use Rattle.scenario_fields.specs.declared.fault.ScenarioFault.{ScenarioFault}
+use Rattle.scenario_fields.specs.declared.spot.Characters.TheVariants.{LetterOrDigit}
+use Rattle.scenario_lanes.specs.Plan.{LaneData}
+use Rattle.scenario_lanes.specs.Purchases.{purchases_at}
+
+unfoldable pub aid_keys : List (List ℕ)
+aid_keys =
+    codes "name" ∷ codes "partial" ∷ codes "version" ∷ codes "denial" ∷ codes "online" ∷ codes "default" ∷ codes "floor" ∷ codes "threshold"
+    ∷ codes "target" ∷ codes "max_target" ∷ []
+
+unfoldable pub aid_of : (List ℕ → List ℕ) → Members → Result AidRow ScenarioFault
+aid_of path ms = do
+  name ← bytes_at path (codes "name") 5 16 ms
+  partial ← flag_or false path (codes "partial") ms
+  version ← bytes_at path (codes "version") 2 2 ms
+  denial ← bytes_at path (codes "denial") 5 5 ms
+  online ← bytes_at path (codes "online") 5 5 ms
+  fallback ← bytes_at path (codes "default") 5 5 ms
+  floor ← number_at path (codes "floor") 0 most_amount ms
+  threshold ← number_at path (codes "threshold") 0 floor ms
+  target ← number_at path (codes "target") 0 99 ms
+  max_target ← number_at path (codes "max_target") target 99 ms
+  _ ← only path aid_keys ms
+  Ok (record {
+    name = name;
+    partial = partial;
+    version = version;
+    denial = denial;
+    online = online;
+    fallback = fallback;
+    floor = floor;
+    threshold = threshold;
+    target = target;
+    max_target = max_target;
+  })
+
+-- application `j` of lane `i`, whose keys have these paths
+unfoldable pub aid_item : (List ℕ → List ℕ) → ℕ → ℕ → Data → Result AidRow ScenarioFault
+aid_item path i j d = table_item path (codes "aid") j d >>= aid_of (in_aid i j)
+
+unfoldable pub aids_at : (List ℕ → List ℕ) → ℕ → Members → Result (List AidRow) ScenarioFault
+aids_at path i ms = array_at path (codes "aid") 1 16 ms >>= each (aid_item path i) 0
+
+unfoldable pub lane_keys : List (List ℕ)
+lane_keys =
+    codes "kind" ∷ codes "country" ∷ codes "caps" ∷ codes "id" ∷ codes "exceptions" ∷ codes "aid" ∷ codes "purchase" ∷ []
+
+-- the settings of the terminal of lane `i`, with the key for PINs
+unfoldable pub settings_of : (List ℕ → List ℕ) → ℕ → List ℕ → Members → Result SettingsData ScenarioFault
+settings_of path i pin_key ms = do
+  kind ← number_at path (codes "kind") 21 26 ms
+  country ← code_at path (codes "country") ms
+  caps ← bytes_at path (codes "caps") 3 3 ms
+  id ← text_at path (codes "id") LetterOrDigit 8 8 ms
+  exceptions ← digits_list path (codes "exceptions") 100 13 16 ms
+  aids ← aids_at path i ms
+  Ok (record { kind = kind; country = country; caps = caps; id = id; pin_key = pin_key; exceptions = exceptions; aids = aids })
+
+-- lane `i`, where the lanes before it have `earlier` purchases
+unfoldable pub lane_of : (List ℕ → List ℕ) → ℕ → ℕ → List (List ℕ) → List ℕ → Members → Result LaneData ScenarioFault
+lane_of path i earlier names pin_key ms = do
+  settings ← settings_of path i pin_key ms
+  purchases ← purchases_at path i earlier names ms
+  _ ← only path lane_keys ms
+  Ok (record { settings = settings; purchases = purchases })
+
+unfoldable pub lane_item : (List ℕ → List ℕ) → ℕ → ℕ → List (List ℕ) → List ℕ → Data → Result LaneData ScenarioFault
+lane_item path i earlier names pin_key d = table_item path (codes "lane") i d >>= lane_of (in_lane i) i earlier names pin_key
+
+-- the lanes from number `i` on
+abbrev pub lanes_from : (List ℕ → List ℕ) → ℕ → ℕ → List (List ℕ) → List ℕ → Items → Result (List LaneData) ScenarioFault
+lanes_from path i earlier names pin_key no_items = Ok []
+lanes_from path i earlier names pin_key (item d ds) = do
+  lane ← lane_item path i earlier names pin_key d
+  lanes ← lanes_from path (i + 1) (earlier + length lane.purchases) names pin_key ds
+  Ok (lane ∷ lanes)
+
+-- all lanes at their key in the document
+unfoldable pub lanes_at : (List ℕ → List ℕ) → List (List ℕ) → List ℕ → Members → Result (List LaneData) ScenarioFault
+lanes_at path names pin_key ms = do
+  items ← array_at path (codes "lane") 1 16 ms
+  lanes_from path 0 0 names pin_key items

@@ -1,0 +1,4 @@
+pub mod Cards
+pub mod Lanes
+pub mod Plan
+pub mod Purchases

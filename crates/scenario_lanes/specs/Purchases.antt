@@ -1,0 +1,137 @@
+-- The tables of a purchase and of its tear.
+use Rattle.std.specs.Prelude.{ℕ, ◌+◌, ◌-◌, List, [], ◌∷◌, codes, true, false, Option, Some, None, Result, Ok, Err, if◌then◌else◌}
+use Rattle.std.specs.Int.{to_be_bytes, w32}
+use Rattle.std.specs.Str.{bytes_eq}
+use Rattle.emv_dict.specs.Settings.{most_amount}
+use Rattle.emv_dict.specs.Views.{PurchaseData}
+use Rattle.emv_ports.specs.declared.tear.Tear.{Tear}
+use Rattle.emv_ports.specs.declared.tear.TearAt.{TearAt}
+use Rattle.emv_ports.specs.declared.tear.TearAt.TheVariants.{Before, Within, Release}
+use Rattle.toml.specs.Data.{Data, Members, get_member}
+use Rattle.scenario_fields.specs.Fault.{◌>>=◌}
+use Rattle.scenario_fields.specs.Fields.{number_at, number_or, listed_or, flag_or, str_at, text_at, code_at, six_digits_or, day_at, array_at, optional_table, table_item, digits_list, or_default, each, only}
+use Rattle.scenario_fields.specs.Place.{in_purchase, in_tear}
+use Rattle.scenario_fields.specs.Value.{str_of}
+use Rattle.scenario_fields.specs.declared.fault.ScenarioFault.{ScenarioFault}
+use Rattle.scenario_fields.specs.declared.fault.ScenarioFault.TheVariants.{BadValue}
+use Rattle.scenario_fields.specs.declared.spot.Characters.TheVariants.{LowercaseOrDigit}
+use Rattle.scenario_lanes.specs.declared.plan.Link.{Link}
+use Rattle.scenario_lanes.specs.declared.plan.Planned.{Planned}
+use Rattle.scenario_lanes.specs.declared.plan.Link.TheVariants.{Sound, RequestLost, ReplyLost, Twice}
+
+-- a cut at the release has no write
+abbrev pub without_write : (List ℕ → List ℕ) → Option Data → Result TearAt ScenarioFault
+without_write path None = Ok Release
+without_write path (Some d) = Err (BadValue (path (codes "write")))
+
+-- the number of the write before or within which the power is cut
+abbrev pub write_at : (List ℕ → List ℕ) → Members → Result ℕ ScenarioFault
+write_at path ms = number_at path (codes "write") 1 40 ms
+
+-- where in the commit, by the word at `at`
+unfoldable pub moment_of : (List ℕ → List ℕ) → List ℕ → Members → Result TearAt ScenarioFault
+moment_of path word ms =
+    if bytes_eq word (codes "before") then write_at path ms >>= (λ k. Ok (Before k))
+    else if bytes_eq word (codes "within") then write_at path ms >>= (λ k. Ok (Within k))
+    else if bytes_eq word (codes "release") then without_write path (get_member (codes "write") ms)
+    else Err (BadValue (path (codes "at")))
+
+unfoldable pub tear_keys : List (List ℕ)
+tear_keys = codes "commit" ∷ codes "at" ∷ codes "write" ∷ []
+
+unfoldable pub tear_of : (List ℕ → List ℕ) → Members → Result Tear ScenarioFault
+tear_of path ms = do
+  commit ← number_at path (codes "commit") 0 50 ms
+  word ← str_at path (codes "at") ms
+  moment ← moment_of path word ms
+  _ ← only path tear_keys ms
+  Ok (record { commit = commit; at = moment })
+
+abbrev pub tear_if : ℕ → ℕ → Option Members → Result (Option Tear) ScenarioFault
+tear_if i j None = Ok None
+tear_if i j (Some ms) = tear_of (in_tear i j) ms >>= (λ tear. Ok (Some tear))
+
+-- the tear of purchase `j` of lane `i`, whose keys have these paths
+unfoldable pub tear_at : (List ℕ → List ℕ) → ℕ → ℕ → Members → Result (Option Tear) ScenarioFault
+tear_at path i j ms = optional_table path (codes "tear") ms >>= tear_if i j
+
+-- what becomes of the message to the host, by its word
+unfoldable pub link_named : List ℕ → List ℕ → Result Link ScenarioFault
+link_named path word =
+    if bytes_eq word (codes "ok") then Ok Sound
+    else if bytes_eq word (codes "request_lost") then Ok RequestLost
+    else if bytes_eq word (codes "reply_lost") then Ok ReplyLost
+    else if bytes_eq word (codes "twice") then Ok Twice
+    else Err (BadValue path)
+
+unfoldable pub link_of : List ℕ → Data → Result Link ScenarioFault
+link_of path d = str_of path d >>= link_named path
+
+unfoldable pub link_or_sound : (List ℕ → List ℕ) → Members → Result Link ScenarioFault
+link_or_sound path ms = or_default Sound (link_of (path (codes "link"))) (get_member (codes "link") ms)
+
+-- The index of the first card of this name. A card that isn't there is no fault before the whole document
+-- is walked: until then the number of cards stands for it, as 255 does for a number that is no lane.
+unfoldable pub place_of : List ℕ → List (List ℕ) → ℕ
+place_of name [] = 0
+place_of name (n ∷ names) = (if bytes_eq n name then 0 else place_of name names + 1)
+
+-- the index of the card
+unfoldable pub card_at : (List ℕ → List ℕ) → List (List ℕ) → Members → Result ℕ ScenarioFault
+card_at path names ms = do
+  name ← text_at path (codes "card") LowercaseOrDigit 1 16 ms
+  Ok (place_of name names)
+
+-- what the terminal is asked for
+unfoldable pub purchase_of : (List ℕ → List ℕ) → Members → Result PurchaseData ScenarioFault
+purchase_of path ms = do
+  amount ← number_at path (codes "amount") 0 most_amount ms
+  other ← number_or 0 path (codes "other") 0 amount ms
+  currency ← code_at path (codes "currency") ms
+  trade ← listed_or 0 path (codes "trade") (0 ∷ 1 ∷ 9 ∷ []) ms
+  services ← flag_or false path (codes "services") ms
+  date ← day_at path (codes "date") ms
+  time ← six_digits_or (0 ∷ 0 ∷ 0 ∷ []) path (codes "time") ms
+  number ← number_at path (codes "number") 0 4294967295 ms
+  word ← number_at path (codes "word") 0 4294967295 ms
+  pins ← digits_list path (codes "pins") 15 4 12 ms
+  forced ← flag_or false path (codes "forced") ms
+  confirm ← flag_or true path (codes "confirm") ms
+  Ok (record {
+    amount = amount;
+    other = other;
+    currency = currency;
+    trade = trade;
+    services = services;
+    date = date;
+    time = time;
+    number = to_be_bytes w32 number;
+    word = word;
+    pins = pins;
+    forced = forced;
+    confirm = confirm;
+  })
+
+unfoldable pub planned_keys : List (List ℕ)
+planned_keys =
+    codes "card" ∷ codes "amount" ∷ codes "other" ∷ codes "currency" ∷ codes "trade" ∷ codes "services" ∷ codes "date" ∷ codes "time"
+    ∷ codes "number" ∷ codes "word" ∷ codes "pins" ∷ codes "forced" ∷ codes "confirm" ∷ codes "link" ∷ codes "tear" ∷ []
+
+-- purchase `j` of lane `i`, with the names of the cards
+unfoldable pub planned_of : (List ℕ → List ℕ) → ℕ → ℕ → List (List ℕ) → Members → Result Planned ScenarioFault
+planned_of path i j names ms = do
+  card ← card_at path names ms
+  purchase ← purchase_of path ms
+  link ← link_or_sound path ms
+  tear ← tear_at path i j ms
+  _ ← only path planned_keys ms
+  Ok (record { purchase = purchase; card = card; link = link; tear = tear })
+
+unfoldable pub planned_item : (List ℕ → List ℕ) → ℕ → List (List ℕ) → ℕ → Data → Result Planned ScenarioFault
+planned_item path i names j d = table_item path (codes "purchase") j d >>= planned_of (in_purchase i j) i j names
+
+-- the purchases of lane `i`, where the lanes before it have `earlier`: at most 10,000 in all lanes
+unfoldable pub purchases_at : (List ℕ → List ℕ) → ℕ → ℕ → List (List ℕ) → Members → Result (List Planned) ScenarioFault
+purchases_at path i earlier names ms = do
+  items ← array_at path (codes "purchase") 0 (10000 - earlier) ms
+  each (planned_item path i names) 0 items

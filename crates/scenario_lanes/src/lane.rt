@@ -1,0 +1,228 @@
+//! The tables of a lane and of its applications.
+ghost use Rattle.std.specs.Prelude.{◌≡◌, ◌≤◌, ◌+◌, length, map, IfOk, vec_len};
+ghost use Rattle.std.specs.List.{All};
+ghost use Rattle.emv_dict.specs.Settings.{IsAidRow, IsSettings};
+ghost use Rattle.toml.specs.View.{view, table_view, items_view};
+ghost use Rattle.scenario_fields.specs.Fault.{Gives};
+ghost use Rattle.scenario_fields.specs.Fields.{only, each};
+ghost use Rattle.scenario_fields.specs.Place.{path};
+ghost use Rattle.scenario_lanes.specs.Lanes.{aid_keys, aid_of, aid_item, aids_at, lane_keys, settings_of, lane_of, lane_item, lanes_from, lanes_at};
+ghost use Rattle.scenario_lanes.specs.Plan.{IsLane, purchase_count};
+
+use crate::plan::Lane;
+use crate::purchase::purchases_at;
+use emv_dict::{AidRow, Name, Settings};
+use scenario_fields::{Characters, Fields, MOST_AMOUNT, Place, ScenarioFault};
+use toml::Value;
+
+#[tactic(auto, unfolding(crate::specs::Lanes::aid_keys))]
+fn only_aid_keys(fields: &Fields) -> Result<(), ScenarioFault>
+    ensures { Gives (λ u. u) result (only (path fields.now.place) aid_keys (table_view fields.now.table.now)) }
+{
+    fields.only(&[
+        "name",
+        "partial",
+        "version",
+        "denial",
+        "online",
+        "default",
+        "floor",
+        "threshold",
+        "target",
+        "max_target",
+    ])
+}
+
+/// What a terminal keeps for one application.
+#[tactic(auto, unfolding(crate::specs::Lanes::aid_of))]
+fn read_aid(fields: &Fields) -> Result<AidRow, ScenarioFault>
+    ensures exact { Gives (λ row. row) result (aid_of (path fields.now.place) (table_view fields.now.table.now)) }
+    ensures rules { IfOk result IsAidRow }
+{
+    let name = Name(fields.few_bytes("name", 5)?);
+    let partial = fields.flag_or(false, "partial")?;
+    let version = fields.byte_array("version")?;
+    let denial = fields.byte_array("denial")?;
+    let online = fields.byte_array("online")?;
+    let fallback = fields.byte_array("default")?;
+    let floor = fields.number("floor", 0, MOST_AMOUNT)?;
+    let threshold = fields.number("threshold", 0, floor)?;
+    let target = fields.number("target", 0, 99)?;
+    let max_target = fields.number("max_target", target, 99)?;
+    only_aid_keys(fields)?;
+    Ok(AidRow {
+        name,
+        partial,
+        version,
+        denial,
+        online,
+        fallback,
+        floor,
+        threshold,
+        target: target as u8,
+        max_target: max_target as u8,
+    })
+}
+
+/// An application among those of a lane.
+#[tactic(auto, unfolding(crate::specs::Lanes::aid_item))]
+fn aid_item(
+    fields: &Fields,
+    lane: usize,
+    index: usize,
+    value: &Value,
+) -> Result<AidRow, ScenarioFault>
+    ensures exact { Gives (λ row. row) result (aid_item (path fields.now.place) lane index (view value.now)) }
+    ensures rules { IfOk result IsAidRow }
+{
+    read_aid(&fields.element("aid", index, Place::Aid(lane, index), value)?)
+}
+
+/// Each application of a lane.
+fn read_aids(fields: &Fields, lane: usize, values: &[Value]) -> Result<Vec<AidRow>, ScenarioFault>
+    ensures exact { Gives (λ rows. rows.items) result (each (aid_item (path fields.now.place) lane) 0 (items_view values.now)) }
+    ensures count { IfOk result (λ rows. vec_len rows ≡ length values.now) }
+    ensures rules { IfOk result (λ rows. All IsAidRow rows.items) }
+{
+    let mut rows = Vec::new(fields.alloc);
+    for value in values {
+        rows.push(aid_item(fields, lane, rows.len(), value)?)?;
+    }
+    Ok(rows)
+}
+
+/// The applications of a lane.
+#[tactic(auto, unfolding(crate::specs::Lanes::aids_at))]
+fn aids_at(fields: &Fields, lane: usize) -> Result<Vec<AidRow>, ScenarioFault>
+    ensures exact { Gives (λ rows. rows.items) result (aids_at (path fields.now.place) lane (table_view fields.now.table.now)) }
+    ensures some { IfOk result (λ rows. 1 ≤ vec_len rows) }
+    ensures few { IfOk result (λ rows. vec_len rows ≤ 16) }
+    ensures rules { IfOk result (λ rows. All IsAidRow rows.items) }
+{
+    read_aids(fields, lane, fields.array("aid", 1, 16)?)
+}
+
+#[tactic(auto, unfolding(crate::specs::Lanes::lane_keys))]
+fn only_lane_keys(fields: &Fields) -> Result<(), ScenarioFault>
+    ensures { Gives (λ u. u) result (only (path fields.now.place) lane_keys (table_view fields.now.table.now)) }
+{
+    fields.only(&[
+        "kind",
+        "country",
+        "caps",
+        "id",
+        "exceptions",
+        "aid",
+        "purchase",
+    ])
+}
+
+/// The settings of a lane's terminal.
+#[tactic(auto, unfolding(crate::specs::Lanes::settings_of))]
+fn read_settings(fields: &Fields, lane: usize, pin_key: [u8; 16]) -> Result<Settings, ScenarioFault>
+    ensures exact { Gives (λ settings. settings) result (settings_of (path fields.now.place) lane pin_key (table_view fields.now.table.now)) }
+    ensures rules { IfOk result IsSettings }
+    ensures pin { IfOk result (λ settings. settings.pin_key ≡ pin_key) }
+{
+    let kind = fields.number("kind", 21, 26)? as u8;
+    let country = fields.code("country")?;
+    let caps = fields.byte_array("caps")?;
+    let id = fields.text_array("id", Characters::LetterOrDigit)?;
+    let exceptions = fields.digits_list("exceptions", 100, 13, 16)?;
+    let aids = aids_at(fields, lane)?;
+    Ok(Settings {
+        kind,
+        country,
+        caps,
+        id,
+        pin_key,
+        exceptions,
+        aids,
+    })
+}
+
+/// A lane, where the lanes before it have `earlier` purchases.
+#[tactic(auto, unfolding(crate::specs::Lanes::lane_of))]
+fn read_lane(
+    fields: &Fields,
+    lane: usize,
+    earlier: usize,
+    cards: &[&[u8]],
+    pin_key: [u8; 16],
+) -> Result<Lane, ScenarioFault>
+    requires { earlier ≤ 10000 }
+    ensures exact { Gives (λ lane. lane) result (lane_of (path fields.now.place) lane earlier (map (λ name. name.now) cards.now) pin_key (table_view fields.now.table.now)) }
+    ensures count { IfOk result (λ lane. earlier + length lane.purchases ≤ 10000) }
+    ensures rules { IfOk result IsLane }
+    ensures pin { IfOk result (λ lane. lane.settings.pin_key ≡ pin_key) }
+{
+    let settings = read_settings(fields, lane, pin_key)?;
+    let purchases = purchases_at(fields, lane, earlier, cards)?;
+    only_lane_keys(fields)?;
+    Ok(Lane {
+        settings,
+        purchases,
+    })
+}
+
+/// A lane among those of the document.
+#[tactic(auto, unfolding(crate::specs::Lanes::lane_item))]
+fn lane_item(
+    document: &Fields,
+    lane: usize,
+    earlier: usize,
+    cards: &[&[u8]],
+    pin_key: [u8; 16],
+    value: &Value,
+) -> Result<Lane, ScenarioFault>
+    requires { earlier ≤ 10000 }
+    ensures exact { Gives (λ lane. lane) result (lane_item (path document.now.place) lane earlier (map (λ name. name.now) cards.now) pin_key (view value.now)) }
+    ensures count { IfOk result (λ lane. earlier + length lane.purchases ≤ 10000) }
+    ensures rules { IfOk result IsLane }
+    ensures pin { IfOk result (λ lane. lane.settings.pin_key ≡ pin_key) }
+{
+    let fields = document.element("lane", lane, Place::Lane(lane), value)?;
+    read_lane(&fields, lane, earlier, cards, pin_key)
+}
+
+/// Each lane of the document.
+fn read_lanes(
+    document: &Fields,
+    cards: &[&[u8]],
+    pin_key: [u8; 16],
+    values: &[Value],
+) -> Result<Vec<Lane>, ScenarioFault>
+    ensures exact { Gives (λ lanes. lanes.items) result (lanes_from (path document.now.place) 0 0 (map (λ name. name.now) cards.now) pin_key (items_view values.now)) }
+    ensures count { IfOk result (λ lanes. vec_len lanes ≡ length values.now) }
+    ensures few { IfOk result (λ lanes. purchase_count lanes.items ≤ 10000) }
+    ensures rules { IfOk result (λ lanes. All IsLane lanes.items) }
+    ensures pins { IfOk result (λ lanes. All (λ lane. lane.settings.pin_key ≡ pin_key) lanes.items) }
+{
+    let mut lanes: Vec<Lane> = Vec::new(document.alloc);
+    let mut earlier = 0;
+    for value in values {
+        let lane = lane_item(document, lanes.len(), earlier, cards, pin_key, value)?;
+        earlier += lane.purchases.len();
+        lanes.push(lane)?;
+    }
+    Ok(lanes)
+}
+
+/// The lanes of a document, from 1 to 16 with at most 10,000 purchases together. A purchase names one
+/// of the cards, `pin_key` is the key under which a terminal sends PINs to the issuer. A purchase whose
+/// card is none of these has their number as its index.
+#[tactic(auto, unfolding(crate::specs::Lanes::lanes_at))]
+pub fn lanes_at(
+    document: &Fields,
+    cards: &[&[u8]],
+    pin_key: [u8; 16],
+) -> Result<Vec<Lane>, ScenarioFault>
+    ensures exact { Gives (λ lanes. lanes.items) result (lanes_at (path document.now.place) (map (λ name. name.now) cards.now) pin_key (table_view document.now.table.now)) }
+    ensures some { IfOk result (λ lanes. 1 ≤ vec_len lanes) }
+    ensures few { IfOk result (λ lanes. vec_len lanes ≤ 16) }
+    ensures few_purchases { IfOk result (λ lanes. purchase_count lanes.items ≤ 10000) }
+    ensures rules { IfOk result (λ lanes. All IsLane lanes.items) }
+    ensures pins { IfOk result (λ lanes. All (λ lane. lane.settings.pin_key ≡ pin_key) lanes.items) }
+{
+    read_lanes(document, cards, pin_key, document.array("lane", 1, 16)?)
+}
