@@ -1,4 +1,5 @@
 pub mod AccountLoop
+pub mod Apart
 pub mod CardNames
 pub mod CardParts
 pub mod Loops

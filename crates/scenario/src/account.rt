@@ -7,6 +7,7 @@ ghost use Rattle.scenario_fields.specs.Fault.{Gives};
 ghost use Rattle.scenario_fields.specs.Fields.{only};
 ghost use Rattle.scenario_fields.specs.Place.{path};
 ghost use Rattle.scenario.specs.Accounts.{has_pan, new_pan, account_keys, account_of, account_item, accounts_from, accounts_at};
+ghost use Rattle.scenario.specs.Plan.{HaveOwnPans};
 
 use crate::script::scripts_at;
 use emv_dict::Digits;
@@ -104,6 +105,7 @@ pub fn accounts_at(document: &Fields) -> Result<Vec<Account>, ScenarioFault>
     ensures exact { Gives (λ accounts. accounts.items) result (accounts_at (path document.now.place) (table_view document.now.table.now)) }
     ensures count { IfOk result (λ accounts. vec_len accounts ≤ 1000) }
     ensures rules { IfOk result (λ accounts. All IsAccount accounts.items) }
+    ensures own_pans { IfOk result (λ accounts. HaveOwnPans accounts.items) }
 {
     read_accounts(document, document.array("account", 0, 1000)?)
 }

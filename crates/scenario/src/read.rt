@@ -1,5 +1,5 @@
 //! The document of a scenario, from its bytes.
-ghost use Rattle.std.specs.Prelude.{◌≡◌, ◌≤◌, length, map, codes, IfOk, vec_len};
+ghost use Rattle.std.specs.Prelude.{◌≡◌, ◌<◌, ◌≤◌, length, map, codes, IfOk, vec_len};
 ghost use Rattle.std.specs.List.{All};
 ghost use Rattle.toml.specs.View.{table_view};
 ghost use Rattle.scenario_fields.specs.Fault.{Gives, Tells};
@@ -7,9 +7,9 @@ ghost use Rattle.scenario_fields.specs.Fields.{only};
 ghost use Rattle.scenario_fields.specs.Place.{path};
 ghost use Rattle.scenario_fields.specs.declared.fault.ScenarioFault.TheVariants.{OutOfLimit};
 ghost use Rattle.scenario_lanes.specs.Lanes.{lanes_at as lanes_found};
-ghost use Rattle.scenario_lanes.specs.Plan.{IsLane, purchase_count};
+ghost use Rattle.scenario_lanes.specs.Plan.{IsLane, HasCards, purchase_count};
 ghost use Rattle.scenario.specs.Cards.{card_names as names_of};
-ghost use Rattle.scenario.specs.Plan.{IsScenario};
+ghost use Rattle.scenario.specs.Plan.{AreTables, IsScenario};
 ghost use Rattle.scenario.specs.Scenario.{top_keys, tables_of, names_known as names_tried, scenario_of, IsReading};
 ghost use Rattle.scenario.specs.Seen.{seen_cards};
 
@@ -66,7 +66,7 @@ fn lanes_with(
 #[tactic(auto, unfolding(crate::specs::Scenario::tables_of))]
 fn read_tables(alloc: Global, document: &Table) -> Result<Scenario, ScenarioFault>
     ensures exact { Gives (λ scenario. scenario) result (tables_of (table_view document.now)) }
-    ensures rules { IfOk result IsScenario }
+    ensures rules { IfOk result AreTables }
 {
     let fields = Fields {
         alloc,
@@ -93,7 +93,9 @@ fn read_tables(alloc: Global, document: &Table) -> Result<Scenario, ScenarioFaul
 /// Tries the names of cards and lanes.
 #[tactic(auto, unfolding(crate::specs::Scenario::names_known), using(crate::proofs::CardNames::cards_count))]
 fn names_known(alloc: Global, scenario: &Scenario) -> Result<(), ScenarioFault>
-    ensures { Gives (λ u. u) result (names_tried scenario.now) }
+    ensures exact { Gives (λ u. u) result (names_tried scenario.now) }
+    ensures cards { IfOk result (λ _. All (HasCards (length scenario.now.cards)) scenario.now.lanes) }
+    ensures lanes { IfOk result (λ _. All (λ lane. lane < length scenario.now.lanes) scenario.now.schedule) }
 {
     known_cards(alloc, scenario.cards.len(), scenario.lanes.as_slice())?;
     known_lanes(alloc, scenario.lanes.len(), scenario.schedule.as_slice())
