@@ -12,6 +12,7 @@ use Rattle.scenario.specs.Accounts.{accounts_at}
 use Rattle.scenario.specs.Cards.{cards_at, card_names}
 use Rattle.scenario.specs.Issuer.{issuer_at}
 use Rattle.scenario.specs.Plan.{ScenarioData}
+use Rattle.scenario.specs.declared.read.TheConstants.{MOST_BYTES}
 use Rattle.scenario.specs.Schedule.{schedule_at, known_lanes}
 use Rattle.scenario_lanes.specs.Cards.{known_from}
 use Rattle.scenario_lanes.specs.Lanes.{lanes_at}
@@ -49,12 +50,8 @@ abbrev pub of_document : Option Members → Result ScenarioData ScenarioFault
 of_document None = Err Toml
 of_document (Some ms) = scenario_of ms
 
--- a document has at most so many bytes
-abbrev pub most_bytes : ℕ
-most_bytes = 4194304
-
 -- what the bytes give: too many of them are refused unread
 pub record IsReading (bytes : List ℕ) (result : Result ScenarioData ScenarioFault) : Type 0 where
-  pub long : most_bytes < length bytes → Gives (λ s. s) result (Err (OutOfLimit (codes "file")))
-  pub text : length bytes ≤ most_bytes → IsUtf8 bytes → Gives (λ s. s) result (of_document (parse_document bytes))
-  pub other : length bytes ≤ most_bytes → (IsUtf8 bytes → ⊥) → Gives (λ s. s) result (Err Toml)
+  pub long : MOST_BYTES < length bytes → Gives (λ s. s) result (Err (OutOfLimit (codes "file")))
+  pub text : length bytes ≤ MOST_BYTES → IsUtf8 bytes → Gives (λ s. s) result (of_document (parse_document bytes))
+  pub other : length bytes ≤ MOST_BYTES → (IsUtf8 bytes → ⊥) → Gives (λ s. s) result (Err Toml)

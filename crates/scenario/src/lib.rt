@@ -13,6 +13,6 @@ pub mod schedule;
 pub mod script;
 
 pub use plan::{NamedImage, Scenario};
-pub use read::read_scenario;
+pub use read::{MOST_BYTES, read_scenario};
 pub use scenario_fields::{Path, ScenarioFault};
 pub use scenario_lanes::{Lane, Link, Planned};

@@ -49,14 +49,18 @@ const FAULTS: [(&str, &str, &str); 4] = [
 ];
 
 /// Whether the line refuses a document with this change.
+fn is_refused(alloc: Global, bytes: &[u8], line: &str) -> bool {
+    match judged(alloc, bytes) {
+        Ok(Verdict::Refused { line: found }) => found.as_str() == line,
+        _ => false,
+    }
+}
+
 fn is_refused_with(alloc: Global, old: &str, new: &str, line: &str) -> bool {
     let Some(text) = replaced(alloc, DOCUMENT, old, new) else {
         return false;
     };
-    match judged(alloc, text.as_bytes()) {
-        Ok(Verdict::Refused { line: found }) => found.as_str() == line,
-        _ => false,
-    }
+    is_refused(alloc, text.as_bytes(), line)
 }
 
 #[test]
@@ -73,16 +77,17 @@ fn the_document_is_accepted(rt: HostRuntime) -> Result<(), Fail> {
     Ok(())
 }
 
-/// The document with a script, a purchase that is cut, one whose reply is lost, and a schedule.
+/// The document with scripts, a purchase whose flags are turned, that is cut and whose reply is lost, and
+/// a schedule.
 const MORE: [(&str, &str); 3] = [
     ("\n[issuer]", "schedule = [0, 0]\ncopies = 3\n\n[issuer]"),
     (
         "\n[[card]]",
-        "\n[[account.scripts]]\nwhen = \"before\"\nid = \"00000001\"\ncommands = [\"count 9\", \"block bad\"]\n\n[[card]]",
+        "\n[[account.scripts]]\nwhen = \"before\"\nid = \"00000001\"\ncommands = [\"count 9\", \"block bad\"]\n\n[[account.scripts]]\nwhen = \"after\"\ncommands = [\"unblock\"]\n\n[[card]]",
     ),
     (
         "pins = [\"1234\"]",
-        "link = \"reply_lost\"\n[lane.purchase.tear]\ncommit = 4\nat = \"within\"\nwrite = 2",
+        "other = 500\ntrade = 9\nservices = true\nforced = true\nconfirm = false\nlink = \"reply_lost\"\n[lane.purchase.tear]\ncommit = 4\nat = \"within\"\nwrite = 2",
     ),
 ];
 
@@ -109,6 +114,8 @@ fn scripts_are_read(rt: HostRuntime) {
     assert!(rt; first.word == Word::Count(9) && !first.bad);
     let last = script.commands.last().expect(&rt, "a command");
     assert!(rt; last.word == Word::Block && last.bad);
+    let later = account.scripts.last().expect(&rt, "a script");
+    assert!(rt; account.scripts.len() == 2 && !later.before && later.id.is_none());
 }
 
 #[test]
@@ -124,25 +131,45 @@ fn tears_and_links_are_read(rt: HostRuntime) {
         at: TearAt::Within(2),
     };
     assert!(rt; planned.tear == Some(cut) && planned.link == Link::ReplyLost);
-    assert!(rt; planned.purchase.pins.is_empty());
+    let purchase = &planned.purchase;
+    assert!(rt; purchase.pins.is_empty() && purchase.other == 500 && purchase.trade == 9);
+    assert!(rt; purchase.services && purchase.forced && !purchase.confirm);
 }
 
-fn first_fault(alloc: Global, bytes: &[u8]) -> Option<u8> {
-    match read_scenario(alloc, bytes) {
-        Ok(_) => None,
-        Err(fault) => fault.number(),
+/// The words for what becomes of a message.
+const LINKS: [(&str, Link); 4] = [
+    ("ok", Link::Sound),
+    ("request_lost", Link::RequestLost),
+    ("reply_lost", Link::ReplyLost),
+    ("twice", Link::Twice),
+];
+
+/// What becomes of the first message of a scenario.
+fn first_link(scenario: &Scenario) -> Option<Link> {
+    Some(scenario.lanes.first()?.purchases.first()?.link)
+}
+
+#[test]
+fn each_link_has_its_word(rt: HostRuntime) -> Result<(), Fail> {
+    for (word, link) in LINKS {
+        let line = format!(in rt.alloc(); "link = \"{word}\"")?;
+        let text = replaced(rt.alloc(), DOCUMENT, "pins = [\"1234\"]", line.as_str())
+            .expect(&rt, "a document");
+        let scenario = read(rt.alloc(), text.as_str()).ok().expect(&rt, "a scenario");
+        assert!(rt; first_link(&scenario) == Some(link), "{word}");
     }
+    Ok(())
 }
 
 #[test]
 fn bytes_are_refused(rt: HostRuntime) {
-    assert!(rt; first_fault(rt.alloc(), b"") == Some(2));
-    assert!(rt; first_fault(rt.alloc(), b"issuer = ") == Some(1));
-    assert!(rt; first_fault(rt.alloc(), b"# \xFF") == Some(1));
+    let missing = "refused 2 MissingKey issuer\n";
+    assert!(rt; is_refused(rt.alloc(), b"", missing));
+    assert!(rt; is_refused(rt.alloc(), b"issuer = ", "refused 1 Toml\n"));
+    assert!(rt; is_refused(rt.alloc(), b"# \xFF", "refused 1 Toml\n"));
     let mut long = Vec::new(rt.alloc());
     long.resize(4_194_304, b' ').expect(&rt, "room");
-    assert!(rt; first_fault(rt.alloc(), long.as_slice()) == Some(2));
+    assert!(rt; is_refused(rt.alloc(), long.as_slice(), missing));
     long.push(b' ').expect(&rt, "room");
-    assert!(rt; first_fault(rt.alloc(), long.as_slice()) == Some(4));
-    assert!(rt; first_fault(rt.alloc(), DOCUMENT.as_bytes()).is_none());
+    assert!(rt; is_refused(rt.alloc(), long.as_slice(), "refused 4 OutOfLimit file\n"));
 }

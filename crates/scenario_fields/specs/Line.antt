@@ -1,25 +1,7 @@
--- A fault's number, name and line.
+-- The line of a fault.
 use Rattle.std.specs.Prelude.{ℕ, List, [], ◌∷◌, ◌++◌, codes, Option, Some, None}
 use Rattle.scenario_fields.specs.declared.fault.ScenarioFault.{ScenarioFault}
 use Rattle.scenario_fields.specs.declared.fault.ScenarioFault.TheVariants.{Toml, MissingKey, BadValue, OutOfLimit, UnknownKey, UnknownName, OutOfMemory}
-
-abbrev pub fault_number : ScenarioFault → Option ℕ
-fault_number Toml = Some 1
-fault_number (MissingKey path) = Some 2
-fault_number (BadValue path) = Some 3
-fault_number (OutOfLimit path) = Some 4
-fault_number (UnknownKey path) = Some 5
-fault_number (UnknownName path) = Some 6
-fault_number OutOfMemory = None
-
-abbrev pub fault_name : ScenarioFault → List ℕ
-fault_name Toml = codes "Toml"
-fault_name (MissingKey path) = codes "MissingKey"
-fault_name (BadValue path) = codes "BadValue"
-fault_name (OutOfLimit path) = codes "OutOfLimit"
-fault_name (UnknownKey path) = codes "UnknownKey"
-fault_name (UnknownName path) = codes "UnknownName"
-fault_name OutOfMemory = codes "OutOfMemory"
 
 -- the words in front, the path, and a newline
 abbrev pub line_with : List ℕ → List ℕ → List ℕ

@@ -1,5 +1,5 @@
 ghost use Rattle.std.specs.Prelude.{◌≡◌, ℕ, List, IfOk, Some, string_bytes};
-ghost use Rattle.scenario_fields.specs.Line.{fault_number, fault_name, refused_line};
+ghost use Rattle.scenario_fields.specs.Line.{refused_line};
 ghost use Rattle.scenario_fields.specs.declared.fault.ScenarioFault.TheVariants.{OutOfMemory};
 
 use std::alloc::{AllocError, AllocFailed, Global};
@@ -72,36 +72,6 @@ impl<T: Drop> From<AllocFailed<T>> for ScenarioFault {
 }
 
 impl ScenarioFault {
-    /// The number of the fault's kind, from 1 to 6; want of memory has none.
-    pub fn number(&self) -> Option<u8>
-        ensures { result ≡ fault_number self.now }
-    {
-        match self {
-            ScenarioFault::Toml => Some(1),
-            ScenarioFault::MissingKey { path: _ } => Some(2),
-            ScenarioFault::BadValue { path: _ } => Some(3),
-            ScenarioFault::OutOfLimit { path: _ } => Some(4),
-            ScenarioFault::UnknownKey { path: _ } => Some(5),
-            ScenarioFault::UnknownName { path: _ } => Some(6),
-            ScenarioFault::OutOfMemory => None,
-        }
-    }
-
-    /// The name of the fault's kind.
-    pub fn name(&self) -> &'static str
-        ensures { result.now ≡ fault_name self.now }
-    {
-        match self {
-            ScenarioFault::Toml => "Toml",
-            ScenarioFault::MissingKey { path: _ } => "MissingKey",
-            ScenarioFault::BadValue { path: _ } => "BadValue",
-            ScenarioFault::OutOfLimit { path: _ } => "OutOfLimit",
-            ScenarioFault::UnknownKey { path: _ } => "UnknownKey",
-            ScenarioFault::UnknownName { path: _ } => "UnknownName",
-            ScenarioFault::OutOfMemory => "OutOfMemory",
-        }
-    }
-
     /// The line that reports the fault, with its newline: `refused`, its number, its name and its
     /// path. Want of memory has no line and is the same error again.
     #[tactic(auto, unfolding(crate::specs::Line::refused_line))]

@@ -279,9 +279,8 @@ impl<'a> Spot<'a> {
         ensures within { IfOk result (λ v. least ≤ array_vec_len v) }
     {
         let bytes = self.bytes(value, least, N)?;
-        let mut few = ArrayVec::new();
-        match few.try_extend_from_slice(bytes.as_slice()) {
-            Ok(()) => Ok(few),
+        match ArrayVec::try_from(bytes.as_slice()) {
+            Ok(few) => Ok(few),
             Err(_) => unreachable!(),
         }
     }

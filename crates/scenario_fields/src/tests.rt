@@ -32,12 +32,9 @@ fn a_path_names_each_table_with_its_index(rt: HostRuntime) -> Result<(), Fail> {
 #[test]
 fn a_fault_has_a_line(rt: HostRuntime) -> Result<(), Fail> {
     let path = Path::new(format!(in rt.alloc(); "card[0].name")?);
-    assert!(rt; path.as_str() == "card[0].name");
     let fault = ScenarioFault::BadValue { path };
-    assert!(rt; fault.number() == Some(3) && fault.name() == "BadValue");
     assert!(rt; fault.line(rt.alloc())?.as_str() == "refused 3 BadValue card[0].name\n");
     assert!(rt; ScenarioFault::Toml.line(rt.alloc())?.as_str() == "refused 1 Toml\n");
-    assert!(rt; ScenarioFault::OutOfMemory.number().is_none());
     assert!(rt; ScenarioFault::OutOfMemory.line(rt.alloc()).is_err());
     Ok(())
 }
