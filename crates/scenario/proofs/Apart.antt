@@ -82,7 +82,7 @@ accounts_apart path i earlier (item d ds) found is apart =
     let rest = then_ok (accounts_from path (i + 1) (earlier ++ first.0 ∷ []) ds) _ found first.2 in
     let whole : first.0 ∷ rest.0 ≡ found = ok_is (first.0 ∷ rest.0) found rest.2 in
     let more : HaveOwnPans ((earlier ++ first.0 ∷ []) ++ rest.0) =
-        accounts_apart path (i + 1) (earlier ++ first.0 ∷ []) ds rest.0 rest.1 (one_more_pan earlier first.0 (new_account path i earlier d first.0 first.1) apart) in
+    accounts_apart path (i + 1) (earlier ++ first.0 ∷ []) ds rest.0 rest.1 (one_more_pan earlier first.0 (new_account path i earlier d first.0 first.1) apart) in
     subst (λ (accounts : List AccountData). HaveOwnPans (earlier ++ accounts)) whole
     (subst (λ (accounts : List AccountData). HaveOwnPans accounts) (append_assoc earlier (first.0 ∷ []) rest.0) more)
 
@@ -113,12 +113,15 @@ new_card_of i keys earlier ms card is =
     let whole = kept (is_none (image_fault apps.0)) _ apps.0 image.0 image.1 in
     let same = ok_is _ card image.2 in
     let named = new_name_is i earlier ms name.0 name.1 in
-    rw (← same) (record {
-      some_name = named.0.0;
-      short_name = named.0.1;
-      characters = named.0.2;
-      image = rw (← whole.1) (none_is _ whole.0);
-    }, named.1)
+    rw (← same) (
+      record {
+        some_name = named.0.0;
+        short_name = named.0.1;
+        characters = named.0.2;
+        image = rw (← whole.1) (none_is _ whole.0);
+      },
+      named.1,
+    )
 
 new_card : (i : ℕ) (keys : HostKeys) (earlier : List CardData) (d : Data) (card : CardData) → card_item i keys earlier d ≡ Ok card →
     IsCard card × (is_named card.name earlier ≡ false)
@@ -129,10 +132,11 @@ new_card i keys earlier d card is =
 
 one_more_card : (earlier : List CardData) (card : CardData) → IsCard card → is_named card.name earlier ≡ false → AreCards earlier → AreCards (earlier ++ card ∷ [])
 unfolding is_named
-one_more_card earlier card one fresh cards =
-    (All-push IsCard earlier card cards.0 one,
-     all_pairs_push (λ a b. a.name ≢ b.name) earlier card cards.1
-    (λ k d inside. differ (get_or earlier k d).name card.name (none_passes (λ c. bytes_eq c.name card.name) earlier k d fresh inside)))
+one_more_card earlier card one fresh cards = (
+  All-push IsCard earlier card cards.0 one,
+  all_pairs_push (λ a b. a.name ≢ b.name) earlier card cards.1
+      (λ k d inside. differ (get_or earlier k d).name card.name (none_passes (λ c. bytes_eq c.name card.name) earlier k d fresh inside)),
+)
 
 cards_kept : (i : ℕ) (keys : HostKeys) (earlier : List CardData) (ds : Items) (found : List CardData) →
     cards_from i keys earlier ds ≡ Ok found → AreCards earlier → AreCards (earlier ++ found)
@@ -145,7 +149,7 @@ cards_kept i keys earlier (item d ds) found is cards =
     let whole : first.0 ∷ rest.0 ≡ found = ok_is (first.0 ∷ rest.0) found rest.2 in
     let one = new_card i keys earlier d first.0 first.1 in
     let more : AreCards ((earlier ++ first.0 ∷ []) ++ rest.0) =
-        cards_kept (i + 1) keys (earlier ++ first.0 ∷ []) ds rest.0 rest.1 (one_more_card earlier first.0 one.0 one.1 cards) in
+    cards_kept (i + 1) keys (earlier ++ first.0 ∷ []) ds rest.0 rest.1 (one_more_card earlier first.0 one.0 one.1 cards) in
     subst (λ (all : List CardData). AreCards (earlier ++ all)) whole
     (subst (λ (all : List CardData). AreCards all) (append_assoc earlier (first.0 ∷ []) rest.0) more)
 

@@ -153,9 +153,13 @@ fn first_link(scenario: &Scenario) -> Option<Link> {
 fn each_link_has_its_word(rt: HostRuntime) -> Result<(), Fail> {
     for (word, link) in LINKS {
         let line = format!(in rt.alloc(); "link = \"{word}\"")?;
-        let text = replaced(rt.alloc(), DOCUMENT, "pins = [\"1234\"]", line.as_str())
-            .expect(&rt, "a document");
-        let scenario = read(rt.alloc(), text.as_str()).ok().expect(&rt, "a scenario");
+        let text = replaced(rt.alloc(), DOCUMENT, "pins = [\"1234\"]", line.as_str()).expect(
+            &rt,
+            "a document",
+        );
+        let scenario = read(rt.alloc(), text.as_str())
+            .ok()
+            .expect(&rt, "a scenario");
         assert!(rt; first_link(&scenario) == Some(link), "{word}");
     }
     Ok(())

@@ -47,9 +47,9 @@ text_at_ok path key kind least most ms text is =
 pub none_passes : {X : Type 0} (p : X → Bool) (xs : List X) (k : ℕ) (d : X) → list_any p xs ≡ false → k < length xs → p (get_or xs k d) ≡ false
 none_passes p xs k d none inside = by_test (p (get_or xs k d)) refl
   where
-  by_test : (b : Bool) → p (get_or xs k d) ≡ b → b ≡ false
-  by_test true passes = cc (list_any_at p xs k d inside passes)
-  by_test false passes = refl
+    by_test : (b : Bool) → p (get_or xs k d) ≡ b → b ≡ false
+    by_test true passes = cc (list_any_at p xs k d inside passes)
+    by_test false passes = refl
 
 -- what each value that the document has says of an answer
 pub if_found : {X Y : Type 0} (seen : X → Y) (P : X → Type 0) (read : Result X ScenarioFault) (whole : Result Y ScenarioFault) →
