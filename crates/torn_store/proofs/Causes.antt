@@ -79,11 +79,6 @@ before_cuts cut is = λ spared. cc
 pub within_cuts : (cut : Cut) → cut ≡ CutWithin → cut ≢ Spared
 within_cuts cut is = λ spared. cc
 
--- where none of the first writes is cut, the first isn't
-pub cuts_first : (plan : Option Tear) (commit n : ℕ) → 1 ≤ n → cuts_among plan commit n ≡ false → write_cut plan commit 1 ≡ CutBefore → ⊥
-cuts_first plan commit n some is before =
-    let among = cuts_here plan commit 1 n some (before_cuts (write_cut plan commit 1) before) in cc
-
 among_named : (named : Bool) (place : TearAt) (writes : ℕ) → (named && is_among place writes) ≡ true → named ≡ true
 among_named true place writes is = refl
 among_named false place writes is = is

@@ -1,18 +1,16 @@
 -- What a write of the first page, or of a page behind it, does to the states that pages stand for.
 -- `recover_at` reads the pages behind the first under the bit of the first.
 use Rattle.std.proofs.Common.{◌≡◌, ◌<◌, ◌+◌, ◌%◌, ◌⊎◌, ℕ, List, [], ◌∷◌, length, get_or, drop, map, refl, ap, sym, ◌∙◌, subst, arith, Option, Some, None, inl, inr, Bool, true, false, ◌==◌}
-use Rattle.std.specs.Prelude.{if◌then◌else◌}
+use Rattle.std.specs.Prelude.{if◌then◌else◌, Contains}
 use Rattle.std.proofs.Math.ListN.{set}
 use Rattle.std.proofs.lemmas.Bool.{eqb-true, eqb-false}
 use Rattle.std.proofs.lemmas.Bool.Decides.{nat_tests}
-use Rattle.std.proofs.lemmas.List.{drop-set-add}
+use Rattle.std.proofs.lemmas.List.{drop-set-add, get_or-set_same, length-set}
 use Rattle.emv_ports.specs.PageReading.{Agrees, Reading}
 use Rattle.emv_ports.specs.Memory.{torn_page}
-use Rattle.torn_store.specs.Recovery.{lowest, first_cell, IsBit, Laid, Holds, Between}
-use Rattle.torn_store.proofs.Readings.{some_page, reading_rest, reading_back}
-
-abbrev pub Cells : Type 0
-Cells = List (List (Option ℕ))
+use Rattle.torn_store.specs.Recovery.{lowest, first_cell, IsBit, Laid, Holds, Among}
+use Rattle.torn_store.proofs.Readings.{PageReading, some_page, sure_page, reading_at, reading_rest, reading_back}
+use Rattle.torn_store.proofs.Rows.{Cells}
 
 same_test : (a b : ℕ) → a ≡ b → (a == b) ≡ true
 same_test a b equal = grind (arith, nat_tests)
@@ -26,6 +24,54 @@ one_of_test bit one other false is small together = inr (let differ = eqb-false 
 
 one_of : (bit one other : ℕ) → bit < 2 → one + other ≡ 1 → (bit ≡ one) ⊎ (bit ≡ other)
 one_of bit one other small together = one_of_test bit one other (bit == one) refl small together
+
+-- what each reading of the pages behind the first says
+abbrev pub Says : (List (List ℕ) → Type 0) → Cells → Type 0
+Says P cells = (pages : List (List ℕ)) → Reading (drop 1 cells) pages → P pages
+
+-- a write of the first page, whole or torn, changes nothing behind it
+rest_of_first : (cells : Cells) (page : List (Option ℕ)) → drop 1 (set cells 0 page) ≡ drop 1 cells
+rest_of_first [] page = refl
+rest_of_first (c ∷ cells) page = refl
+
+pub says_behind_first : (P : List (List ℕ) → Type 0) (cells : Cells) (page : List (Option ℕ)) → Says P cells → Says P (set cells 0 page)
+says_behind_first P cells page says = λ pages reading. says pages (subst (λ (c : Cells). Reading c pages) (rest_of_first cells page) reading)
+
+rest_of_other : (cells : Cells) (number place : ℕ) (page : List (Option ℕ)) → number ≡ place + 1 → drop 1 (set cells number page) ≡ set (drop 1 cells) place page
+rest_of_other cells number place page is =
+    let here : number ≡ 1 + place = omega arith in ap (λ (n : ℕ). drop 1 (set cells n page)) here ∙ drop-set-add 1 cells place page
+
+-- the page at this place isn't looked at
+abbrev pub Ignores : (List (List ℕ) → Type 0) → ℕ → Type 0
+Ignores P place = (pages : List (List ℕ)) (bytes : List ℕ) → P (set pages place bytes) → P pages
+
+-- a page behind the first that isn't looked at may be written, whole or torn
+pub says_elsewhere : (P : List (List ℕ) → Type 0) (cells : Cells) (number place : ℕ) (page : List (Option ℕ)) → number ≡ place + 1 → Ignores P place
+    → Says P cells → Says P (set cells number page)
+says_elsewhere P cells number place page is ignores says = λ pages reading.
+    let old = some_page (get_or (drop 1 cells) place []) in
+    ignores pages old.0
+    (says (set pages place old.0)
+    (reading_back (drop 1 cells) pages place page old.0 (subst (λ (c : Cells). Reading c pages) (rest_of_other cells number place page is) reading) old.1))
+
+sure_at : (cells : Cells) (pages : List (List ℕ)) (place : ℕ) (bytes : List ℕ) → Reading (set cells place (map Some bytes)) pages → place < length cells
+    → get_or pages place [] ≡ bytes
+sure_at cells pages place bytes reading inside =
+    sure_page bytes (get_or pages place [])
+    (subst (λ (c : List (Option ℕ)). PageReading c (get_or pages place [])) (get_or-set_same cells place (map Some bytes) [] inside)
+    (reading_at (set cells place (map Some bytes)) pages place reading (omega (arith, length-set cells place (map Some bytes)))))
+
+-- a page that is written whole gives its bytes
+pub says_written : (P Q : List (List ℕ) → Type 0) (cells : Cells) (number place : ℕ) (bytes : List ℕ) → number ≡ place + 1 → place < length (drop 1 cells)
+    → ((pages : List (List ℕ)) (old : List ℕ) → get_or pages place [] ≡ bytes → P (set pages place old) → Q pages)
+    → Says P cells → Says Q (set cells number (map Some bytes))
+says_written P Q cells number place bytes is inside step says = λ pages reading.
+    let old = some_page (get_or (drop 1 cells) place []) in
+    let there : Reading (set (drop 1 cells) place (map Some bytes)) pages =
+    subst (λ (c : Cells). Reading c pages) (rest_of_other cells number place (map Some bytes) is) reading in
+    let back = reading_back (drop 1 cells) pages place (map Some bytes) old.0 there old.1 in
+    let sure = sure_at (drop 1 cells) pages place bytes there inside in
+    step pages old.0 sure (says (set pages place old.0) back)
 
 module _ {S : Type 0} (recover_at : ℕ → List (List ℕ) → Option S) where
   abbrev pub gated : List (List ℕ) → Option S
@@ -69,13 +115,17 @@ module _ {S : Type 0} (recover_at : ℕ → List (List ℕ) → Option S) where
     each = λ bytes reading. found_under_bit cells bit state stands bytes reading (sure_bit cells bit is small bytes reading);
   }
 
-  pub holds_between : (cells : Cells) (before after : S) → Holds gated cells before → Between gated cells before after
-  holds_between cells before after holds = record { laid = holds.laid; each = λ bytes reading. inl (holds.each bytes reading) }
+  -- a first cell that is sure of a bit, under which the pages stand for one of the states
+  pub stands_among : (cells : Cells) (bit : ℕ) (state : S) (states : List S) → first_cell cells ≡ Some bit → bit < 2 → StandsFor cells bit state
+      → Contains states state → Among gated cells states
+  stands_among cells bit state states is small stands one =
+      let holds = stands_holds cells bit state is small stands in
+      record { laid = holds.laid; each = λ bytes reading. (state, one, holds.each bytes reading) }
 
-  -- under each bit the pages stand for a state: between them, whichever bit the first cell gives
-  pub both_between : (cells : Cells) (one other : ℕ) (before after : S) → IsBit (first_cell cells) → one + other ≡ 1
-      → StandsFor cells one before → StandsFor cells other after → Between gated cells before after
-  both_between cells one other before after bit together stands_before stands_after = record {
+  -- under each bit the pages stand for one of the states, whichever bit the first cell gives
+  pub both_among : (cells : Cells) (one other : ℕ) (before after : S) (states : List S) → IsBit (first_cell cells) → one + other ≡ 1
+      → StandsFor cells one before → StandsFor cells other after → Contains states before → Contains states after → Among gated cells states
+  both_among cells one other before after states bit together stands_before stands_after has_before has_after = record {
     laid = record {
       bit = bit;
       same = λ first second read_first read_second equal.
@@ -86,37 +136,10 @@ module _ {S : Type 0} (recover_at : ℕ → List (List ℕ) → Option S) where
     };
     each = λ bytes reading.
         elim (one_of (lowest bytes) one other (lowest_small bytes) together) [
-          | inl is ↦ inl (found_under_bit cells one before stands_before bytes reading is)
-          | inr is ↦ inr (found_under_bit cells other after stands_after bytes reading is)
+          | inl is ↦ (before, has_before, found_under_bit cells one before stands_before bytes reading is)
+          | inr is ↦ (after, has_after, found_under_bit cells other after stands_after bytes reading is)
         ];
   }
-
-  -- a write of the first page, whole or torn, changes nothing behind it
-  pub rest_of_first : (cells : Cells) (page : List (Option ℕ)) → drop 1 (set cells 0 page) ≡ drop 1 cells
-  rest_of_first [] page = refl
-  rest_of_first (c ∷ cells) page = refl
-
-  pub stands_behind_first : (cells : Cells) (bit : ℕ) (state : S) (page : List (Option ℕ)) → StandsFor cells bit state → StandsFor (set cells 0 page) bit state
-  stands_behind_first cells bit state page stands = λ pages reading. stands pages (subst (λ (c : Cells). Reading c pages) (rest_of_first cells page) reading)
-
-  pub rest_of_other : (cells : Cells) (place : ℕ) (page : List (Option ℕ)) → drop 1 (set cells (place + 1) page) ≡ set (drop 1 cells) place page
-  rest_of_other cells place page =
-      let here : place + 1 ≡ 1 + place = omega arith in ap (λ (n : ℕ). drop 1 (set cells n page)) here ∙ drop-set-add 1 cells place page
-
-  -- a page behind the first that isn't read under this bit may be written, whole or torn
-  pub stands_elsewhere : (cells : Cells) (bit place : ℕ) (state : S) (page : List (Option ℕ))
-      → ((pages : List (List ℕ)) (bytes : List ℕ) → recover_at bit (set pages place bytes) ≡ recover_at bit pages)
-      → StandsFor cells bit state → StandsFor (set cells (place + 1) page) bit state
-  stands_elsewhere cells bit place state page unread stands = λ pages reading.
-      let old = some_page (get_or (drop 1 cells) place []) in
-      sym (unread pages old.0)
-      ∙ stands (set pages place old.0)
-      (reading_back (drop 1 cells) pages place page old.0 (subst (λ (c : Cells). Reading c pages) (rest_of_other cells place page) reading) old.1)
-
-  -- the page's bytes are in the cells, and the first of them is the bit
-  pub first_written : (cells : Cells) (bit : ℕ) (more : List ℕ) → 0 < length cells → first_cell (set cells 0 (map Some (bit ∷ more))) ≡ Some bit
-  first_written [] bit more some = absurd (omega arith)
-  first_written (c ∷ cells) bit more some = refl
 
   bit_torn : (same : Bool) (sure : ℕ) → sure < 2 → IsBit (if same then Some sure else None)
   bit_torn true sure small = small
@@ -169,21 +192,22 @@ module _ {S : Type 0} (recover_at : ℕ → List (List ℕ) → Option S) where
   like_gated cells bytes like =
       ap (λ (b : ℕ). recover_at b (drop 1 like.old)) like.bit ∙ ap (λ (l : List (List ℕ)). recover_at (lowest bytes) l) like.rest
 
-  pub like_between : (cells torn : Cells) (before after : S) → IsBit (first_cell torn) → ((bytes : List (List ℕ)) → Reading torn bytes → Like cells bytes)
-      → Between gated cells before after → Between gated torn before after
-  like_between cells torn before after bit alike between = record {
+  pub like_among : (cells torn : Cells) (states : List S) → IsBit (first_cell torn) → ((bytes : List (List ℕ)) → Reading torn bytes → Like cells bytes)
+      → Among gated cells states → Among gated torn states
+  like_among cells torn states bit alike among = record {
     laid = record {
       bit = bit;
       same = λ one other read_one read_other equal.
           let like_one = alike one read_one in
           let like_other = alike other read_other in
           sym (like_gated cells one like_one)
-          ∙ between.laid.same like_one.old like_other.old like_one.reading like_other.reading (like_one.bit ∙ equal ∙ sym like_other.bit)
+          ∙ among.laid.same like_one.old like_other.old like_one.reading like_other.reading (like_one.bit ∙ equal ∙ sym like_other.bit)
           ∙ like_gated cells other like_other;
     };
     each = λ bytes reading.
         let like = alike bytes reading in
-        subst (λ (o : Option S). (o ≡ Some before) ⊎ (o ≡ Some after)) (like_gated cells bytes like) (between.each like.old like.reading);
+        let one = among.each like.old like.reading in
+        (one.0, one.1, sym (like_gated cells bytes like) ∙ one.2);
   }
 
   nothing_else : (state : S) → gated [] ≡ Some state → StandsFor [] 0 state

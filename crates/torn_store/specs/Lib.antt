@@ -1,3 +1,4 @@
+pub mod Conversion
 pub mod Layout
 pub mod Recovery
 pub mod Store

@@ -1,5 +1,5 @@
 -- When pages stand for a state, whatever their unsure cells give.
-use Rattle.std.specs.Prelude.{◌≡◌, ◌⊎◌, ℕ, ◌%◌, ◌<◌, List, [], Option, Some, None, ⊤, slice_index, slice_index_or}
+use Rattle.std.specs.Prelude.{◌≡◌, ℕ, ◌%◌, ◌<◌, List, [], ◌∷◌, Option, Some, None, ⊤, Contains, slice_index, slice_index_or}
 use Rattle.emv_ports.specs.PageReading.{Reading}
 
 -- the lowest bit of the first byte of page 0
@@ -16,7 +16,7 @@ IsBit (Some byte) = byte < 2
 IsBit None = ⊤
 
 module _ {State : Type 0} (recover : List (List ℕ) → Option State) where
-  -- only the lowest bit of the first byte chooses between two states
+  -- only the lowest bit of the first byte chooses between states
   pub record Laid (cells : List (List (Option ℕ))) : Type 0 where
     pub bit : IsBit (first_cell cells)
     pub same : (one other : List (List ℕ)) → Reading cells one → Reading cells other → lowest one ≡ lowest other → recover one ≡ recover other
@@ -26,7 +26,11 @@ module _ {State : Type 0} (recover : List (List ℕ) → Option State) where
     pub laid : Laid cells
     pub each : (bytes : List (List ℕ)) → Reading cells bytes → recover bytes ≡ Some state
 
-  -- every reading recovers to one of two states
-  pub record Between (cells : List (List (Option ℕ))) (before after : State) : Type 0 where
+  -- every reading recovers to one of the states
+  pub record Among (cells : List (List (Option ℕ))) (states : List State) : Type 0 where
     pub laid : Laid cells
-    pub each : (bytes : List (List ℕ)) → Reading cells bytes → (recover bytes ≡ Some before) ⊎ (recover bytes ≡ Some after)
+    pub each : (bytes : List (List ℕ)) → Reading cells bytes → (state : State) × Contains states state × (recover bytes ≡ Some state)
+
+  -- every reading recovers to one of two states
+  abbrev pub Between : List (List (Option ℕ)) → State → State → Type 0
+  Between cells before after = Among cells (before ∷ after ∷ [])

@@ -1,94 +1,193 @@
 //! The writes of a format, a commit and a repair, in an order that no loss of power spoils.
-ghost use Rattle.std.specs.Prelude.{◌≡◌, ◌<◌, ◌≤◌, ◌+◌, ◌⊎◌, ℕ, List, length, Some, None, true, false};
-ghost use Rattle.std.specs.Prelude.{IsTrue, IsOk, IfOk, OnOk, OnErr};
-ghost use Rattle.emv_ports.specs.Cut.{is_plan, is_named, write_cut, cuts_among};
+ghost use Rattle.std.specs.Prelude.{◌≡◌, ◌<◌, ◌≤◌, ◌+◌, ℕ, List, length, All, Contains, IfOk, OnOk, OnErr, Some, IsSome, true};
+ghost use Rattle.emv_ports.specs.Memory.{marked, next_write_cut};
 ghost use Rattle.emv_ports.specs.declared.tear.Cut.TheVariants.{CutBefore};
-ghost use Rattle.torn_store.specs.Layout.{recover, pages_for};
-ghost use Rattle.torn_store.specs.Recovery.{first_cell, Between};
-ghost use Rattle.torn_store.specs.Store.{Stands, IsReady, IsGone};
-ghost use Rattle.torn_store.specs.Writing.{Wrote, TurnedOn};
+ghost use Rattle.torn_store.specs.Conversion.{converted};
+ghost use Rattle.torn_store.specs.Layout.{recover, changed, commit_writes, numbers_in};
+ghost use Rattle.torn_store.specs.Recovery.{lowest, Among, Between};
+ghost use Rattle.torn_store.specs.Store.{IsOn, IsReady};
+ghost use Rattle.torn_store.specs.Writing.{WritesAll, StopsIn, Row, RowCut, replay_row, commit_row};
+ghost use Rattle.torn_store.specs.Writing.{mending_row, repair_row, WroteFew, StoppedFew, TurnedOn, LostAt};
+ghost use Rattle.std.specs.Prelude.{slice_index_or, [], ◌++◌, map, false, None, IsOk};
 
-use crate::copies::{State, read_copy, write_copy};
+use crate::convert::Convert;
+use crate::journal::{read_home, read_journal, write_home, write_journal};
+use crate::layout::{Block, State, changed_in, framed, header_of, numbers_of};
 use emv_ports::{Gone, Pages};
 
-/// What a repair found.
-#[derive(Drop)]
-pub struct Found {
-    pub copy: u8,
-    pub state: State,
-}
+/// The gate's page: closed, and open.
+const CLOSED: [u8; 64] = [0; 64];
 
-/// Writes a copy, and then the selector that names it.
-pub fn write_state<P: Pages>(pages: &mut P, copy: u8, state: &[u8]) -> Result<(), Gone>
+const OPEN: [u8; 64] = [1; 64];
+
+/// Writes home pages, and closes the gate behind them.
+fn replay<P: Pages>(pages: &mut P, blocks: &[Block]) -> Result<(), Gone>
     requires on { (P.memory pages.old).on ≡ true }
-    requires size { length (P.memory pages.old).cells ≡ 64 }
-    requires first { (P.memory pages.old).writes ≡ 0 }
-    requires plan { IsTrue (is_plan (P.memory pages.old).plan) }
-    requires copy { copy < 2 }
-    requires fits { length state.now ≤ 1024 }
-
-    ensures wrote { OnOk result
-        (Wrote (P.memory pages.old) (P.memory pages.new) (pages_for state.now + 1)) }
-    ensures ready { OnOk result (IsReady (P.memory pages.new) copy state.now) }
-    ensures spared { OnOk result
-        (cuts_among (P.memory pages.old).plan (P.memory pages.old).commit
-        (pages_for state.now + 1) ≡ false) }
-
-    ensures lost { OnErr result ((from : ℕ) (before : List ℕ) → from + copy ≡ 1
-        → first_cell (P.memory pages.old).cells ≡ Some from
-        → Stands (P.memory pages.old).cells from before
-        → Between recover (P.memory pages.new).cells before state.now) }
-    ensures cut { OnErr result
-        (cuts_among (P.memory pages.old).plan (P.memory pages.old).commit
-        (pages_for state.now + 1) ≡ true) }
-    ensures before { OnErr result
-        (write_cut (P.memory pages.old).plan (P.memory pages.old).commit 1 ≡ CutBefore
-        → (P.memory pages.new).cells ≡ (P.memory pages.old).cells) }
-    ensures gone { OnErr result (IsGone (P.memory pages.old) (P.memory pages.new)) }
+    requires within { All (λ block. block.page < 64) blocks.now }
+    ensures all { OnOk result
+        (WritesAll (P.memory pages.old) (replay_row blocks.now) (P.memory pages.new)) }
+    ensures stops { OnErr result
+        (StopsIn (P.memory pages.old) (replay_row blocks.now) (P.memory pages.new)) }
 {
-    write_copy(pages, copy, state)?;
-    pages.write(0, &[copy; 64])
+    write_home(pages, blocks)?;
+    pages.write(0, &CLOSED)
 }
 
-/// Turns the pages on, finds the state, makes the selector whole, and releases.
-pub fn repair<P: Pages>(pages: &mut P) -> Result<Found, Gone>
+/// Writes blocks into the journal, names them in the header, opens the gate and replays them.
+fn write_row<P: Pages>(pages: &mut P, blocks: &[Block]) -> Result<(), Gone>
+    requires on { (P.memory pages.old).on ≡ true }
+    requires few { length blocks.now ≤ 17 }
+    requires within { All (λ block. block.page < 64) blocks.now }
+    ensures all { OnOk result
+        (WritesAll (P.memory pages.old) (commit_row blocks.now) (P.memory pages.new)) }
+    ensures stops { OnErr result
+        (StopsIn (P.memory pages.old) (commit_row blocks.now) (P.memory pages.new)) }
+{
+    write_journal(pages, blocks)?;
+    pages.write(18, &header_of(blocks))?;
+    pages.write(0, &OPEN)?;
+    replay(pages, blocks)
+}
+
+/// Writes a new state over an old one: the pages that change into the journal, and behind an open
+/// gate into the home.
+fn write_state<P: Pages>(pages: &mut P, old: &[u8], new: &[u8]) -> Result<(), Gone>
+    requires on { (P.memory pages.old).on ≡ true }
+    requires short { length old.now ≤ 1024 }
+    requires fits { length new.now ≤ 1024 }
+    ensures all { OnOk result
+        (WritesAll (P.memory pages.old) (commit_row (changed old.now new.now)) (P.memory pages.new)) }
+    ensures stops { OnErr result
+        (StopsIn (P.memory pages.old) (commit_row (changed old.now new.now)) (P.memory pages.new)) }
+{
+    let blocks = changed_in(framed(old).as_slice(), framed(new).as_slice());
+    write_row(pages, blocks.as_slice())
+}
+
+/// Marks, and writes a new state.
+pub fn commit_state<P: Pages>(pages: &mut P, old: &[u8], new: &[u8]) -> Result<(), Gone>
+    requires ready { IsReady (P.memory pages.old) old.now }
+    requires fits { length new.now ≤ 1024 }
+    ensures ready { OnOk result (IsReady (P.memory pages.new) new.now) }
+    ensures row { OnOk result
+        (Row (marked (P.memory pages.old)) (P.memory pages.new) (commit_writes old.now new.now)) }
+    ensures lost { OnErr result (Between recover (P.memory pages.new).cells old.now new.now) }
+    ensures before { OnErr result (next_write_cut (marked (P.memory pages.old)) ≡ CutBefore
+        → (P.memory pages.new).cells ≡ (P.memory pages.old).cells) }
+    ensures cut { OnErr result
+        (RowCut (marked (P.memory pages.old)) (P.memory pages.new) (commit_writes old.now new.now)) }
+{
+    pages.mark();
+    write_state(pages, old, new)
+}
+
+/// Replays what the header and the journal of an open gate show.
+fn replay_shown<P: Pages>(pages: &mut P) -> Result<(), Gone>
+    requires on { IsOn (P.memory pages.old) }
+    requires header { IsSome (numbers_in (slice_index_or (P.memory pages.old).shown 18 [])) }
+    ensures all { OnOk result (WritesAll (P.memory pages.old)
+        (mending_row 1 (numbers_in (slice_index_or (P.memory pages.old).shown 18 []))
+        (P.memory pages.old).shown) (P.memory pages.new)) }
+    ensures stops { OnErr result (StopsIn (P.memory pages.old)
+        (mending_row 1 (numbers_in (slice_index_or (P.memory pages.old).shown 18 []))
+        (P.memory pages.old).shown) (P.memory pages.new)) }
+{
+    let numbers = numbers_of(&pages.read(18));
+    let blocks = read_journal(pages, numbers.as_slice());
+    replay(pages, blocks.as_slice())
+}
+
+/// Writes the gate's page whole, as it was read; where it is open, the journal is then replayed.
+fn close_gate<P: Pages>(pages: &mut P) -> Result<(), Gone>
+    requires on { IsOn (P.memory pages.old) }
+    requires header { lowest (P.memory pages.old).shown ≡ 1
+        → IsSome (numbers_in (slice_index_or (P.memory pages.old).shown 18 [])) }
+    ensures all { OnOk result (WritesAll (P.memory pages.old)
+        (repair_row (P.memory pages.old).shown) (P.memory pages.new)) }
+    ensures stops { OnErr result (StopsIn (P.memory pages.old)
+        (repair_row (P.memory pages.old).shown) (P.memory pages.new)) }
+{
+    let bit = pages.read(0)[0] % 2;
+    pages.write(0, &[bit; 64])?;
+    if bit == 0 {
+        return Ok(());
+    }
+    replay_shown(pages)
+}
+
+/// Repairs the pages, and finds the state.
+fn find_state<P: Pages>(pages: &mut P) -> Result<State, Gone>
+    requires on { IsOn (P.memory pages.old) }
+    requires among { (states : List (List ℕ)) × Among recover (P.memory pages.old).cells states }
+    ensures found { IfOk result (λ state. recover (P.memory pages.old).shown ≡ Some state.items) }
+    ensures ready { IfOk result (λ state. IsReady (P.memory pages.new) state.items) }
+    ensures all { OnOk result (WritesAll (P.memory pages.old)
+        (repair_row (P.memory pages.old).shown) (P.memory pages.new)) }
+    ensures stops { OnErr result (StopsIn (P.memory pages.old)
+        (repair_row (P.memory pages.old).shown) (P.memory pages.new)) }
+{
+    close_gate(pages)?;
+    Ok(read_home(pages))
+}
+
+/// Writes the new state that a conversion makes of this one, if it makes one.
+fn convert_home<P: Pages, C: Convert>(
+    pages: &mut P,
+    convert: &C,
+    state: State,
+) -> Result<State, Gone>
+    requires ready { IsReady (P.memory pages.old) state.items }
+    ensures found { IfOk result (λ next. next.items ≡ converted (C.means convert.now) state.items) }
+    ensures ready { IfOk result (λ next. IsReady (P.memory pages.new) next.items) }
+    ensures wrote { OnOk result (WroteFew (P.memory pages.old) (P.memory pages.new) 37) }
+    ensures lost { OnErr result ((states : List (List ℕ)) → Contains states state.items
+        → Contains states (converted (C.means convert.now) state.items)
+        → Among recover (P.memory pages.new).cells states) }
+    ensures stopped { OnErr result (StoppedFew (P.memory pages.old) (P.memory pages.new) 37) }
+{
+    let mut next = State::new();
+    if !convert.convert(state.as_slice(), &mut next) {
+        return Ok(state);
+    }
+    write_state(pages, state.as_slice(), next.as_slice())?;
+    Ok(next)
+}
+
+/// Turns the pages on, repairs them, writes what a conversion makes of the state, and releases.
+pub fn repair_with<P: Pages, C: Convert>(pages: &mut P, convert: &C) -> Result<State, Gone>
     requires off { (P.memory pages.old).on ≡ false }
-    requires between { (before : List ℕ) × (after : List ℕ)
-        × Between recover (P.memory pages.old).cells before after }
+    requires among { (states : List (List ℕ)) × Among recover (P.memory pages.old).cells states }
 
-    ensures found { IfOk result (λ found. (before after : List ℕ)
-        → Between recover (P.memory pages.old).cells before after
-        → (found.state.items ≡ before) ⊎ (found.state.items ≡ after)) }
-    ensures ready { IfOk result (λ found. IsReady (P.memory pages.new) found.copy found.state.items) }
-    ensures turned_on { OnOk result (TurnedOn (P.memory pages.old) (P.memory pages.new) 1) }
-    ensures spared { OnOk result (is_named (P.memory pages.old).plan 0 ≡ false) }
+    ensures found { IfOk result (λ state. (states : List (List ℕ))
+        → Among recover (P.memory pages.old).cells states
+        → Contains (map (converted (C.means convert.now)) states) state.items) }
+    ensures ready { IfOk result (λ state. IsReady (P.memory pages.new) state.items) }
+    ensures turned_on { OnOk result (TurnedOn (P.memory pages.old) (P.memory pages.new)) }
 
-    ensures lost { OnErr result ((before after : List ℕ)
-        → Between recover (P.memory pages.old).cells before after
-        → Between recover (P.memory pages.new).cells before after) }
-    ensures cut { OnErr result (is_named (P.memory pages.old).plan 0 ≡ true) }
-    ensures gone { OnErr result (IsGone (P.memory pages.old) (P.memory pages.new)) }
+    ensures lost { OnErr result ((states : List (List ℕ))
+        → Among recover (P.memory pages.old).cells states
+        → Among recover (P.memory pages.new).cells
+        (states ++ map (converted (C.means convert.now)) states)) }
+    ensures gone { OnErr result (LostAt (P.memory pages.old) (P.memory pages.new)) }
 {
     pages.power_up();
-    let copy = pages.read(0)[0] % 2;
-    let state = read_copy(pages, copy);
-    pages.write(0, &[copy; 64])?;
+    let found = find_state(pages)?;
+    let state = convert_home(pages, convert, found)?;
     pages.release()?;
-    Ok(Found { copy, state })
+    Ok(state)
 }
 
-fn written_and_released<P: Pages>(pages: &mut P, first: &[u8]) -> Result<(), Gone>
-    requires on { (P.memory pages.old).on ≡ true }
-    requires size { length (P.memory pages.old).cells ≡ 64 }
-    requires first { (P.memory pages.old).writes ≡ 0 }
+fn write_first<P: Pages>(pages: &mut P, first: &[u8]) -> Result<(), Gone>
+    requires on { IsOn (P.memory pages.old) }
+    requires begun { (P.memory pages.old).writes ≡ 0 }
     requires plan { (P.memory pages.old).plan ≡ None }
     requires fits { length first.now ≤ 1024 }
-
     ensures spared { IsOk result }
-    ensures ready { IsReady (P.memory pages.new) 0 first.now }
-    ensures wrote { Wrote (P.memory pages.old) (P.memory pages.new) (pages_for first.now + 1) }
+    ensures ready { OnOk result (IsReady (P.memory pages.new) first.now) }
+    ensures row { OnOk result ((n : ℕ) × Row (P.memory pages.old) (P.memory pages.new) n) }
 {
-    write_state(pages, 0, first)?;
+    let blocks = changed_in(&[], framed(first).as_slice());
+    replay(pages, blocks.as_slice())?;
     pages.release()
 }
 
@@ -97,12 +196,13 @@ pub fn prepare<P: Pages>(pages: &mut P, first: &[u8])
     requires off { (P.memory pages.old).on ≡ false }
     requires plan { (P.memory pages.old).plan ≡ None }
     requires fits { length first.now ≤ 1024 }
-
-    ensures ready { IsReady (P.memory pages.new) 0 first.now }
-    ensures turned_on { TurnedOn (P.memory pages.old) (P.memory pages.new) (pages_for first.now + 1) }
+    ensures ready { IsReady (P.memory pages.new) first.now }
+    ensures commit { (P.memory pages.new).commit ≡ 0 }
+    ensures plan { (P.memory pages.new).plan ≡ None }
+    ensures losses { (P.memory pages.new).losses ≡ (P.memory pages.old).losses }
 {
     pages.power_up();
-    match written_and_released(pages, first) {
+    match write_first(pages, first) {
         Ok(()) => {}
         Err(Gone) => unreachable!(),
     }

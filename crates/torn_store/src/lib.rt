@@ -3,9 +3,12 @@
 #![tactic(auto)]
 
 mod commits;
-mod copies;
+mod convert;
+mod journal;
+mod layout;
 mod store;
 
+pub use convert::Convert;
 pub use store::{Lost, Settled, Store};
 
 #[cfg(test)]

@@ -1,15 +1,17 @@
 //! The store: a state that is found again, wherever the power is lost.
-ghost use Rattle.std.specs.Prelude.{◌≡◌, ◌≤◌, ◌⊎◌, ℕ, List, length, None, true, false};
+ghost use Rattle.std.specs.Prelude.{◌≡◌, ◌≤◌, ◌⊎◌, ◌++◌, ℕ, List, length, map, Contains, None, true, false};
 ghost use Rattle.std.specs.Prelude.{IfOk, IfErr, OnOk, OnErr};
 ghost use Rattle.emv_ports.specs.Cut.{is_named, write_cut, cuts_among};
 ghost use Rattle.emv_ports.specs.Memory.{next, powered_off, next_release_cut};
 ghost use Rattle.emv_ports.specs.declared.tear.Cut.TheVariants.{Spared, CutBefore};
+ghost use Rattle.torn_store.specs.Conversion.{converted};
 ghost use Rattle.torn_store.specs.Layout.{recover, commit_writes};
-ghost use Rattle.torn_store.specs.Recovery.{Holds, Between};
-ghost use Rattle.torn_store.specs.Store.{IsGone};
+ghost use Rattle.torn_store.specs.Recovery.{Holds, Among, Between};
+ghost use Rattle.torn_store.specs.Store.{IsGate, IsGone};
 
-use crate::commits::{Found, prepare, repair, write_state};
-use crate::copies::State;
+use crate::commits::{commit_state, prepare, repair_with};
+use crate::convert::{Convert, Keep};
+use crate::layout::State;
 use emv_ports::{Gone, Pages};
 use std::marker::Model;
 
@@ -23,7 +25,6 @@ pub struct Lost<P: Drop> {
 #[derive(Drop)]
 pub struct Store<P: Pages> {
     pages: P,
-    copy: u8,
     state: State,
 }
 
@@ -34,7 +35,7 @@ impl<P: Pages> Model for Store<P> {
 
     ghost view = { λ s. record { memory = P.memory s.pages; state = s.state.items } };
 
-    ghost invariant = { λ s. IsReady (P.memory s.pages) s.copy s.state.items };
+    ghost invariant = { λ s. IsReady (P.memory s.pages) s.state.items };
 }
 
 /// A commit that is written and not yet released: it can't be dropped, and only `release` gives
@@ -60,6 +61,7 @@ impl<P: Pages> Store<P> {
 
         ensures state { result.state ≡ first.now }
         ensures holds { Holds recover result.memory.cells first.now }
+        ensures gate { IsGate result.memory.cells }
         ensures plan { result.memory.plan ≡ None }
         ensures losses { result.memory.losses ≡ (P.memory pages).losses }
         ensures commit { result.memory.commit ≡ 0 }
@@ -68,7 +70,6 @@ impl<P: Pages> Store<P> {
         prepare(&mut pages, first);
         Store {
             pages,
-            copy: 0,
             state: copied(first),
         }
     }
@@ -87,6 +88,7 @@ impl<P: Pages> Store<P> {
             → Between recover (P.memory pages).cells before after
             → (store.state ≡ before) ⊎ (store.state ≡ after)) }
         ensures holds { IfOk result (λ store. Holds recover store.memory.cells store.state) }
+        ensures gate { IfOk result (λ store. IsGate store.memory.cells) }
         ensures spared { OnOk result (is_named (P.memory pages).plan 0 ≡ false) }
         ensures wrote { IfOk result (λ store. 1 ≤ store.memory.writes) }
         ensures commit { IfOk result (λ store. store.memory.commit ≡ 0) }
@@ -99,9 +101,37 @@ impl<P: Pages> Store<P> {
         ensures cut { OnErr result (is_named (P.memory pages).plan 0 ≡ true) }
         ensures gone { IfErr result (λ lost. IsGone (P.memory pages) (P.memory lost.pages)) }
     {
+        Store::open_with(pages, &Keep)
+    }
+
+    /// As `open`, and then writes the new state that a conversion makes of the state, if it makes
+    /// one, before the first commit. The pages stand for one of some states, and behind a `Lost`
+    /// for one of these or of their new states: a later call finds it and converts it.
+    pub fn open_with<C: Convert>(pages: P, convert: &C) -> Result<Store<P>, Lost<P>>
+        requires off { (P.memory pages).on ≡ false }
+        requires among { (states : List (List ℕ)) × Among recover (P.memory pages).cells states }
+
+        ensures found { IfOk result (λ store. (states : List (List ℕ))
+            → Among recover (P.memory pages).cells states
+            → Contains (map (converted (C.means convert.now)) states) store.state) }
+        ensures holds { IfOk result (λ store. Holds recover store.memory.cells store.state) }
+        ensures gate { IfOk result (λ store. IsGate store.memory.cells) }
+        ensures spared { OnOk result (is_named (P.memory pages).plan 0 ≡ false) }
+        ensures wrote { IfOk result (λ store. 1 ≤ store.memory.writes) }
+        ensures commit { IfOk result (λ store. store.memory.commit ≡ 0) }
+        ensures plan { IfOk result (λ store. store.memory.plan ≡ (P.memory pages).plan) }
+        ensures losses { IfOk result (λ store. store.memory.losses ≡ (P.memory pages).losses) }
+
+        ensures lost { IfErr result (λ lost. (states : List (List ℕ))
+            → Among recover (P.memory pages).cells states
+            → Among recover (P.memory lost.pages).cells
+            (states ++ map (converted (C.means convert.now)) states)) }
+        ensures cut { OnErr result (is_named (P.memory pages).plan 0 ≡ true) }
+        ensures gone { IfErr result (λ lost. IsGone (P.memory pages) (P.memory lost.pages)) }
+    {
         let mut pages = pages;
-        match repair(&mut pages) {
-            Ok(Found { copy, state }) => Ok(Store { pages, copy, state }),
+        match repair_with(&mut pages, convert) {
+            Ok(state) => Ok(Store { pages, state }),
             Err(Gone) => Err(Lost { pages }),
         }
     }
@@ -125,11 +155,13 @@ impl<P: Pages> Store<P> {
 
         ensures state { IfOk result (λ settled. settled.state ≡ new.now) }
         ensures holds { IfOk result (λ settled. Holds recover settled.memory.cells new.now) }
+        ensures gate { IfOk result (λ settled. IsGate settled.memory.cells) }
         ensures spared { OnOk result
             (cuts_among self.memory.plan (next self.memory.commit)
-            (commit_writes new.now) ≡ false) }
+            (commit_writes self.state new.now) ≡ false) }
         ensures wrote { IfOk result (λ settled.
-            settled.memory.writes ≡ commit_writes new.now) }
+            settled.memory.writes ≡ commit_writes self.state new.now) }
+        ensures few { IfOk result (λ settled. settled.memory.writes ≤ 37) }
         ensures commit { IfOk result (λ settled.
             settled.memory.commit ≡ next self.memory.commit) }
         ensures plan { IfOk result (λ settled. settled.memory.plan ≡ self.memory.plan) }
@@ -142,21 +174,14 @@ impl<P: Pages> Store<P> {
             → Holds recover (P.memory lost.pages).cells self.state) }
         ensures cut { OnErr result
             (cuts_among self.memory.plan (next self.memory.commit)
-            (commit_writes new.now) ≡ true) }
+            (commit_writes self.state new.now) ≡ true) }
         ensures gone { IfErr result (λ lost. IsGone self.memory (P.memory lost.pages)) }
     {
-        let Store {
-            mut pages,
-            copy,
-            ..
-        } = self;
-        let other = 1 - copy;
-        pages.mark();
-        match write_state(&mut pages, other, new) {
+        let Store { mut pages, state } = self;
+        match commit_state(&mut pages, state.as_slice(), new) {
             Ok(()) => Ok(Settled {
                 store: Store {
                     pages,
-                    copy: other,
                     state: copied(new),
                 },
             }),
@@ -183,6 +208,7 @@ impl<P: Pages> Settled<P> {
     pub fn release(self) -> Result<Store<P>, Lost<P>>
         ensures state { IfOk result (λ store. store.state ≡ self.state) }
         ensures holds { IfOk result (λ store. Holds recover store.memory.cells self.state) }
+        ensures gate { IfOk result (λ store. IsGate store.memory.cells) }
         ensures spared { OnOk result (next_release_cut self.memory ≡ Spared) }
         ensures memory { IfOk result (λ store. store.memory ≡ self.memory) }
 
@@ -191,13 +217,9 @@ impl<P: Pages> Settled<P> {
         ensures gone { IfErr result (λ lost. IsGone self.memory (P.memory lost.pages)) }
     {
         let Settled { store } = self;
-        let Store {
-            mut pages,
-            copy,
-            state,
-        } = store;
+        let Store { mut pages, state } = store;
         match pages.release() {
-            Ok(()) => Ok(Store { pages, copy, state }),
+            Ok(()) => Ok(Store { pages, state }),
             Err(Gone) => Err(Lost { pages }),
         }
     }

@@ -1,8 +1,10 @@
-use Rattle.std.proofs.Common.{ap, sym, subst}
+use Rattle.std.proofs.Common.{[], ◌∷◌, ap, sym, subst}
 use Rattle.emv_ports.specs.Memory.{Memory}
-use Rattle.torn_store.specs.Layout.{recover, recover_at}
+use Rattle.torn_store.specs.Layout.{recover}
 use Rattle.torn_store.specs.Recovery.{Between}
-use Rattle.torn_store.proofs.Gates.{Cells, holds_between}
+use Rattle.torn_store.proofs.Outcomes.{has_first}
+use Rattle.torn_store.proofs.Rows.{Cells}
+use Rattle.torn_store.proofs.Stored.{holds_among}
 use Rattle.torn_store.proofs.tests.formatted.Goals as goal
 
 pub returns-clause-between : goal.returns-clause-between
@@ -12,5 +14,5 @@ returns-clause-between g c =
       s,
       s,
       subst (λ (cells : Cells). Between recover cells s s) planned
-          (holds_between recover_at (g.P.Pages.memory c.into_pages-pages.result).cells s s c.into_pages-pages.ensures.holds),
+          (holds_among (g.P.Pages.memory c.into_pages-pages.result).cells s (s ∷ s ∷ []) c.into_pages-pages.ensures.holds (has_first s s)),
     )

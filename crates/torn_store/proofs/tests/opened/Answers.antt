@@ -2,7 +2,7 @@ use Rattle.std.proofs.Common.{ap, sym, subst}
 use Rattle.emv_ports.specs.Memory.{Memory}
 use Rattle.torn_store.specs.Layout.{recover}
 use Rattle.torn_store.specs.Recovery.{Between}
-use Rattle.torn_store.proofs.Gates.{Cells}
+use Rattle.torn_store.proofs.Rows.{Cells}
 use Rattle.torn_store.proofs.tests.opened.Goals as goal
 
 pub open-requires-in-Err-clause-between : goal.open-requires-in-Err-clause-between

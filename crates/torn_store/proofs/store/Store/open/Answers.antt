@@ -1,6 +1,15 @@
-use Rattle.torn_store.proofs.Selecting.{ready_holds}
+use Rattle.std.proofs.Common.{[], ◌∷◌}
+use Rattle.std.proofs.lemmas.Result.{IfOk-weaker, IfErr-weaker}
+use Rattle.torn_store.proofs.Stored.{one_of_two, among_twice}
 use Rattle.torn_store.proofs.store.Store.open.Goals as goal
 
-pub returns-in-Ok-clause-holds : goal.returns-in-Ok-clause-holds
-returns-in-Ok-clause-holds g c =
-    ready_holds (g.P.Pages.memory c.repair.new.pages) c.in-Ok.field-0.copy c.in-Ok.field-0.state.items c.in-Ok.ensures.ready
+pub returns-clause-found : goal.returns-clause-found
+returns-clause-found g c =
+    IfOk-weaker c.open_with.result _ _
+    (λ store found before after between. one_of_two before after store.state (found (before ∷ after ∷ []) between)) c.open_with.ensures.found
+
+pub returns-clause-lost : goal.returns-clause-lost
+returns-clause-lost g c =
+    IfErr-weaker c.open_with.result _ _
+    (λ lost among before after between. among_twice (g.P.Pages.memory lost.pages).cells before after (among (before ∷ after ∷ []) between))
+    c.open_with.ensures.lost

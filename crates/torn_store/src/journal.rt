@@ -1,0 +1,71 @@
+//! The pages of the home and the journal, read and written one after another.
+ghost use Rattle.std.specs.Prelude.{◌≡◌, ◌<◌, ◌≤◌, All, length, drop, true, Some, IsSome};
+ghost use Rattle.std.specs.Prelude.{OnOk, OnErr};
+ghost use Rattle.torn_store.specs.Layout.{paired, recover_at};
+ghost use Rattle.torn_store.specs.Writing.{WritesAll, StopsIn, journaled};
+
+use crate::layout::{Block, State, state_of};
+use arrayvec::ArrayVec;
+use emv_ports::{Gone, Pages};
+
+/// Writes home pages.
+pub fn write_home<P: Pages>(pages: &mut P, blocks: &[Block]) -> Result<(), Gone>
+    requires on { (P.memory pages.old).on ≡ true }
+    requires within { All (λ block. block.page < 64) blocks.now }
+    ensures on { OnOk result ((P.memory pages.new).on ≡ true) }
+    ensures all { OnOk result (WritesAll (P.memory pages.old) blocks.now (P.memory pages.new)) }
+    ensures stops { OnErr result (StopsIn (P.memory pages.old) blocks.now (P.memory pages.new)) }
+{
+    for block in blocks {
+        pages.write(block.page, &block.bytes)?;
+    }
+    Ok(())
+}
+
+/// Writes the bytes of the blocks on the pages of the journal, from the first on.
+pub fn write_journal<P: Pages>(pages: &mut P, blocks: &[Block]) -> Result<(), Gone>
+    requires on { (P.memory pages.old).on ≡ true }
+    requires few { length blocks.now ≤ 17 }
+    ensures on { OnOk result ((P.memory pages.new).on ≡ true) }
+    ensures all { OnOk result
+        (WritesAll (P.memory pages.old) (journaled 19 blocks.now) (P.memory pages.new)) }
+    ensures stops { OnErr result
+        (StopsIn (P.memory pages.old) (journaled 19 blocks.now) (P.memory pages.new)) }
+{
+    for (i, block) in blocks.iter().enumerate() {
+        pages.write(19 + i as u8, &block.bytes)?;
+    }
+    Ok(())
+}
+
+/// The home pages of these numbers, as the journal has them.
+pub fn read_journal<P: Pages>(pages: &P, numbers: &[u8]) -> ArrayVec<Block, 17>
+    requires on { (P.memory pages.now).on ≡ true }
+    requires size { length (P.memory pages.now).shown ≡ 64 }
+    requires few { length numbers.now ≤ 17 }
+    ensures { result.items ≡ paired numbers.now (drop 19 (P.memory pages.now).shown) }
+{
+    let mut blocks = ArrayVec::new();
+    for (i, number) in numbers.iter().enumerate() {
+        blocks.push(Block {
+            page: *number,
+            bytes: pages.read(19 + i as u8),
+        });
+    }
+    blocks
+}
+
+/// The state that the home holds.
+pub fn read_home<P: Pages>(pages: &P) -> State
+    requires on { (P.memory pages.now).on ≡ true }
+    requires size { length (P.memory pages.now).shown ≡ 64 }
+    requires state { IsSome (recover_at 0 (drop 1 (P.memory pages.now).shown)) }
+    ensures { recover_at 0 (drop 1 (P.memory pages.now).shown) ≡ Some result.items }
+{
+    let mut bytes = [0; 1088];
+    for i in 0..17 {
+        let at = 64 * i as usize;
+        bytes[at..at + 64].copy_from_slice(&pages.read(1 + i));
+    }
+    state_of(&bytes)
+}

@@ -1,0 +1,125 @@
+//! The bytes of the home, the header and the journal.
+ghost use Rattle.std.specs.Prelude.{◌≡◌, ◌≤◌, ◌*◌, ◌∷◌, map, length, drop, Some, IsSome};
+ghost use Rattle.torn_store.specs.Layout.{framed, part_of, filled, changed_in, numbers_in, state_in};
+ghost use Rattle.torn_store.specs.Writing.{header};
+
+use arrayvec::ArrayVec;
+
+/// The bytes of a state.
+pub type State = ArrayVec<u8, 1024>;
+
+/// A page, and the bytes for it.
+#[derive(Clone, Copy)]
+pub struct Block {
+    pub page: u8,
+    pub bytes: [u8; 64],
+}
+
+impl Default for Block {
+    fn default() -> Self {
+        Block {
+            page: 0,
+            bytes: [0; 64],
+        }
+    }
+}
+
+/// A state behind its length.
+pub fn framed(state: &[u8]) -> ArrayVec<u8, 1026>
+    requires { length state.now ≤ 1024 }
+    ensures { result.items ≡ framed state.now }
+{
+    let mut frame = ArrayVec::new();
+    frame.push((state.len() / 256) as u8);
+    frame.push((state.len() % 256) as u8);
+    match frame.try_extend_from_slice(state) {
+        Ok(()) => frame,
+        Err(_) => unreachable!(),
+    }
+}
+
+/// The bytes from a home page on.
+fn from_page(bytes: &[u8], place: usize) -> &[u8]
+    requires { place ≤ 17 }
+    ensures { result.now ≡ drop (64 * place) bytes.now }
+{
+    &bytes[(64 * place).min(bytes.len())..]
+}
+
+/// The part of a frame in a home page.
+fn part_of(frame: &[u8], place: usize) -> &[u8]
+    requires { place ≤ 17 }
+    ensures part { result.now ≡ part_of frame.now place }
+    ensures short { length result.now ≤ 64 }
+{
+    let rest = from_page(frame, place);
+    &rest[..rest.len().min(64)]
+}
+
+/// A page that begins with this part.
+fn filled(part: &[u8]) -> [u8; 64]
+    requires { length part.now ≤ 64 }
+    ensures { result ≡ filled part.now }
+{
+    let mut page = [0; 64];
+    page[..part.len()].copy_from_slice(part);
+    page
+}
+
+/// The home pages that a frame changes, where the home begins with the known bytes.
+pub fn changed_in(known: &[u8], frame: &[u8]) -> ArrayVec<Block, 17>
+    requires { length frame.now ≤ 1026 }
+    ensures { result.items ≡ changed_in known.now frame.now }
+{
+    let mut blocks = ArrayVec::new();
+    for place in 0..frame.len().div_ceil(64) {
+        let part = part_of(frame, place);
+        if from_page(known, place).starts_with(part) {
+            continue;
+        }
+        blocks.push(Block {
+            page: place as u8 + 1,
+            bytes: filled(part),
+        });
+    }
+    blocks
+}
+
+/// A header that names the pages of these blocks.
+pub fn header_of(blocks: &[Block]) -> [u8; 64]
+    requires { length blocks.now ≤ 17 }
+    ensures { result ≡ header blocks.now }
+{
+    let mut names = ArrayVec::<u8, 18>::new();
+    names.push(blocks.len() as u8);
+    for block in blocks {
+        names.push(block.page);
+    }
+    filled(&names)
+}
+
+/// The numbers in a header.
+pub fn numbers_of(header: &[u8; 64]) -> ArrayVec<u8, 17>
+    requires { IsSome (numbers_in header.now) }
+    ensures { numbers_in header.now ≡ Some result.items }
+{
+    let mut numbers = ArrayVec::new();
+    let count = header[0] as usize;
+    match numbers.try_extend_from_slice(&header[1..1 + count]) {
+        Ok(()) => numbers,
+        Err(_) => unreachable!(),
+    }
+}
+
+/// The state in a home.
+pub fn state_of(bytes: &[u8; 1088]) -> State
+    requires { IsSome (state_in bytes.now) }
+    ensures { state_in bytes.now ≡ Some result.items }
+{
+    let length = u16::from_be_bytes([bytes[0], bytes[1]]) as usize;
+    let mut state = State::new();
+    match state.try_extend_from_slice(&bytes[2..2 + length]) {
+        Ok(()) => state,
+        Err(_) => unreachable!(),
+    }
+}
