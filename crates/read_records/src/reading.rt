@@ -1,0 +1,225 @@
+//! READ RECORD for each record that the locator names (EMV 4.3 Book 3 section 10.2).
+ghost use Rattle.std.specs.Prelude.{◌≡◌, ℕ, List, [], ◌∷◌, ◌++◌, ◌+◌, ◌-◌, ◌/◌, ◌<◌, ◌≤◌, length, map, Err};
+ghost use Rattle.emv_dict.specs.Progress.{Progress, Wants, Leads};
+ghost use Rattle.emv_dict.specs.declared.ending.Cause.{Cause};
+ghost use Rattle.env_map.specs.Entries.{Entries};
+ghost use Rattle.object_lists.specs.CardRead.{ReadCard};
+ghost use Rattle.object_lists.specs.Forms.{HasForms};
+ghost use Rattle.read_records.specs.Afl.{RecordPlace, places_from, places_of, places_with};
+ghost use Rattle.read_records.specs.Checked.{HasOptions};
+ghost use Rattle.read_records.specs.DataRead.{reading, finished, card_read, data_read, at_step};
+ghost use Rattle.read_records.specs.Options.{Opened, Refused, Granted, Faulty, options_said};
+ghost use Rattle.read_records.specs.Records.{record_command};
+
+use crate::afl::{Group, Groups};
+use crate::checked::objects_fault;
+use crate::record::read_record;
+use apdu_core::{Command, Out, write_command};
+use emv_dict::{Cause, Step};
+use env_map::Env;
+use object_lists::CardData;
+use std::marker::Model;
+
+/// The records that are still to be read, at least one. The objects so far stand beside it, in a map that
+/// each answer is taken into. Contracts see the places of the records.
+#[derive(Drop)]
+pub struct Course {
+    current: Group,
+    later: Groups,
+}
+
+impl Model for Course {
+    ghost use Rattle.std.specs.Prelude.{List};
+    ghost use Rattle.read_records.specs.Afl.{RecordPlace};
+
+    ghost Value = { List RecordPlace };
+
+    ghost use Rattle.read_records.specs.Afl.{places_with};
+
+    ghost view = { λ course. places_with course.current course.later.items };
+}
+
+/// What reading does next.
+#[derive(Drop)]
+pub enum CourseNext {
+    /// It asks for a record.
+    Ask(Course),
+    /// All records are read, and their objects are as they must be.
+    Done,
+    /// It ended for this cause.
+    Ended(Cause),
+}
+
+impl Course {
+    ghost use Rattle.read_records.specs.Leading.{CourseNextLeads, left_next};
+
+    /// The course through the records of these groups, at least one.
+    pub(crate) fn new(groups: Groups) -> Course
+        requires { 0 < length groups.items }
+        ensures { result ≡ places_of groups.items }
+    {
+        let mut later = groups;
+        let current = later.remove(0);
+        Course { current, later }
+    }
+
+    /// The command for the next record.
+    #[tactic(auto, unfolding(crate::specs::DataRead::reading))]
+    pub fn ask(&self, out: &mut Out)
+        ensures wants { (entries : Entries) (whole : List (List ℕ) → Progress ReadCard) (answers : List (List ℕ))
+            → Leads whole answers (reading (record { entries = entries; left = self.now }))
+            → whole answers ≡ Wants out.new.items }
+    {
+        ask_record(&self.current, out);
+    }
+
+    /// Takes the answer to it, and puts its objects into the map.
+    pub fn take(self, env: &mut Env, reply: &[u8]) -> CourseNext
+        requires { HasOptions env.old }
+        ensures leads { (whole : List (List ℕ) → Progress ReadCard) (answers : List (List ℕ))
+            → Leads whole answers (reading (record { entries = env.old; left = self }))
+            → CourseNextLeads env.new whole (answers ++ reply.now ∷ []) result }
+        ensures options { HasOptions env.new }
+        ensures forms { result ≡ CourseNext.Done → HasForms env.new }
+        // Fewer records are left.
+        ensures nearer { length (left_next result) < length self }
+    {
+        let Course { current, later } = self;
+        match read_record(current.file / 8, env, reply) {
+            Ok(()) => Course::go_on(env, current, later),
+            Err(cause) => CourseNext::Ended(cause),
+        }
+    }
+
+    /// Goes on behind the first record of a group.
+    fn go_on(env: &Env, current: Group, later: Groups) -> CourseNext
+        requires { HasOptions env.now }
+        ensures leads { (whole : List (List ℕ) → Progress ReadCard) (answers : List (List ℕ))
+            → Leads whole answers (reading (record { entries = env.now; left = places_from (current.file / 8) (current.first + 1) (current.last - current.first) ++ places_of later.items }))
+            → CourseNextLeads env.now whole answers result }
+        ensures forms { result ≡ CourseNext.Done → HasForms env.now }
+        ensures left { length (left_next result) ≤ length (places_from (current.file / 8) (current.first + 1) (current.last - current.first) ++ places_of later.items) }
+    {
+        if current.first < current.last {
+            let next = Group {
+                first: current.first + 1,
+                ..current
+            };
+            return CourseNext::Ask(Course {
+                current: next,
+                later,
+            });
+        }
+        if later.is_empty() {
+            Course::finish(env)
+        } else {
+            CourseNext::Ask(Course::new(later))
+        }
+    }
+
+    /// Ends reading: the mandatory objects must be there, and the checked ones have their forms.
+    #[tactic(auto, unfolding(crate::specs::DataRead::reading))]
+    fn finish(env: &Env) -> CourseNext
+        requires { HasOptions env.now }
+        ensures leads { (whole : List (List ℕ) → Progress ReadCard) (answers : List (List ℕ))
+            → Leads whole answers (reading (record { entries = env.now; left = [] }))
+            → CourseNextLeads env.now whole answers result }
+        ensures forms { result ≡ CourseNext.Done → HasForms env.now }
+        ensures left { left_next result ≡ [] }
+    {
+        match objects_fault(env) {
+            None => CourseNext::Done,
+            Some(cause) => CourseNext::Ended(cause),
+        }
+    }
+}
+
+/// READ RECORD of the first record of a group.
+fn ask_record(group: &Group, out: &mut Out)
+    ensures { out.new.items ≡ record_command (record { sfi = group.now.file / 8; number = group.now.first }) }
+{
+    let command = Command {
+        class: 0x00,
+        ins: 0xb2,
+        p1: group.first,
+        p2: group.file - group.file % 8 + 4,
+        body: &[],
+        expects: Some(0),
+    };
+    write_command(&command, out);
+}
+
+/// The steps give what the card's answers give as a whole: where each record has its answer, the data
+/// that are read, or the first fault.
+pub fn steps_give_data()
+    ensures read { (start : Opened) (answers : List (List ℕ)) → length answers ≡ length start.left
+        → reading start answers ≡ finished (card_read start answers) [] }
+    ensures data { (options : List ℕ) (start : Opened) (answers : List (List ℕ)) → options_said options ≡ Granted start
+        → data_read options answers ≡ at_step Step.Read (card_read start answers) }
+    ensures refused { (options : List ℕ) (answers : List (List ℕ)) → options_said options ≡ Refused
+        → data_read options answers ≡ Err (Step.Initiate, Cause.Status 0x6985) }
+    ensures faulty { (options : List ℕ) (cause : Cause) (answers : List (List ℕ)) → options_said options ≡ Faulty cause
+        → data_read options answers ≡ Err (Step.Initiate, cause) }
+{}
+
+/// Reading with its map. Contracts see the objects so far, and the places of the records that are left.
+#[derive(Drop)]
+pub struct Reading {
+    env: Env,
+    course: Course,
+}
+
+impl Model for Reading {
+    ghost use Rattle.read_records.specs.Options.{Opened, Refused, Granted, Faulty, options_said};
+
+    ghost Value = { Opened };
+
+    ghost use Rattle.read_records.specs.Checked.{HasOptions};
+
+    ghost view = { λ reading. record { entries = reading.env; left = reading.course } };
+
+    ghost invariant = { λ reading. HasOptions reading.env };
+}
+
+/// What reading does next, with its map.
+#[derive(Drop)]
+pub enum ReadNext {
+    /// It asks for a record.
+    Ask(Reading),
+    /// All records are read, and their objects are as they must be.
+    Done(CardData),
+    /// It ended for this cause.
+    Ended(Cause),
+}
+
+impl Reading {
+    ghost use Rattle.read_records.specs.Leading.{ReadNextLeads};
+
+    pub(crate) fn new(env: Env, course: Course) -> Reading
+        requires { HasOptions env }
+        ensures { result ≡ record { entries = env; left = course } }
+    {
+        Reading { env, course }
+    }
+
+    /// The command for the next record.
+    pub fn ask(&self, out: &mut Out)
+        ensures wants { (whole : List (List ℕ) → Progress ReadCard) (answers : List (List ℕ))
+            → Leads whole answers (reading self.now) → whole answers ≡ Wants out.new.items }
+    {
+        self.course.ask(out);
+    }
+
+    /// Takes the answer to it. Moves the map, which `Course::take` leaves where it is.
+    pub fn take(self, reply: &[u8]) -> ReadNext
+        ensures leads { (whole : List (List ℕ) → Progress ReadCard) (answers : List (List ℕ))
+            → Leads whole answers (reading self) → ReadNextLeads whole (answers ++ reply.now ∷ []) result }
+    {
+        let Reading { mut env, course } = self;
+        match course.take(&mut env, reply) {
+            CourseNext::Ask(course) => ReadNext::Ask(Reading { env, course }),
+            CourseNext::Done => ReadNext::Done(CardData::new(env)),
+            CourseNext::Ended(cause) => ReadNext::Ended(cause),
+        }
+    }
+}
