@@ -1,13 +1,11 @@
--- No two cards of a document have one name, no two accounts one PAN, and each card keeps its rules.
+-- No two accounts of a document have one PAN, and the names of its cards are of 0 to 9 and a to z.
 use Rattle.std.proofs.Common.{◌≡◌, ◌≢◌, ℕ, ◌+◌, ◌<◌, ◌≤◌, Bool, true, false, not, List, [], ◌∷◌, ◌++◌, length, get_or, is_none, Option, Some, None, Result, Ok, Err, refl, sym, subst, ◌∙◌, ap, append_assoc, append-nil, arith}
 use Rattle.std.specs.Prelude.{codes, IsTrue}
 use Rattle.std.specs.List.{All, AllPairs, list_any}
 use Rattle.std.specs.Str.{bytes_eq}
-use Rattle.std.proofs.lemmas.List.Elements.{All-push}
+use Rattle.std.proofs.lemmas.List.Elements.{All-cons}
 use Rattle.std.proofs.lemmas.List.Quantifiers.{all_pairs_push}
 use Rattle.std.proofs.lemmas.Slice.Eq.{bytes_eq-Decides}
-use Rattle.card_files.specs.Faults.{image_fault}
-use Rattle.card_files.specs.Views.{AppData}
 use Rattle.issuer_host.specs.Account.{AccountData}
 use Rattle.issuer_host.specs.declared.keys.HostKeys.{HostKeys}
 use Rattle.toml.specs.Data.{Data, Items, no_items, item, Members}
@@ -16,12 +14,11 @@ use Rattle.scenario_fields.specs.Value.{is_one_of, table_of}
 use Rattle.scenario_fields.specs.declared.spot.Characters.TheVariants.{LowercaseOrDigit}
 use Rattle.scenario_fields.specs.declared.fault.ScenarioFault.{ScenarioFault}
 use Rattle.emv_dict.specs.Settings.{most_amount}
-use Rattle.scenario_fields.specs.Fault.{keep_if}
 use Rattle.scenario_fields.specs.Fields.{number_at, flag_or, text_at, digits_at, optional_digits, code_at, array_at, table_item, only}
 use Rattle.scenario_fields.specs.Place.{at_top, in_account, in_card, item_path}
 use Rattle.scenario.specs.Accounts.{has_pan, new_pan, scripts_at, account_keys, account_of, account_item, accounts_from, accounts_at}
 use Rattle.scenario.specs.Cards.{CardData, is_named, new_card_name, card_of, card_keys, card_item, cards_from, cards_at, apps_at}
-use Rattle.scenario.specs.Plan.{IsCard, AreCards, HaveOwnPans}
+use Rattle.scenario.specs.Plan.{HasPlainName, HaveOwnPans}
 
 not_true : (b : Bool) → not b ≡ true → b ≡ false
 not_true true is = cc
@@ -29,10 +26,6 @@ not_true false is = refl
 
 differ : (xs ys : List ℕ) → bytes_eq xs ys ≡ false → xs ≢ ys
 differ xs ys other same = cc ((bytes_eq-Decides xs ys).1 same, other)
-
-none_is : {A : Type 0} (o : Option A) → is_none o ≡ true → o ≡ None
-none_is None is = refl
-none_is (Some x) is = cc
 
 ok_is : {A : Type 0} (x y : A) → (let whole : Result A ScenarioFault = Ok x in whole ≡ Ok y) → x ≡ y
 ok_is x y is = cc
@@ -92,69 +85,34 @@ no_pairs = λ i j d before inside. absurd (omega arith)
 pub accounts_own_pans : (path : List ℕ → List ℕ) (ds : Items) (accounts : List AccountData) → accounts_from path 0 [] ds ≡ Ok accounts → HaveOwnPans accounts
 accounts_own_pans path ds accounts is = accounts_apart path 0 [] ds accounts is no_pairs
 
--- a card behind earlier ones keeps its rules and has a name of its own
-new_name_is : (i : ℕ) (earlier : List CardData) (ms : Members) (name : List ℕ) → new_card_name i earlier ms ≡ Ok name →
-    ((1 ≤ length name) × (length name ≤ 16) × All (λ c. IsTrue (is_one_of LowercaseOrDigit c)) name) × (is_named name earlier ≡ false)
+-- the characters of a card's name
+plain_name : (i : ℕ) (earlier : List CardData) (ms : Members) (name : List ℕ) → new_card_name i earlier ms ≡ Ok name → All (λ c. IsTrue (is_one_of LowercaseOrDigit c)) name
 unfolding new_card_name
-new_name_is i earlier ms name is =
+plain_name i earlier ms name is =
     let text = then_ok (text_at (in_card i) (codes "name") LowercaseOrDigit 1 16 ms) _ name is in
     let fresh = kept (not (is_named text.0 earlier)) _ text.0 name text.2 in
-    let same : text.0 ≡ name = fresh.1 in
-    rw (← same) (text_at_ok (in_card i) (codes "name") LowercaseOrDigit 1 16 ms text.0 text.1, not_true _ fresh.0)
+    rw (← fresh.1) (text_at_ok (in_card i) (codes "name") LowercaseOrDigit 1 16 ms text.0 text.1)
 
-new_card_of : (i : ℕ) (keys : HostKeys) (earlier : List CardData) (ms : Members) (card : CardData) → card_of i keys earlier ms ≡ Ok card →
-    IsCard card × (is_named card.name earlier ≡ false)
-unfolding card_of
-new_card_of i keys earlier ms card is =
-    let name = then_ok (new_card_name i earlier ms) _ card is in
-    let apps = then_ok (apps_at i keys ms) _ card name.2 in
-    let known = then_ok (only (in_card i) card_keys ms) _ card apps.2 in
-    let image = then_ok (keep_if (is_none (image_fault apps.0)) _ apps.0) _ card known.2 in
-    let whole = kept (is_none (image_fault apps.0)) _ apps.0 image.0 image.1 in
-    let same = ok_is _ card image.2 in
-    let named = new_name_is i earlier ms name.0 name.1 in
-    rw (← same) (
-      record {
-        some_name = named.0.0;
-        short_name = named.0.1;
-        characters = named.0.2;
-        image = rw (← whole.1) (none_is _ whole.0);
-      },
-      named.1,
-    )
-
-new_card : (i : ℕ) (keys : HostKeys) (earlier : List CardData) (d : Data) (card : CardData) → card_item i keys earlier d ≡ Ok card →
-    IsCard card × (is_named card.name earlier ≡ false)
-unfolding card_item
-new_card i keys earlier d card is =
+plainly_named : (i : ℕ) (keys : HostKeys) (earlier : List CardData) (d : Data) (card : CardData) → card_item i keys earlier d ≡ Ok card → HasPlainName card
+unfolding card_item card_of
+plainly_named i keys earlier d card is =
     let table = then_ok (table_of (item_path (codes "card") i []) d) _ card is in
-    new_card_of i keys earlier table.0 card table.2
+    let name = then_ok (new_card_name i earlier table.0) _ card table.2 in
+    let apps = then_ok (apps_at i keys table.0) _ card name.2 in
+    let known = then_ok (only (in_card i) card_keys table.0) _ card apps.2 in
+    rw (← ok_is _ card known.2) (plain_name i earlier table.0 name.0 name.1)
 
-one_more_card : (earlier : List CardData) (card : CardData) → IsCard card → is_named card.name earlier ≡ false → AreCards earlier → AreCards (earlier ++ card ∷ [])
-unfolding is_named
-one_more_card earlier card one fresh cards = (
-  All-push IsCard earlier card cards.0 one,
-  all_pairs_push (λ a b. a.name ≢ b.name) earlier card cards.1
-      (λ k d inside. differ (get_or earlier k d).name card.name (none_passes (λ c. bytes_eq c.name card.name) earlier k d fresh inside)),
-)
-
-cards_kept : (i : ℕ) (keys : HostKeys) (earlier : List CardData) (ds : Items) (found : List CardData) →
-    cards_from i keys earlier ds ≡ Ok found → AreCards earlier → AreCards (earlier ++ found)
-cards_kept i keys earlier no_items found is cards =
-    let none : [] ≡ found = ok_is [] found is in
-    subst (λ (more : List CardData). AreCards (earlier ++ more)) none (rw (append-nil earlier) cards)
-cards_kept i keys earlier (item d ds) found is cards =
+cards_named : (i : ℕ) (keys : HostKeys) (earlier : List CardData) (ds : Items) (found : List CardData) → cards_from i keys earlier ds ≡ Ok found → All HasPlainName found
+cards_named i keys earlier no_items found is = let none : [] ≡ found = ok_is [] found is in rw (← none) (λ k d inside. absurd (omega arith))
+cards_named i keys earlier (item d ds) found is =
     let first = then_ok (card_item i keys earlier d) _ found is in
     let rest = then_ok (cards_from (i + 1) keys (earlier ++ first.0 ∷ []) ds) _ found first.2 in
     let whole : first.0 ∷ rest.0 ≡ found = ok_is (first.0 ∷ rest.0) found rest.2 in
-    let one = new_card i keys earlier d first.0 first.1 in
-    let more : AreCards ((earlier ++ first.0 ∷ []) ++ rest.0) =
-    cards_kept (i + 1) keys (earlier ++ first.0 ∷ []) ds rest.0 rest.1 (one_more_card earlier first.0 one.0 one.1 cards) in
-    subst (λ (all : List CardData). AreCards (earlier ++ all)) whole
-    (subst (λ (all : List CardData). AreCards all) (append_assoc earlier (first.0 ∷ []) rest.0) more)
+    rw (← whole)
+    (All-cons HasPlainName first.0 rest.0 (plainly_named i keys earlier d first.0 first.1) (cards_named (i + 1) keys (earlier ++ first.0 ∷ []) ds rest.0 rest.1))
 
-pub cards_are : (keys : HostKeys) (ms : Members) (cards : List CardData) → cards_at keys ms ≡ Ok cards → AreCards cards
+pub plain_names : (keys : HostKeys) (ms : Members) (cards : List CardData) → cards_at keys ms ≡ Ok cards → All HasPlainName cards
 unfolding cards_at
-cards_are keys ms cards is =
+plain_names keys ms cards is =
     let items = then_ok (array_at at_top (codes "card") 1 64 ms) _ cards is in
-    cards_kept 0 keys [] items.0 cards items.2 ((λ k d inside. absurd (omega arith)), (λ i j d before inside. absurd (omega arith)))
+    cards_named 0 keys [] items.0 cards items.2

@@ -1,12 +1,12 @@
 -- A scenario as a contract sees it, and what it keeps, on which those who run it rest.
-use Rattle.std.specs.Prelude.{◌≡◌, ◌≢◌, ℕ, ◌≤◌, ◌<◌, IsTrue, List, length, None}
+use Rattle.std.specs.Prelude.{◌≡◌, ◌≢◌, ℕ, ◌≤◌, ◌<◌, IsTrue, List, length}
 use Rattle.std.specs.List.{All, AllPairs}
-use Rattle.card_files.specs.Faults.{image_fault}
 use Rattle.issuer_host.specs.Account.{AccountData, IsAccount}
 use Rattle.issuer_host.specs.declared.keys.HostKeys.{HostKeys}
 use Rattle.scenario_fields.specs.Value.{is_one_of}
 use Rattle.scenario_fields.specs.declared.spot.Characters.TheVariants.{LowercaseOrDigit}
 use Rattle.scenario_lanes.specs.Plan.{LaneData, IsLane, HasCards, purchase_count}
+use Rattle.scenario.specs.CardRules.{AreCards}
 use Rattle.scenario.specs.Cards.{CardData}
 
 pub record ScenarioData : Type 0 where
@@ -17,15 +17,9 @@ pub record ScenarioData : Type 0 where
   pub schedule : List ℕ
   pub copies : ℕ
 
--- a card: its name, and applications that keep the rules of an image
-pub record IsCard (card : CardData) : Type 0 where
-  pub some_name : 1 ≤ length card.name
-  pub short_name : length card.name ≤ 16
-  pub characters : All (λ c. IsTrue (is_one_of LowercaseOrDigit c)) card.name
-  pub image : image_fault card.image ≡ None
-
-abbrev pub AreCards : List CardData → Type 0
-AreCards cards = All IsCard cards × AllPairs (λ card other. card.name ≢ other.name) cards
+-- the names of cards are of 0 to 9 and a to z
+abbrev pub HasPlainName : CardData → Type 0
+HasPlainName card = All (λ c. IsTrue (is_one_of LowercaseOrDigit c)) card.name
 
 -- no two accounts of one PAN
 abbrev pub HaveOwnPans : List AccountData → Type 0
@@ -36,9 +30,8 @@ pub record AreTables (scenario : ScenarioData) : Type 0 where
   pub few_accounts : length scenario.accounts ≤ 1000
   pub accounts : All IsAccount scenario.accounts
   pub own_pans : HaveOwnPans scenario.accounts
-  pub some_card : 1 ≤ length scenario.cards
-  pub few_cards : length scenario.cards ≤ 64
   pub cards : AreCards scenario.cards
+  pub plain_names : All HasPlainName scenario.cards
   pub some_lane : 1 ≤ length scenario.lanes
   pub few_lanes : length scenario.lanes ≤ 16
   pub lanes : All IsLane scenario.lanes

@@ -10,9 +10,9 @@ ghost use Rattle.scenario.specs.Accounts.{has_pan, new_pan, account_keys, accoun
 ghost use Rattle.scenario.specs.Plan.{HaveOwnPans};
 
 use crate::script::scripts_at;
-use emv_dict::Digits;
+use emv_dict::{Digits, MOST_AMOUNT};
 use issuer_host::Account;
-use scenario_fields::{Fields, MOST_AMOUNT, Place, ScenarioFault};
+use scenario_fields::{Fields, Place, ScenarioFault};
 use toml::Value;
 
 /// Whether an account has this PAN.

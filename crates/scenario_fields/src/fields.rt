@@ -14,7 +14,6 @@ ghost use Rattle.scenario_fields.specs.Place.{path, spot_path};
 ghost use Rattle.scenario_fields.specs.Value.{is_one_of, is_listed};
 ghost use Rattle.scenario_fields.specs.Fields.{required, number_at, number_or, optional_number, listed_or, flag_or, str_at, text_at, digits_at, optional_digits, code_at, six_digits_or, day_at, bytes_at, optional_bytes, array_at, array_or_none, table_at, optional_table, table_item, digits_item, digits_list, each, only, least_other};
 ghost use Rattle.scenario_fields.specs.declared.fault.ScenarioFault.TheVariants.{MissingKey, UnknownKey};
-ghost use Rattle.scenario_fields.specs.declared.place.Place.TheVariants.{Top};
 
 use crate::fault::{Path, ScenarioFault};
 use crate::place::{Place, path_text};
@@ -41,18 +40,6 @@ pub struct Fields<'a> {
 }
 
 impl<'a> Fields<'a> {
-    /// The keys of a whole document.
-    pub fn document(alloc: Global, table: &'a Table) -> Fields<'a>
-        ensures place { result.place ≡ Top }
-        ensures table { result.table.now ≡ table.now }
-    {
-        Fields {
-            alloc,
-            place: Place::Top,
-            table,
-        }
-    }
-
     /// Where the value at a key stands.
     pub fn spot<'k>(&self, key: &'k str) -> Spot<'k>
         ensures place { result.place ≡ self.now.place }

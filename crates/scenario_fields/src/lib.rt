@@ -12,8 +12,5 @@ pub use fields::Fields;
 pub use place::Place;
 pub use spot::{Characters, Spot};
 
-/// The greatest amount of 12 decimal digits (EMV 4.3 Book 3 Annex A, tag 9F02).
-pub const MOST_AMOUNT: u64 = 999_999_999_999;
-
 #[cfg(test)]
 mod tests;

@@ -11,8 +11,8 @@ ghost use Rattle.scenario_lanes.specs.Plan.{IsLane, purchase_count};
 
 use crate::plan::Lane;
 use crate::purchase::purchases_at;
-use emv_dict::{AidRow, Name, Settings};
-use scenario_fields::{Characters, Fields, MOST_AMOUNT, Place, ScenarioFault};
+use emv_dict::{AidRow, MOST_AMOUNT, Name, Settings};
+use scenario_fields::{Characters, Fields, Place, ScenarioFault};
 use toml::Value;
 
 #[tactic(auto, unfolding(crate::specs::Lanes::aid_keys))]

@@ -11,8 +11,8 @@ ghost use Rattle.scenario_lanes.specs.Purchases.{link_named, link_of, link_or_so
 
 use crate::plan::{Link, Planned};
 use crate::tear::tear_at;
-use emv_dict::Purchase;
-use scenario_fields::{Characters, Fields, MOST_AMOUNT, Place, ScenarioFault, Spot};
+use emv_dict::{MOST_AMOUNT, Purchase};
+use scenario_fields::{Characters, Fields, Place, ScenarioFault, Spot};
 use toml::Value;
 
 /// All lanes together have at most so many purchases.

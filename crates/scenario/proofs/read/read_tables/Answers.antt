@@ -5,8 +5,7 @@ use Rattle.scenario.specs.Cards.{card_names}
 use Rattle.scenario.specs.Scenario.{tables_of}
 use Rattle.scenario.specs.Seen.{seen_cards}
 use Rattle.toml.specs.View.{table_view}
-use Rattle.scenario.proofs.Apart.{cards_are}
-use Rattle.scenario.proofs.CardNames.{cards_count}
+use Rattle.scenario.proofs.Apart.{plain_names}
 use Rattle.scenario.proofs.read.read_tables.Goals as goal
 
 pub returns-clause-exact : goal.returns-clause-exact
@@ -21,9 +20,8 @@ returns-clause-rules c = record {
   few_accounts = search rules;
   accounts = c.in_ok-accounts.ensures.rules;
   own_pans = c.in_ok-accounts.ensures.own_pans;
-  some_card = rw (cards_count c.in_ok-cards.cards.items) (search rules);
-  few_cards = rw (cards_count c.in_ok-cards.cards.items) (search rules);
-  cards = cards_are _ _ _ c.in_ok-cards.ensures.exact;
+  cards = c.in_ok-cards.ensures.rules;
+  plain_names = plain_names _ _ _ c.in_ok-cards.ensures.exact;
   some_lane = search rules;
   few_lanes = search rules;
   lanes = c.in_ok-lanes.ensures.rules;
