@@ -1,5 +1,6 @@
 //! The writes of a format, a commit and a repair, in an order that no loss of power spoils.
-ghost use Rattle.std.specs.Prelude.{◌≡◌, ◌<◌, ◌≤◌, ◌+◌, ℕ, List, length, All, Contains, IfOk, OnOk, OnErr, Some, IsSome, true};
+ghost use Rattle.std.specs.Prelude.{◌≡◌, ◌<◌, ◌≤◌, ◌++◌, ℕ, List, [], length, map, slice_index_or, All, Contains, Some, None, true, false};
+ghost use Rattle.std.specs.Prelude.{IfOk, OnOk, OnErr, IsOk, IsSome};
 ghost use Rattle.emv_ports.specs.Memory.{marked, next_write_cut};
 ghost use Rattle.emv_ports.specs.declared.tear.Cut.TheVariants.{CutBefore};
 ghost use Rattle.torn_store.specs.Conversion.{converted};
@@ -8,11 +9,10 @@ ghost use Rattle.torn_store.specs.Recovery.{lowest, Among, Between};
 ghost use Rattle.torn_store.specs.Store.{IsOn, IsReady};
 ghost use Rattle.torn_store.specs.Writing.{WritesAll, StopsIn, Row, RowCut, replay_row, commit_row};
 ghost use Rattle.torn_store.specs.Writing.{mending_row, repair_row, WroteFew, StoppedFew, TurnedOn, LostAt};
-ghost use Rattle.std.specs.Prelude.{slice_index_or, [], ◌++◌, map, false, None, IsOk};
 
 use crate::convert::Convert;
 use crate::journal::{read_home, read_journal, write_home, write_journal};
-use crate::layout::{Block, State, changed_in, framed, header_of, numbers_of};
+use crate::layout::{Block, GATE, HEADER, State, changed_in, framed, header_of, numbers_of};
 use emv_ports::{Gone, Pages};
 
 /// The gate's page: closed, and open.
@@ -30,7 +30,7 @@ fn replay<P: Pages>(pages: &mut P, blocks: &[Block]) -> Result<(), Gone>
         (StopsIn (P.memory pages.old) (replay_row blocks.now) (P.memory pages.new)) }
 {
     write_home(pages, blocks)?;
-    pages.write(0, &CLOSED)
+    pages.write(GATE, &CLOSED)
 }
 
 /// Writes blocks into the journal, names them in the header, opens the gate and replays them.
@@ -44,8 +44,8 @@ fn write_row<P: Pages>(pages: &mut P, blocks: &[Block]) -> Result<(), Gone>
         (StopsIn (P.memory pages.old) (commit_row blocks.now) (P.memory pages.new)) }
 {
     write_journal(pages, blocks)?;
-    pages.write(18, &header_of(blocks))?;
-    pages.write(0, &OPEN)?;
+    pages.write(HEADER, &header_of(blocks))?;
+    pages.write(GATE, &OPEN)?;
     replay(pages, blocks)
 }
 
@@ -92,7 +92,7 @@ fn replay_shown<P: Pages>(pages: &mut P) -> Result<(), Gone>
         (mending_row 1 (numbers_in (slice_index_or (P.memory pages.old).shown 18 []))
         (P.memory pages.old).shown) (P.memory pages.new)) }
 {
-    let numbers = numbers_of(&pages.read(18));
+    let numbers = numbers_of(&pages.read(HEADER));
     let blocks = read_journal(pages, numbers.as_slice());
     replay(pages, blocks.as_slice())
 }
@@ -107,8 +107,8 @@ fn close_gate<P: Pages>(pages: &mut P) -> Result<(), Gone>
     ensures stops { OnErr result (StopsIn (P.memory pages.old)
         (repair_row (P.memory pages.old).shown) (P.memory pages.new)) }
 {
-    let bit = pages.read(0)[0] % 2;
-    pages.write(0, &[bit; 64])?;
+    let bit = pages.read(GATE)[0] % 2;
+    pages.write(GATE, &[bit; 64])?;
     if bit == 0 {
         return Ok(());
     }

@@ -4,7 +4,7 @@ ghost use Rattle.std.specs.Prelude.{OnOk, OnErr};
 ghost use Rattle.torn_store.specs.Layout.{paired, recover_at};
 ghost use Rattle.torn_store.specs.Writing.{WritesAll, StopsIn, journaled};
 
-use crate::layout::{Block, State, state_of};
+use crate::layout::{Block, HOME, JOURNAL, State, state_of};
 use arrayvec::ArrayVec;
 use emv_ports::{Gone, Pages};
 
@@ -33,7 +33,7 @@ pub fn write_journal<P: Pages>(pages: &mut P, blocks: &[Block]) -> Result<(), Go
         (StopsIn (P.memory pages.old) (journaled 19 blocks.now) (P.memory pages.new)) }
 {
     for (i, block) in blocks.iter().enumerate() {
-        pages.write(19 + i as u8, &block.bytes)?;
+        pages.write(JOURNAL + i as u8, &block.bytes)?;
     }
     Ok(())
 }
@@ -49,7 +49,7 @@ pub fn read_journal<P: Pages>(pages: &P, numbers: &[u8]) -> ArrayVec<Block, 17>
     for (i, number) in numbers.iter().enumerate() {
         blocks.push(Block {
             page: *number,
-            bytes: pages.read(19 + i as u8),
+            bytes: pages.read(JOURNAL + i as u8),
         });
     }
     blocks
@@ -65,7 +65,7 @@ pub fn read_home<P: Pages>(pages: &P) -> State
     let mut bytes = [0; 1088];
     for i in 0..17 {
         let at = 64 * i as usize;
-        bytes[at..at + 64].copy_from_slice(&pages.read(1 + i));
+        bytes[at..at + 64].copy_from_slice(&pages.read(HOME + i));
     }
     state_of(&bytes)
 }

@@ -5,6 +5,18 @@ ghost use Rattle.torn_store.specs.Writing.{header};
 
 use arrayvec::ArrayVec;
 
+/// The page of the gate.
+pub const GATE: u8 = 0;
+
+/// The first page of the home.
+pub const HOME: u8 = 1;
+
+/// The page of the header.
+pub const HEADER: u8 = 18;
+
+/// The first page of the journal.
+pub const JOURNAL: u8 = 19;
+
 /// The bytes of a state.
 pub type State = ArrayVec<u8, 1024>;
 

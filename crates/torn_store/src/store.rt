@@ -107,6 +107,9 @@ impl<P: Pages> Store<P> {
     /// As `open`, and then writes the new state that a conversion makes of the state, if it makes
     /// one, before the first commit. The pages stand for one of some states, and behind a `Lost`
     /// for one of these or of their new states: a later call finds it and converts it.
+    ///
+    /// `Lost` comes exactly where a tear is planned before the first commit: at a write of the
+    /// repair or of the new state, or at the release.
     pub fn open_with<C: Convert>(pages: P, convert: &C) -> Result<Store<P>, Lost<P>>
         requires off { (P.memory pages).on ≡ false }
         requires among { (states : List (List ℕ)) × Among recover (P.memory pages).cells states }
