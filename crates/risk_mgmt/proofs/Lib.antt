@@ -1,0 +1,2 @@
+pub mod JudgingSteps
+pub mod Rising

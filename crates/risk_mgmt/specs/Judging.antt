@@ -1,0 +1,12 @@
+-- What a state of risk management leaves to be done.
+use Rattle.std.specs.Prelude.{ℕ, List, Option}
+use Rattle.emv_dict.specs.Progress.{Progress, Leads, Stopped, Done}
+use Rattle.risk_mgmt.specs.Asked.{rest_of}
+use Rattle.risk_mgmt.specs.declared.judged.Judged.{Judged}
+use Rattle.risk_mgmt.specs.declared.judging.JudgeNext.{JudgeNext}
+use Rattle.risk_mgmt.specs.declared.judging.JudgeNext.TheVariants as next
+
+abbrev pub NextLeads : (List (List ℕ) → Progress Judged) → List (List ℕ) → JudgeNext → Type 0
+NextLeads whole answers (next.Ask judging) = Leads whole answers (rest_of judging)
+NextLeads whole answers (next.Done judged) = Leads whole answers (λ later. Done judged later)
+NextLeads whole answers (next.Ended cause) = Leads whole answers (λ _. Stopped cause)

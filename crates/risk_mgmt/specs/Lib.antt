@@ -1,0 +1,5 @@
+pub mod Asked
+pub mod Counters
+pub mod Judging
+pub mod Risky
+pub mod Selected

@@ -1,0 +1,12 @@
+//! Terminal risk management (EMV 4.3 Book 3 section 10.6): exception file, floor limit, random
+//! selection and velocity checking.
+#![tactic(auto)]
+
+pub mod counters;
+pub mod judged;
+pub mod judging;
+pub mod selection;
+
+pub use judged::Judged;
+pub use judging::{JudgeNext, Judging};
+pub use selection::is_selected;
