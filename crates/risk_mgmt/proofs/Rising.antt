@@ -37,5 +37,5 @@ rising_by false row fits amount word target most under higher_target higher_most
     let above = amount - row.threshold in
     let old : drawn word * width ≤ (row.max_target - row.target) * above + row.target * width = leb-true _ _ selected in
     let new : drawn word * width ≤ (most - target) * above + target * width =
-        bound_at (drawn word) width above row.target row.max_target target most (omega arith) fits.target_below low higher_target higher_most old in
+    bound_at (drawn word) width above row.target row.max_target target most (omega arith) fits.target_below low higher_target higher_most old in
     le-leb _ _ new

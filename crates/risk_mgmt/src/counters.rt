@@ -60,10 +60,7 @@ pub(crate) fn counted(
 {
     Tvr::of_conditions(&[
         (true, tvr),
-        (
-            counter.is_none() || last.is_none(),
-            Tvr::ICC_DATA_MISSING,
-        ),
+        (counter.is_none() || last.is_none(), Tvr::ICC_DATA_MISSING),
         (
             is_beyond(lower, counter, last),
             Tvr::LOWER_CONSECUTIVE_LIMIT_EXCEEDED,

@@ -155,10 +155,7 @@ fn always(pan: &[u8], settings: &Settings, purchase: &Purchase) -> Tvr
     ensures { result.0 ≡ spec.always pan.now settings.now purchase.now }
 {
     Tvr::of_conditions(&[
-        (
-            is_exception(pan, &settings.exceptions),
-            Tvr::EXCEPTION_FILE,
-        ),
+        (is_exception(pan, &settings.exceptions), Tvr::EXCEPTION_FILE),
         (purchase.forced, Tvr::MERCHANT_FORCED_ONLINE),
     ])
 }
