@@ -22,32 +22,57 @@ fn row(rt: &impl Abort, codes: [[u8; 5]; 3]) -> AidRow {
     }
 }
 
-/// The first byte of the issuer's codes for denial, online and default, where the card has them; and
-/// what terminals of the types 21 to 26 ask for with 8000000000, AAC (a), TC (t) or ARQC (q): first, as
-/// other implementations ask, and unable to go online.
+/// Objects of a card: tags and values.
+type Objects = &'static [(u32, &'static [u8])];
+
+/// The issuer's codes for denial, online and default, where the card has them; and what terminals of the
+/// types 21 to 26 ask for with 8000000000, AAC (a), TC (t) or ARQC (q): first, as other implementations
+/// ask, and unable to go online.
+const ROWS: [(Objects, &[u8; 6], &[u8; 6]); 5] = [
+    (&[], b"qqaqqa", b"aaaaaa"),
+    (
+        &[
+            (0x9f0e, &[0x00, 0, 0, 0, 0]),
+            (0x9f0f, &[0x00, 0, 0, 0, 0]),
+            (0x9f0d, &[0x00, 0, 0, 0, 0]),
+        ],
+        b"qttqtt",
+        b"attatt",
+    ),
+    (
+        &[
+            (0x9f0e, &[0x80, 0, 0, 0, 0]),
+            (0x9f0f, &[0x00, 0, 0, 0, 0]),
+            (0x9f0d, &[0x00, 0, 0, 0, 0]),
+        ],
+        b"aaaaaa",
+        b"attatt",
+    ),
+    (
+        &[
+            (0x9f0e, &[0x00, 0, 0, 0, 0]),
+            (0x9f0f, &[0x80, 0, 0, 0, 0]),
+            (0x9f0d, &[0x00, 0, 0, 0, 0]),
+        ],
+        b"qqtqqt",
+        b"attatt",
+    ),
+    (
+        &[
+            (0x9f0e, &[0x00, 0, 0, 0, 0]),
+            (0x9f0f, &[0x00, 0, 0, 0, 0]),
+            (0x9f0d, &[0x80, 0, 0, 0, 0]),
+        ],
+        b"qtaqta",
+        b"aaaaaa",
+    ),
+];
+
 #[test]
 fn codes_and_types_choose_the_kind(rt: HostRuntime) {
-    let rows: [(Option<[u8; 3]>, &[u8; 6], &[u8; 6]); 5] = [
-        (None, b"qqaqqa", b"aaaaaa"),
-        (Some([0x00, 0x00, 0x00]), b"qttqtt", b"attatt"),
-        (Some([0x80, 0x00, 0x00]), b"aaaaaa", b"attatt"),
-        (Some([0x00, 0x80, 0x00]), b"qqtqqt", b"attatt"),
-        (Some([0x00, 0x00, 0x80]), b"qtaqta", b"aaaaaa"),
-    ];
     let row = row(&rt, [[0; 5]; 3]);
-    for (issuer, firsts, others) in rows {
-        let card = match issuer {
-            None => card_with(&rt, &[]),
-            Some([denial, online, fallback]) => card_with(
-                &rt,
-                &[
-                    (0x9f0e, &[denial, 0, 0, 0, 0]),
-                    (0x9f0f, &[online, 0, 0, 0, 0]),
-                    (0x9f0d, &[fallback, 0, 0, 0, 0]),
-                ],
-            ),
-        };
-        let codes = codes_of(&card, &row);
+    for (objects, firsts, others) in ROWS {
+        let codes = codes_of(&card_with(&rt, objects), &row);
         let tvr = Tvr::OFFLINE_DATA_AUTHENTICATION_NOT_PERFORMED;
         let mut kind = 21;
         for (first, other) in firsts.iter().zip(others) {
