@@ -1,7 +1,7 @@
 -- No two accounts of a document have one PAN, and the names of its cards are of 0 to 9 and a to z.
-use Rattle.std.proofs.Common.{◌≡◌, ◌≢◌, ℕ, ◌+◌, ◌<◌, ◌≤◌, Bool, true, false, not, List, [], ◌∷◌, ◌++◌, length, get_or, is_none, Option, Some, None, Result, Ok, Err, refl, sym, subst, ◌∙◌, ap, append_assoc, append-nil, arith}
+use Rattle.std.proofs.Common.{◌≡◌, ◌≢◌, ℕ, ◌+◌, Bool, true, false, not, List, [], ◌∷◌, ◌++◌, get_or, Result, Ok, refl, subst, ◌∙◌, ap, append_assoc, append-nil, arith}
 use Rattle.std.specs.Prelude.{codes, IsTrue}
-use Rattle.std.specs.List.{All, AllPairs, list_any}
+use Rattle.std.specs.List.{All}
 use Rattle.std.specs.Str.{bytes_eq}
 use Rattle.std.proofs.lemmas.List.Elements.{All-cons}
 use Rattle.std.proofs.lemmas.List.Quantifiers.{all_pairs_push}
@@ -16,7 +16,7 @@ use Rattle.scenario_fields.specs.declared.fault.ScenarioFault.{ScenarioFault}
 use Rattle.emv_dict.specs.Settings.{most_amount}
 use Rattle.scenario_fields.specs.Fields.{number_at, flag_or, text_at, digits_at, optional_digits, code_at, array_at, table_item, only}
 use Rattle.scenario_fields.specs.Place.{at_top, in_account, in_card, item_path}
-use Rattle.scenario.specs.Accounts.{has_pan, new_pan, scripts_at, account_keys, account_of, account_item, accounts_from, accounts_at}
+use Rattle.scenario.specs.Accounts.{has_pan, new_pan, scripts_at, account_keys, account_of, account_item, accounts_from}
 use Rattle.scenario.specs.Cards.{CardData, is_named, new_card_name, card_of, card_keys, card_item, cards_from, cards_at, apps_at}
 use Rattle.scenario.specs.Plan.{HasPlainName, HaveOwnPans}
 
@@ -91,7 +91,8 @@ unfolding new_card_name
 plain_name i earlier ms name is =
     let text = then_ok (text_at (in_card i) (codes "name") LowercaseOrDigit 1 16 ms) _ name is in
     let fresh = kept (not (is_named text.0 earlier)) _ text.0 name text.2 in
-    rw (← fresh.1) (text_at_ok (in_card i) (codes "name") LowercaseOrDigit 1 16 ms text.0 text.1)
+    let found = text_at_ok (in_card i) (codes "name") LowercaseOrDigit 1 16 ms text.0 text.1 in
+    rw (← fresh.1) found.2
 
 plainly_named : (i : ℕ) (keys : HostKeys) (earlier : List CardData) (d : Data) (card : CardData) → card_item i keys earlier d ≡ Ok card → HasPlainName card
 unfolding card_item card_of
