@@ -1,0 +1,14 @@
+use Rattle.std.proofs.Common.{ap, sym, ◌∙◌, [], List, ℕ, drop, ◌+◌}
+use Rattle.emv_dict.specs.Progress.{Progress, Wants}
+use Rattle.cvm_list.proofs.Walk.{asked}
+use Rattle.cvm_list.specs.Waiting.{rest_of}
+use Rattle.cvm_list.specs.declared.verified.Verified.{Verified}
+use Rattle.cvm_list.proofs.verifying.Verifying.ask.Goals as goal
+
+pub returns : goal.returns
+returns c =
+    let s = c.self.inside in
+    let wants : List ℕ → Progress Verified = λ command. Wants command in
+    ap (λ s. rest_of s []) (sym c.self.view_is)
+    ∙ asked s.found s.caps s.rule (drop (s.at + 1) s.rules.items) s.pin.now s.pins.now c.self.invariant.asks
+    ∙ ap wants (sym c.write_verify.ensures)

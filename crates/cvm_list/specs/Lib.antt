@@ -1,0 +1,9 @@
+pub mod Attempts
+pub mod Begun
+pub mod Cvm
+pub mod NextIs
+pub mod Plain
+pub mod Rules
+pub mod Settled
+pub mod Tried
+pub mod Waiting
