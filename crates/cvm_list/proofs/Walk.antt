@@ -107,7 +107,7 @@ pub answered : (found : Found) (caps : ℕ) (rule : Rule) (others : List Rule) (
 unfolding pin_tried
 answered found caps rule others pin pins reply later response asks read =
     one_rule found caps (rule ∷ others) rule others (pin ∷ pins) (reply ∷ later) _ refl
-        (asks_tried caps rule (pin ∷ pins) (reply ∷ later) asks ∙ ap (λ r. by_answer rule (plain_result (method_of rule)) r pins later (pin_tried rule (plain_result (method_of rule)) pins later)) read)
+    (asks_tried caps rule (pin ∷ pins) (reply ∷ later) asks ∙ ap (λ r. by_answer rule (plain_result (method_of rule)) r pins later (pin_tried rule (plain_result (method_of rule)) pins later)) read)
 
 -- the answers that are left are told by the rule
 pub answers_apart : (found : Found) (trial : Trial) (behind : List (List ℕ) → List (List ℕ) → Course) (a b : List (List ℕ))
@@ -131,7 +131,6 @@ no_response rule result (Some r) pins rest again is = cc
 
 module _ (s : VerifyingData) (found : Found) (caps : ℕ) (rule : Rule) (others : List Rule) (pin : List ℕ) (pins : List (List ℕ)) (reply : List ℕ)
     (seen : record { found = found; caps = caps; rules = rule ∷ others; pins = pin ∷ pins } ≡ s) (asks : IsTrue (asks_card caps rule)) where
-
   -- the card's answer is a response that says so
   after_said : (said : Said) → said_in reply ≡ Some said → (later : List (List ℕ))
       → rest_of s (reply ∷ later)
@@ -140,7 +139,7 @@ module _ (s : VerifyingData) (found : Found) (caps : ℕ) (rule : Rule) (others 
       ap (λ s. rest_of s (reply ∷ later)) (sym seen)
       ∙ answered found caps rule others pin pins reply later (response_of reply) asks refl
       ∙ ap (λ t. verdict found (course_by t (course caps others)) (reply ∷ later))
-          (by_response rule (plain_result (method_of rule)) (response_of reply) said pins later (pin_tried rule (plain_result (method_of rule)) pins later) is)
+      (by_response rule (plain_result (method_of rule)) (response_of reply) said pins later (pin_tried rule (plain_result (method_of rule)) pins later) is)
 
   pub unreadable : said_in reply ≡ None → (later : List (List ℕ)) → rest_of s (reply ∷ later) ≡ Stopped Answer
   unfolding verdict deciding
@@ -148,7 +147,7 @@ module _ (s : VerifyingData) (found : Found) (caps : ℕ) (rule : Rule) (others 
       ap (λ s. rest_of s (reply ∷ later)) (sym seen)
       ∙ answered found caps rule others pin pins reply later (response_of reply) asks refl
       ∙ ap (λ t. verdict found (course_by t (course caps others)) (reply ∷ later))
-          (no_response rule (plain_result (method_of rule)) (response_of reply) pins later (pin_tried rule (plain_result (method_of rule)) pins later) is)
+      (no_response rule (plain_result (method_of rule)) (response_of reply) pins later (pin_tried rule (plain_result (method_of rule)) pins later) is)
 
   pub right : said_in reply ≡ Some Right → (later : List (List ℕ))
       → rest_of s (reply ∷ later) ≡ rest_behind_rule found (successful rule (plain_result (method_of rule))) (course caps others) pins later

@@ -45,7 +45,13 @@ unsupported_bits Unrecognised = tvr_bit 3 7
 
 abbrev pub unsupported : Rule → Outcome
 unsupported rule = record {
-  rule = rule; performed = false; good = false; result = 1; tvr = record { 0 = unsupported_bits (method_of rule) }; online_pin = None }
+  rule = rule;
+  performed = false;
+  good = false;
+  result = 1;
+  tvr = record { 0 = unsupported_bits (method_of rule) };
+  online_pin = None;
+}
 
 -- a method that was performed without success
 abbrev pub failed : Rule → ℕ → Outcome
@@ -58,7 +64,13 @@ successful rule result = record { rule = rule; performed = true; good = true; re
 -- a PIN that goes to the issuer
 abbrev pub sent_online : Rule → List ℕ → Outcome
 sent_online rule pin = record {
-  rule = rule; performed = true; good = true; result = 0; tvr = record { 0 = tvr_bit 3 3 }; online_pin = Some pin }
+  rule = rule;
+  performed = true;
+  good = true;
+  result = 0;
+  tvr = record { 0 = tvr_bit 3 3 };
+  online_pin = Some pin;
+}
 
 -- what comes of a rule: its outcome with the PIN entries and the answers that it leaves, a command that it wants
 -- answered, or a cause to end the transaction

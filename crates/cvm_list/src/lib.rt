@@ -9,4 +9,4 @@ pub mod verified;
 pub mod verifying;
 
 pub use verified::Verified;
-pub use verifying::{Verifying, VerifyNext};
+pub use verifying::{VerifyNext, Verifying};

@@ -19,10 +19,10 @@ returns-in-GoesOn t c =
     let left = c.in-Known.pins.now in
     let behind = course c.args.caps (drop (c.args.at + 1) rules) in
     next_same (λ later. verdict c.args.found (course c.args.caps (drop c.args.at rules) c.args.pins.now later) later)
-        (λ later. verdict c.in-GoesOn.found (behind left later) later) c.walk.result
-        (λ later. known_step c.args.found c.args.caps (drop c.args.at rules) c.rule_at-rule.result (drop (c.args.at + 1) rules) c.args.pins.now c.in-Known.outcome left c.rule_at-rule.ensures c.in-Known.ensures.is later
-            ∙ on_step c.args.found c.in-Known.outcome behind left later c.in-GoesOn.found c.in-GoesOn.ensures.0 c.in-GoesOn.ensures.1)
-        c.walk.ensures
+    (λ later. verdict c.in-GoesOn.found (behind left later) later) c.walk.result
+    (λ later. known_step c.args.found c.args.caps (drop c.args.at rules) c.rule_at-rule.result (drop (c.args.at + 1) rules) c.args.pins.now c.in-Known.outcome left c.rule_at-rule.ensures c.in-Known.ensures.is later
+    ∙ on_step c.args.found c.in-Known.outcome behind left later c.in-GoesOn.found c.in-GoesOn.ensures.0 c.in-GoesOn.ensures.1)
+    c.walk.ensures
 
 pub returns-in-Done : goal.returns-in-Done
 returns-in-Done t c later =

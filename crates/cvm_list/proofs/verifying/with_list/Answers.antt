@@ -30,9 +30,9 @@ returns c =
     let f : Found → Situation → List Rule → List (List ℕ) → List (List ℕ) → Progress Verified = λ found s rules pins later. verdict found (course s.caps rules pins later) later in
     let pins : p.pins ≡ entries = cc in
     next_same (by_rules rules s p) (f c.nothing_found.result made kept entries) c.walk.result
-        (λ later. with_rules list s p later long
-            ∙ ap (λ (x : Situation). f nothing_found x (holding x rules) p.pins later) (sym c.situation-s.ensures)
-            ∙ ap (λ (x : List Rule). f nothing_found made x p.pins later) (sym c.holding_rules-rules.ensures)
-            ∙ ap (λ (x : List (List ℕ)). f nothing_found made kept x later) pins
-            ∙ ap (λ (x : Found). f x made kept entries later) (sym c.nothing_found.ensures))
-        c.walk.ensures
+    (λ later. with_rules list s p later long
+    ∙ ap (λ (x : Situation). f nothing_found x (holding x rules) p.pins later) (sym c.situation-s.ensures)
+    ∙ ap (λ (x : List Rule). f nothing_found made x p.pins later) (sym c.holding_rules-rules.ensures)
+    ∙ ap (λ (x : List (List ℕ)). f nothing_found made kept x later) pins
+    ∙ ap (λ (x : Found). f x made kept entries later) (sym c.nothing_found.ensures))
+    c.walk.ensures

@@ -21,7 +21,7 @@ returns-in-None c whole answers leads =
     let s = c.self.inside in
     let is : said_in c.args.reply.now ≡ None = sym c.read_said.ensures ∙ c.in-None.is in
     leads_more whole (rest_of c.args.self) (λ _. Stopped Answer) answers c.args.reply.now leads
-        (unreadable c.args.self s.found s.caps s.rule (drop (s.at + 1) s.rules.items) s.pin.now s.pins.now c.args.reply.now c.self.view_is c.self.invariant.asks is)
+    (unreadable c.args.self s.found s.caps s.rule (drop (s.at + 1) s.rules.items) s.pin.now s.pins.now c.args.reply.now c.self.view_is c.self.invariant.asks is)
 
 pub returns-in-Some-Again : goal.returns-in-Some-Again
 returns-in-Some-Again c whole answers leads =
@@ -29,9 +29,9 @@ returns-in-Some-Again c whole answers leads =
     let some : Said → Option Said = λ said. Some said in
     let is : said_in c.args.reply.now ≡ Some Again = sym c.read_said.ensures ∙ c.in-Some-Again.is ∙ ap some c.in-Some-Again.field-0-is in
     leads_on whole (rest_of c.args.self) (λ later. verdict s.found (course s.caps (drop s.at s.rules.items) s.pins.now later) later) answers c.args.reply.now c.walk.result leads
-        (λ later. again c.args.self s.found s.caps s.rule (drop (s.at + 1) s.rules.items) s.pin.now s.pins.now c.args.reply.now c.self.view_is c.self.invariant.asks is later
-            ∙ ap (λ (rules : List Rule). verdict s.found (course s.caps rules s.pins.now later) later) (sym c.self.invariant.stands))
-        c.walk.ensures
+    (λ later. again c.args.self s.found s.caps s.rule (drop (s.at + 1) s.rules.items) s.pin.now s.pins.now c.args.reply.now c.self.view_is c.self.invariant.asks is later
+    ∙ ap (λ (rules : List Rule). verdict s.found (course s.caps rules s.pins.now later) later) (sym c.self.invariant.stands))
+    c.walk.ensures
 
 pub returns-in-Some-Right : goal.returns-in-Some-Right
 returns-in-Some-Right c whole answers leads =
@@ -41,9 +41,9 @@ returns-in-Some-Right c whole answers leads =
     let made : c.successful-outcome.result ≡ successful s.rule (plain_result (method_of s.rule)) = c.successful-outcome.ensures ∙ ap (λ (r : ℕ). successful s.rule r) c.right_result.ensures in
     let behind = course s.caps (drop (s.at + 1) s.rules.items) in
     leads_on whole (rest_of c.args.self) (rest_behind_rule s.found c.successful-outcome.result behind s.pins.now) answers c.args.reply.now c.go_on.result leads
-        (λ later. right c.args.self s.found s.caps s.rule (drop (s.at + 1) s.rules.items) s.pin.now s.pins.now c.args.reply.now c.self.view_is c.self.invariant.asks is later
-            ∙ ap (λ (o : Outcome). rest_behind_rule s.found o behind s.pins.now later) (sym made))
-        c.go_on.ensures
+    (λ later. right c.args.self s.found s.caps s.rule (drop (s.at + 1) s.rules.items) s.pin.now s.pins.now c.args.reply.now c.self.view_is c.self.invariant.asks is later
+    ∙ ap (λ (o : Outcome). rest_behind_rule s.found o behind s.pins.now later) (sym made))
+    c.go_on.ensures
 
 pub returns-in-Some-Exceeded : goal.returns-in-Some-Exceeded
 returns-in-Some-Exceeded c whole answers leads =
@@ -52,9 +52,9 @@ returns-in-Some-Exceeded c whole answers leads =
     let is : said_in c.args.reply.now ≡ Some Exceeded = sym c.read_said.ensures ∙ c.in-Some-Exceeded.is ∙ ap some c.in-Some-Exceeded.field-0-is in
     let behind = course s.caps (drop (s.at + 1) s.rules.items) in
     leads_on whole (rest_of c.args.self) (rest_behind_rule s.found c.failed-outcome.result behind s.pins.now) answers c.args.reply.now c.go_on-in-Some-Exceeded.result leads
-        (λ later. exceeded c.args.self s.found s.caps s.rule (drop (s.at + 1) s.rules.items) s.pin.now s.pins.now c.args.reply.now c.self.view_is c.self.invariant.asks is later
-            ∙ ap (λ (o : Outcome). rest_behind_rule s.found o behind s.pins.now later) (sym c.failed-outcome.ensures))
-        c.go_on-in-Some-Exceeded.ensures
+    (λ later. exceeded c.args.self s.found s.caps s.rule (drop (s.at + 1) s.rules.items) s.pin.now s.pins.now c.args.reply.now c.self.view_is c.self.invariant.asks is later
+    ∙ ap (λ (o : Outcome). rest_behind_rule s.found o behind s.pins.now later) (sym c.failed-outcome.ensures))
+    c.go_on-in-Some-Exceeded.ensures
 
 pub returns-in-Some-Other : goal.returns-in-Some-Other
 returns-in-Some-Other c whole answers leads =
@@ -63,6 +63,6 @@ returns-in-Some-Other c whole answers leads =
     let is : said_in c.args.reply.now ≡ Some Other = sym c.read_said.ensures ∙ c.in-Some-Other.is ∙ ap some c.in-Some-Other.field-0-is in
     let behind = course s.caps (drop (s.at + 1) s.rules.items) in
     leads_on whole (rest_of c.args.self) (rest_behind_rule s.found c.failed-outcome-in-Some-Other.result behind s.pins.now) answers c.args.reply.now c.go_on-in-Some-Other.result leads
-        (λ later. other c.args.self s.found s.caps s.rule (drop (s.at + 1) s.rules.items) s.pin.now s.pins.now c.args.reply.now c.self.view_is c.self.invariant.asks is later
-            ∙ ap (λ (o : Outcome). rest_behind_rule s.found o behind s.pins.now later) (sym c.failed-outcome-in-Some-Other.ensures))
-        c.go_on-in-Some-Other.ensures
+    (λ later. other c.args.self s.found s.caps s.rule (drop (s.at + 1) s.rules.items) s.pin.now s.pins.now c.args.reply.now c.self.view_is c.self.invariant.asks is later
+    ∙ ap (λ (o : Outcome). rest_behind_rule s.found o behind s.pins.now later) (sym c.failed-outcome-in-Some-Other.ensures))
+    c.go_on-in-Some-Other.ensures
