@@ -10,3 +10,6 @@ pub mod selection;
 pub use judged::Judged;
 pub use judging::{JudgeNext, Judging};
 pub use selection::is_selected;
+
+#[cfg(test)]
+mod tests;
