@@ -28,16 +28,19 @@ paid_at items = do
   t82 ← fixed_at 2 false 0x82 t9f37.1
   t9f36 ← fixed_at 2 false 0x9F36 t82.1
   t9f26 ← fixed_at 8 false 0x9F26 t9f36.1
-  Ok (record {
-    t9f02 = t9f02.0;
-    t9f03 = t9f03.0;
-    t9f1a = t9f1a.0;
-    t95 = t95.0;
-    t5f2a = t5f2a.0;
-    t9a = t9a.0;
-    t9c = t9c.0;
-    t9f37 = t9f37.0;
-    t82 = t82.0;
-    t9f36 = t9f36.0;
-    t9f26 = t9f26.0;
-  }, t9f26.1)
+  Ok (
+    record {
+      t9f02 = t9f02.0;
+      t9f03 = t9f03.0;
+      t9f1a = t9f1a.0;
+      t95 = t95.0;
+      t5f2a = t5f2a.0;
+      t9a = t9a.0;
+      t9c = t9c.0;
+      t9f37 = t9f37.0;
+      t82 = t82.0;
+      t9f36 = t9f36.0;
+      t9f26 = t9f26.0;
+    },
+    t9f26.1,
+  )

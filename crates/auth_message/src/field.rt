@@ -36,12 +36,7 @@ pub fn fixed_value<const N: usize>(
 
 /// The value of a field of `least` to `most` bytes.
 #[tactic(auto, unfolding(crate::specs::Field::some_value))]
-pub fn some_value(
-    tag: u32,
-    least: usize,
-    most: usize,
-    value: &[u8],
-) -> Result<&[u8], MessageFault>
+pub fn some_value(tag: u32, least: usize, most: usize, value: &[u8]) -> Result<&[u8], MessageFault>
     ensures { MatchResult result (λ v. value_of_some least most tag value.now ≡ Ok v.now)
         (λ fault. value_of_some least most tag value.now ≡ Err fault) }
 {

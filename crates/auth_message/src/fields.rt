@@ -69,7 +69,11 @@ impl<'a> Fields<'a> {
 
     /// A field of `N` bytes, which are decimal digits where it is `numeric`.
     #[tactic(auto, unfolding(crate::specs::Fields::fixed_at))]
-    pub fn fixed<const N: usize>(&mut self, tag: u32, numeric: bool) -> Result<[u8; N], MessageFault>
+    pub fn fixed<const N: usize>(
+        &mut self,
+        tag: u32,
+        numeric: bool,
+    ) -> Result<[u8; N], MessageFault>
         ensures { MatchResult result (λ v. fixed_at N numeric tag self.old ≡ Ok (v, self.new)) (λ fault. fixed_at N numeric tag self.old ≡ Err fault) }
     {
         let value = self.wanted(tag)?;

@@ -35,22 +35,22 @@ impl<'a> Model for PresentFields<'a> {
     ghost Value = { PresentData };
 
     ghost view = { λ f. record {
-        t9f1c = f.t9f1c;
-        pan = f.pan;
-        t5f34 = f.t5f34;
-        t9f02 = f.t9f02;
-        t9f03 = f.t9f03;
-        t9f1a = f.t9f1a;
-        t95 = f.t95;
-        t5f2a = f.t5f2a;
-        t9a = f.t9a;
-        t9c = f.t9c;
-        t9f37 = f.t9f37;
-        t82 = f.t82;
-        t9f36 = f.t9f36;
-        t9f26 = f.t9f26;
-        t9f10 = f.t9f10.now;
-        t8a = f.t8a;
+      t9f1c = f.t9f1c;
+      pan = f.pan;
+      t5f34 = f.t5f34;
+      t9f02 = f.t9f02;
+      t9f03 = f.t9f03;
+      t9f1a = f.t9f1a;
+      t95 = f.t95;
+      t5f2a = f.t5f2a;
+      t9a = f.t9a;
+      t9c = f.t9c;
+      t9f37 = f.t9f37;
+      t82 = f.t82;
+      t9f36 = f.t9f36;
+      t9f26 = f.t9f26;
+      t9f10 = f.t9f10.now;
+      t8a = f.t8a;
     } };
 }
 
