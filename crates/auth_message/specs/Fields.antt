@@ -65,12 +65,6 @@ fixed_if_there count numeric tag items = do
   value ← if_there (fixed_value count numeric tag) (given tag items)
   Ok (value, behind tag items)
 
--- one of so few to so many bytes that may be absent
-unfoldable pub some_if_there : ℕ → ℕ → ℕ → List ItemData → Result (Option (List ℕ) × List ItemData) MessageFault
-some_if_there least most tag items = do
-  value ← if_there (some_value least most tag) (given tag items)
-  Ok (value, behind tag items)
-
 -- no item is left
 abbrev pub ended : List ItemData → Result (Unit {0}) MessageFault
 ended [] = Ok tt

@@ -1,7 +1,7 @@
 ghost use Rattle.std.specs.Prelude.{◌≡◌, ◌≤◌, None, length, option_map, Ok, Err, MatchResult};
 ghost use Rattle.ber_tlv.specs.Left.{items_behind, fault_of};
 ghost use Rattle.ber_tlv.specs.Seen.{then_rest};
-ghost use Rattle.auth_message.specs.Fields.{given, behind, wanted as wanted_at, fixed_at, some_at, pan_at, fixed_if_there, some_if_there, ended};
+ghost use Rattle.auth_message.specs.Fields.{given, behind, wanted as wanted_at, fixed_at, some_at, pan_at, fixed_if_there, ended};
 
 use crate::fault::MessageFault;
 use crate::field::{fixed_value, pan_value, some_value};
