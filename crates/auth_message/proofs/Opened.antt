@@ -1,0 +1,98 @@
+-- The items of a message's value, from the step that gave its outer item.
+use Rattle.std.proofs.Common.{◌≡◌, ℕ, ◌+◌, ◌-◌, true, false, List, [], ◌∷◌, length, take, Option, Some, None, Result, Ok, Err, refl, sym, ap, subst, ◌∙◌, inl, inr, arith}
+use Rattle.std.specs.Prelude.{nat_le, slice_range, ◌==◌}
+use Rattle.std.specs.List.{list_any}
+use Rattle.ber_tlv.specs.Item.{ItemData, item_at, tag_at, length_at, value_at}
+use Rattle.ber_tlv.specs.Items.{NextItem}
+use Rattle.ber_tlv.specs.Left.{items_behind, items_of, fault_of, then_left}
+use Rattle.ber_tlv.specs.Place.{place_of}
+use Rattle.ber_tlv.specs.declared.item.TlvFault.{TlvFault}
+use Rattle.ber_tlv.proofs.ItemBounds.{step-ok, chosen-ok}
+use Rattle.auth_message.specs.declared.fault.MessageFault.{MessageFault}
+use Rattle.auth_message.specs.declared.fault.MessageFault.TheVariants.{Coding}
+use Rattle.auth_message.specs.Outer.{held, items_within, outer_of, outer_among, outer_within}
+
+value_start : (bytes : List ℕ) (start tag place count : ℕ) (item : ItemData) (next : ℕ) → value_at bytes start tag place count ≡ Ok (item, next) → item.start ≡ start
+unfolding value_at
+value_start bytes start tag place count item next e =
+    elim (chosen-ok (nat_le (place + count) (length bytes)) _ _ _ e) [
+      | inl (fits, stands) ↦
+          let pair : ◌≡◌ {A = ItemData × ℕ} (record { tag = tag; value = slice_range bytes place (place + count); start = start }, place + count) (item, next) = cc stands in
+          sym (ap (λ (p : ItemData × ℕ). p.0.start) pair)
+      | inr cut ↦ cc
+    ]
+
+start_of : (bytes : List ℕ) (start : ℕ) (item : ItemData) (next : ℕ) → item_at bytes start ≡ Ok (item, next) → item.start ≡ start
+unfolding item_at
+start_of bytes start item next stands =
+    let tag = step-ok (tag_at bytes start) _ _ stands in
+    let count = step-ok (length_at bytes start tag.0.1) _ _ tag.2 in
+    value_start bytes start tag.0.0 count.0.1 count.0.0 item next count.2
+
+pub held_is : (bytes : List ℕ) (place : ℕ) (item : ItemData) (next : ℕ) → NextItem bytes place item next → held bytes item ≡ items_behind (take next bytes) (next - length item.value)
+held_is bytes place item next step =
+    ap (λ s. items_within bytes (item_at bytes s)) (start_of bytes step.start item next step.stands) ∙ ap (items_within bytes) step.stands
+
+-- the first item of the message, and what is left behind it
+pub record First (bytes : List ℕ) (item : ItemData) (next : ℕ) : Type 0 where
+  pub step : NextItem bytes 0 item next
+  pub left : then_left item (items_behind bytes next) ≡ items_of bytes
+
+pub first_is : (b b2 bytes : List ℕ) (p : ℕ) (item : ItemData) (next : ℕ) → b ≡ bytes → p ≡ 0 → b2 ≡ b → NextItem b p item next → then_left item (items_behind b2 next) ≡ items_behind b p → First bytes item next
+first_is b b2 bytes p item next same zero same2 step left = record {
+  step = subst (λ x. NextItem bytes x item next) zero (subst (λ x. NextItem x p item next) same step);
+  left = ap (λ x. then_left item (items_behind x next)) (sym (same2 ∙ same)) ∙ left ∙ ap (λ x. items_behind x p) same ∙ ap (items_behind bytes) zero;
+}
+
+-- the items of its value
+pub inside_is : (b2 bytes inside : List ℕ) (place next count : ℕ) → b2 ≡ bytes → inside ≡ take next b2 → place ≡ next - count → items_behind inside place ≡ items_behind (take next bytes) (next - count)
+inside_is b2 bytes inside place next count same cut at = ap (λ x. items_behind x place) (cut ∙ ap (take next) same) ∙ ap (items_behind (take next bytes)) at
+
+found_first : (known bytes : List ℕ) (item : ItemData) (next : ℕ) (others : List ItemData) (r : Result (List ItemData) TlvFault) → First bytes item next → items_behind bytes next ≡ Ok others
+    → items_behind (take next bytes) (next - length item.value) ≡ r → outer_of known bytes ≡ outer_within known item others r
+found_first known bytes item next others r first rest inside =
+    ap (outer_among known bytes) (sym first.left ∙ ap (then_left item) rest) ∙ ap (outer_within known item others) (held_is bytes 0 item next first.step ∙ inside)
+
+-- where the message has no fault, what is left has none
+others_of : (item : ItemData) (r : Result (List ItemData) TlvFault) → None ≡ fault_of (then_left item r) → (others : List ItemData) × (r ≡ Ok others)
+others_of item (Ok others) h = (others, refl)
+others_of item (Err fault) h = absurd cc
+
+whole_rest : (bytes : List ℕ) (item : ItemData) (next : ℕ) → First bytes item next → None ≡ fault_of (items_of bytes) → (others : List ItemData) × (items_behind bytes next ≡ Ok others)
+whole_rest bytes item next first whole = others_of item (items_behind bytes next) (whole ∙ ap fault_of (sym first.left))
+
+fault_is : (r : Result (List ItemData) TlvFault) (fault : TlvFault) → Some fault ≡ fault_of r → r ≡ Err fault
+fault_is (Ok items) fault h = absurd cc
+fault_is (Err other) fault h = let same : other ≡ fault = cc in ap (λ f. Err f) same
+
+items_are : (r : Result (List ItemData) TlvFault) → None ≡ fault_of r → (items : List ItemData) × (r ≡ Ok items)
+items_are (Ok items) h = (items, refl)
+items_are (Err fault) h = absurd cc
+
+pub value_fault : (known bytes : List ℕ) (item : ItemData) (next place : ℕ) (fault : TlvFault) → First bytes item next → None ≡ fault_of (items_of bytes)
+    → Some fault ≡ fault_of (items_behind (take next bytes) (next - length item.value)) → place ≡ place_of fault → outer_of known bytes ≡ Err (Coding place)
+value_fault known bytes item next place fault first whole broken at =
+    let rest = whole_rest bytes item next first whole in
+    found_first known bytes item next rest.0 (Err fault) first rest.1 (fault_is _ fault broken) ∙ ap (λ n. Err (Coding n)) (sym at)
+
+pub unknown_tag : (known bytes : List ℕ) (item : ItemData) (next : ℕ) → First bytes item next → None ≡ fault_of (items_of bytes)
+    → None ≡ fault_of (items_behind (take next bytes) (next - length item.value)) → list_any (λ tag. tag == item.tag) known ≡ false → outer_of known bytes ≡ Err (Coding item.start)
+unknown_tag known bytes item next first whole good unknown =
+    let rest = whole_rest bytes item next first whole in
+    let inside = items_are _ good in
+    found_first known bytes item next rest.0 (Ok inside.0) first rest.1 inside.1 ∙ rw unknown refl
+
+pub second_item : (known bytes : List ℕ) (item other : ItemData) (next : ℕ) (r : Result (List ItemData) TlvFault) → First bytes item next → None ≡ fault_of (items_of bytes)
+    → then_left other r ≡ items_behind bytes next
+    → None ≡ fault_of (items_behind (take next bytes) (next - length item.value)) → list_any (λ tag. tag == item.tag) known ≡ true → outer_of known bytes ≡ Err (Coding other.start)
+second_item known bytes item other next r first whole more good is_known =
+    let rest = whole_rest bytes item next first whole in
+    let inside = items_are _ good in
+    let behind = others_of other r (ap (λ x. fault_of x) (sym (more ∙ rest.1))) in
+    let others : Ok rest.0 ≡ Ok (other ∷ behind.0) = sym rest.1 ∙ sym more ∙ ap (then_left other) behind.1 in
+    found_first known bytes item next (other ∷ behind.0) (Ok inside.0) first (rest.1 ∙ others) inside.1 ∙ rw is_known refl
+
+pub alone_item : (known bytes : List ℕ) (item : ItemData) (next : ℕ) (items : List ItemData) → First bytes item next → Ok [] ≡ items_behind bytes next
+    → items_behind (take next bytes) (next - length item.value) ≡ Ok items → list_any (λ tag. tag == item.tag) known ≡ true → outer_of known bytes ≡ Ok (item.tag, items)
+alone_item known bytes item next items first end inside is_known =
+    found_first known bytes item next [] (Ok items) first (sym end) inside ∙ rw is_known refl

@@ -1,0 +1,40 @@
+-- The one item that a message is, and the items of its value (own).
+use Rattle.std.specs.Prelude.{ℕ, Bool, ◌-◌, ◌==◌, if◌then◌else◌, List, [], ◌∷◌, length, take, Result, Ok, Err}
+use Rattle.std.specs.List.{list_any}
+use Rattle.ber_tlv.specs.Item.{ItemData, item_at}
+use Rattle.ber_tlv.specs.Left.{items_behind, items_of}
+use Rattle.ber_tlv.specs.Place.{place_of}
+use Rattle.ber_tlv.specs.declared.item.TlvFault.{TlvFault}
+use Rattle.auth_message.specs.declared.fault.MessageFault.{MessageFault}
+use Rattle.auth_message.specs.declared.fault.MessageFault.TheVariants.{Coding}
+
+-- the items of the value of an item that ends before a place; places count from the first byte of the
+-- message
+abbrev pub items_within : List ℕ → Result (ItemData × ℕ) TlvFault → Result (List ItemData) TlvFault
+items_within bytes (Ok found) = items_behind (take found.1 bytes) (found.1 - length found.0.value)
+items_within bytes (Err fault) = Err fault
+
+-- the items of the value of an item
+abbrev pub held : List ℕ → ItemData → Result (List ItemData) TlvFault
+held bytes item = items_within bytes (item_at bytes item.start)
+
+-- no other item stands beside it
+abbrev pub alone : {A : Type 0} → A → List ItemData → Result A MessageFault
+alone found [] = Ok found
+alone found (other ∷ others) = Err (Coding other.start)
+
+-- the tag of the message and its items, where its value is a list of items and its tag a known one
+abbrev pub outer_within : List ℕ → ItemData → List ItemData → Result (List ItemData) TlvFault → Result (ℕ × List ItemData) MessageFault
+outer_within known item others (Err fault) = Err (Coding (place_of fault))
+outer_within known item others (Ok items) =
+    if list_any (λ tag. tag == item.tag) known then alone (item.tag, items) others else Err (Coding item.start)
+
+abbrev pub outer_among : List ℕ → List ℕ → Result (List ItemData) TlvFault → Result (ℕ × List ItemData) MessageFault
+outer_among known bytes (Err fault) = Err (Coding (place_of fault))
+outer_among known bytes (Ok []) = Err (Coding 0)
+outer_among known bytes (Ok (item ∷ others)) = outer_within known item others (held bytes item)
+
+-- the tag of the message and its items: faults of the coding of the message come first, then those of
+-- its first item's value, then an unknown tag, then an item beside it
+abbrev pub outer_of : List ℕ → List ℕ → Result (ℕ × List ItemData) MessageFault
+outer_of known bytes = outer_among known bytes (items_of bytes)

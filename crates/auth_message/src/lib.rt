@@ -1,0 +1,20 @@
+//! The messages between a terminal and the issuer's host: a request, its reply, a presentment and a
+//! reversal, each one BER-TLV item whose value is a list of fields in a fixed order. The formats are
+//! this project's own.
+#![tactic(auto)]
+
+pub mod fault;
+mod field;
+mod fields;
+mod groups;
+pub mod message;
+mod outer;
+pub mod presentment;
+pub mod request;
+pub mod reversal;
+
+pub use fault::MessageFault;
+pub use message::{Incoming, read_message};
+pub use presentment::PresentFields;
+pub use request::RequestFields;
+pub use reversal::ReversalFields;
