@@ -1,2 +1,3 @@
+pub mod LawsOfRules
 pub mod Opening
 pub mod Walk

@@ -1,6 +1,7 @@
 pub mod Attempts
 pub mod Begun
 pub mod Cvm
+pub mod Laws
 pub mod NextIs
 pub mod Plain
 pub mod Rules

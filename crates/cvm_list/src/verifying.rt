@@ -5,6 +5,7 @@ ghost use Rattle.emv_dict.specs.Progress.{Progress, Leads, Wants};
 ghost use Rattle.object_lists.specs.Forms.{HasIfThere};
 ghost use Rattle.cvm_list.specs.Begun as spec;
 ghost use Rattle.cvm_list.specs.Cvm.{course, nothing_found as found_before, verdict};
+ghost use Rattle.cvm_list.specs.Laws.{AsksForNone, IsPassedOver};
 ghost use Rattle.cvm_list.specs.NextIs.{NextLeads};
 ghost use Rattle.cvm_list.specs.Plain.{plain_result};
 ghost use Rattle.cvm_list.specs.Rules.{rules_of, method_of as rule_method};
@@ -69,7 +70,9 @@ impl<'s> Verifying<'s> {
     pub fn begin(card: &CardData, settings: &Settings, purchase: &'s Purchase) -> VerifyNext<'s>
         requires pins { All HasPinLength purchase.now.pins }
         requires short { HasIfThere 0x8E spec.is_short card.now.entries }
-        ensures { NextLeads (spec.cvm card.now settings.now purchase.now) [] result }
+        ensures leads { NextLeads (spec.cvm card.now settings.now purchase.now) [] result }
+        // A card that asks for no verification sets no bit.
+        ensures passed_over { AsksForNone card.now → IsPassedOver result }
     {
         if card.aip[0] & 0x10 == 0 {
             return VerifyNext::Done(passed(Tvr::default()));

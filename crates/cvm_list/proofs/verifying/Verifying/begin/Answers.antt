@@ -7,8 +7,8 @@ use Rattle.cvm_list.specs.Begun.{by_rules, cvm, situation}
 use Rattle.cvm_list.specs.Rules.{rules_of}
 use Rattle.cvm_list.proofs.verifying.Verifying.begin.Goals as goal
 
-pub returns-in-Some : goal.returns-in-Some
-returns-in-Some c =
+pub returns-in-Some-clause-leads : goal.returns-in-Some-clause-leads
+returns-in-Some-clause-leads c =
     let card = c.args.card.now in
     let settings = c.args.settings.now in
     let p = c.args.purchase.now in
