@@ -12,3 +12,6 @@ pub mod verifying;
 pub use laws::{entries_are_used_once, rules_behind_are_idle};
 pub use verified::Verified;
 pub use verifying::{VerifyNext, Verifying};
+
+#[cfg(test)]
+mod tests;
