@@ -86,532 +86,67 @@ fn is_short(card: &CardData) -> bool
     }
 }
 
-/// A terminal's type and the second byte of its capabilities, the transaction type, whether it is in
-/// dollars, X, Y, the rules, the results and the third byte of the verification results.
-type RuleRow = (u8, u8, u8, bool, u16, u16, &'static [u8], [u8; 3], u8);
+/// A terminal's type and the second byte of its capabilities, the transaction type, X, Y, the rules,
+/// and the results with the third byte of the verification results behind them.
+type RuleRow = (u8, u8, u8, u16, u16, &'static [u8], u32);
 
 /// As other implementations give them.
-const RULES: [RuleRow; 45] = [
-    (
-        22,
-        0xb8,
-        0x00,
-        true,
-        0,
-        0,
-        &[0x05, 0x00],
-        [0x3f, 0x00, 0x01],
-        0x90,
-    ),
-    (
-        22,
-        0xb8,
-        0x00,
-        false,
-        2501,
-        0,
-        &[0x1f, 0x06],
-        [0x3f, 0x00, 0x01],
-        0x80,
-    ),
-    (
-        22,
-        0xb0,
-        0x00,
-        true,
-        0,
-        0,
-        &[0x1f, 0x00],
-        [0x3f, 0x00, 0x01],
-        0x80,
-    ),
-    (
-        22,
-        0xb8,
-        0x00,
-        true,
-        0,
-        0,
-        &[0x3f, 0x00],
-        [0x3f, 0x00, 0x01],
-        0xc0,
-    ),
-    (
-        22,
-        0xb8,
-        0x00,
-        true,
-        2500,
-        2501,
-        &[0x1f, 0x00],
-        [0x1f, 0x00, 0x02],
-        0x00,
-    ),
-    (
-        22,
-        0xb8,
-        0x01,
-        true,
-        0,
-        0,
-        &[0x1f, 0x01],
-        [0x3f, 0x00, 0x01],
-        0x80,
-    ),
-    (
-        25,
-        0xb8,
-        0x01,
-        true,
-        0,
-        0,
-        &[0x1f, 0x01],
-        [0x1f, 0x01, 0x02],
-        0x00,
-    ),
-    (
-        22,
-        0xb8,
-        0x09,
-        true,
-        0,
-        0,
-        &[0x1f, 0x01],
-        [0x3f, 0x00, 0x01],
-        0x80,
-    ),
-    (
-        22,
-        0xb8,
-        0x00,
-        true,
-        2500,
-        2501,
-        &[0x1f, 0x01],
-        [0x3f, 0x00, 0x01],
-        0x80,
-    ),
-    (
-        22,
-        0xb8,
-        0x01,
-        true,
-        0,
-        0,
-        &[0x1f, 0x02],
-        [0x3f, 0x00, 0x01],
-        0x80,
-    ),
-    (
-        25,
-        0xb8,
-        0x01,
-        true,
-        0,
-        0,
-        &[0x1f, 0x02],
-        [0x3f, 0x00, 0x01],
-        0x80,
-    ),
-    (
-        22,
-        0xb8,
-        0x09,
-        true,
-        0,
-        0,
-        &[0x1f, 0x02],
-        [0x3f, 0x00, 0x01],
-        0x80,
-    ),
-    (
-        22,
-        0xb8,
-        0x00,
-        true,
-        2500,
-        2501,
-        &[0x1f, 0x02],
-        [0x1f, 0x02, 0x02],
-        0x00,
-    ),
-    (
-        22,
-        0xb8,
-        0x00,
-        true,
-        2500,
-        2501,
-        &[0x1f, 0x03],
-        [0x1f, 0x03, 0x02],
-        0x00,
-    ),
-    (
-        22,
-        0xb8,
-        0x01,
-        true,
-        0,
-        0,
-        &[0x1f, 0x04],
-        [0x1f, 0x04, 0x02],
-        0x00,
-    ),
-    (
-        25,
-        0xb8,
-        0x01,
-        true,
-        0,
-        0,
-        &[0x1f, 0x04],
-        [0x3f, 0x00, 0x01],
-        0x80,
-    ),
-    (
-        22,
-        0xb8,
-        0x09,
-        true,
-        0,
-        0,
-        &[0x1f, 0x04],
-        [0x3f, 0x00, 0x01],
-        0x80,
-    ),
-    (
-        22,
-        0xb8,
-        0x00,
-        true,
-        2500,
-        2501,
-        &[0x1f, 0x04],
-        [0x3f, 0x00, 0x01],
-        0x80,
-    ),
-    (
-        22,
-        0xb8,
-        0x01,
-        true,
-        0,
-        0,
-        &[0x1f, 0x05],
-        [0x3f, 0x00, 0x01],
-        0x80,
-    ),
-    (
-        25,
-        0xb8,
-        0x01,
-        true,
-        0,
-        0,
-        &[0x1f, 0x05],
-        [0x3f, 0x00, 0x01],
-        0x80,
-    ),
-    (
-        22,
-        0xb8,
-        0x09,
-        true,
-        0,
-        0,
-        &[0x1f, 0x05],
-        [0x1f, 0x05, 0x02],
-        0x00,
-    ),
-    (
-        22,
-        0xb8,
-        0x00,
-        true,
-        2500,
-        2501,
-        &[0x1f, 0x05],
-        [0x3f, 0x00, 0x01],
-        0x80,
-    ),
-    (
-        22,
-        0xb8,
-        0x00,
-        true,
-        2500,
-        2501,
-        &[0x1f, 0x06],
-        [0x3f, 0x00, 0x01],
-        0x80,
-    ),
-    (
-        22,
-        0xb8,
-        0x00,
-        true,
-        2500,
-        2501,
-        &[0x1f, 0x07],
-        [0x3f, 0x00, 0x01],
-        0x80,
-    ),
-    (
-        22,
-        0xb8,
-        0x00,
-        true,
-        2500,
-        2501,
-        &[0x1f, 0x08],
-        [0x1f, 0x08, 0x02],
-        0x00,
-    ),
-    (
-        22,
-        0xb8,
-        0x00,
-        true,
-        2500,
-        2501,
-        &[0x1f, 0x09],
-        [0x3f, 0x00, 0x01],
-        0x80,
-    ),
-    (
-        22,
-        0xb8,
-        0x00,
-        true,
-        2500,
-        2501,
-        &[0x1f, 0x0a],
-        [0x3f, 0x00, 0x01],
-        0x80,
-    ),
-    (
-        22,
-        0xb8,
-        0x00,
-        true,
-        0,
-        0,
-        &[0x44, 0x00, 0x1f, 0x00],
-        [0x1f, 0x00, 0x02],
-        0x10,
-    ),
-    (
-        22,
-        0xb8,
-        0x00,
-        true,
-        0,
-        0,
-        &[0x40, 0x00],
-        [0x40, 0x00, 0x01],
-        0x80,
-    ),
-    (
-        22,
-        0xb8,
-        0x00,
-        true,
-        0,
-        0,
-        &[0x00, 0x00],
-        [0x00, 0x00, 0x01],
-        0x80,
-    ),
-    (
-        22,
-        0xb8,
-        0x00,
-        true,
-        0,
-        0,
-        &[0x1f, 0x00],
-        [0x1f, 0x00, 0x02],
-        0x00,
-    ),
-    (
-        22,
-        0x08,
-        0x00,
-        true,
-        0,
-        0,
-        &[0x41, 0x03, 0x1f, 0x03],
-        [0x1f, 0x03, 0x02],
-        0x00,
-    ),
-    (
-        22,
-        0x88,
-        0x00,
-        true,
-        0,
-        0,
-        &[0x42, 0x00, 0x1f, 0x00],
-        [0x1f, 0x00, 0x02],
-        0x10,
-    ),
-    (
-        22,
-        0xb8,
-        0x00,
-        true,
-        0,
-        0,
-        &[0x02, 0x00],
-        [0x3f, 0x00, 0x01],
-        0x90,
-    ),
-    (
-        22,
-        0x38,
-        0x00,
-        true,
-        0,
-        0,
-        &[0x41, 0x00, 0x1f, 0x00],
-        [0x1f, 0x00, 0x02],
-        0x10,
-    ),
-    (
-        22,
-        0xb8,
-        0x00,
-        true,
-        0,
-        0,
-        &[0x1e, 0x00],
-        [0x1e, 0x00, 0x00],
-        0x00,
-    ),
-    (
-        22,
-        0x90,
-        0x00,
-        true,
-        0,
-        0,
-        &[0x5e, 0x00, 0x1f, 0x00],
-        [0x3f, 0x00, 0x01],
-        0x80,
-    ),
-    (
-        22,
-        0xb8,
-        0x00,
-        true,
-        0,
-        0,
-        &[0x60, 0x00, 0x1f, 0x00],
-        [0x1f, 0x00, 0x02],
-        0x40,
-    ),
-    (
-        22,
-        0xb8,
-        0x00,
-        true,
-        0,
-        0,
-        &[0x20, 0x00, 0x1f, 0x00],
-        [0x3f, 0x00, 0x01],
-        0xc0,
-    ),
-    (
-        22,
-        0xb8,
-        0x00,
-        true,
-        2500,
-        0,
-        &[0x1f, 0x06],
-        [0x3f, 0x00, 0x01],
-        0x80,
-    ),
-    (
-        22,
-        0xb8,
-        0x00,
-        true,
-        2501,
-        0,
-        &[0x1f, 0x06],
-        [0x1f, 0x06, 0x02],
-        0x00,
-    ),
-    (
-        22,
-        0xb8,
-        0x00,
-        true,
-        2499,
-        0,
-        &[0x1f, 0x07],
-        [0x1f, 0x07, 0x02],
-        0x00,
-    ),
-    (
-        22,
-        0xb8,
-        0x00,
-        true,
-        2500,
-        0,
-        &[0x1f, 0x07],
-        [0x3f, 0x00, 0x01],
-        0x80,
-    ),
-    (
-        22,
-        0xb8,
-        0x00,
-        true,
-        0,
-        2501,
-        &[0x1f, 0x08],
-        [0x1f, 0x08, 0x02],
-        0x00,
-    ),
-    (
-        22,
-        0xb8,
-        0x00,
-        true,
-        0,
-        2499,
-        &[0x1f, 0x09],
-        [0x1f, 0x09, 0x02],
-        0x00,
-    ),
+const RULES: [RuleRow; 44] = [
+    (22, 0xb8, 0, 0, 0, b"\x05\x00", 0x3f000190),
+    (22, 0xb0, 0, 0, 0, b"\x1f\x00", 0x3f000180),
+    (22, 0xb8, 0, 0, 0, b"\x3f\x00", 0x3f0001c0),
+    (22, 0xb8, 0, 2500, 2501, b"\x1f\x00", 0x1f000200),
+    (22, 0xb8, 1, 0, 0, b"\x1f\x01", 0x3f000180),
+    (25, 0xb8, 1, 0, 0, b"\x1f\x01", 0x1f010200),
+    (22, 0xb8, 9, 0, 0, b"\x1f\x01", 0x3f000180),
+    (22, 0xb8, 0, 2500, 2501, b"\x1f\x01", 0x3f000180),
+    (22, 0xb8, 1, 0, 0, b"\x1f\x02", 0x3f000180),
+    (25, 0xb8, 1, 0, 0, b"\x1f\x02", 0x3f000180),
+    (22, 0xb8, 9, 0, 0, b"\x1f\x02", 0x3f000180),
+    (22, 0xb8, 0, 2500, 2501, b"\x1f\x02", 0x1f020200),
+    (22, 0xb8, 0, 2500, 2501, b"\x1f\x03", 0x1f030200),
+    (22, 0xb8, 1, 0, 0, b"\x1f\x04", 0x1f040200),
+    (25, 0xb8, 1, 0, 0, b"\x1f\x04", 0x3f000180),
+    (22, 0xb8, 9, 0, 0, b"\x1f\x04", 0x3f000180),
+    (22, 0xb8, 0, 2500, 2501, b"\x1f\x04", 0x3f000180),
+    (22, 0xb8, 1, 0, 0, b"\x1f\x05", 0x3f000180),
+    (25, 0xb8, 1, 0, 0, b"\x1f\x05", 0x3f000180),
+    (22, 0xb8, 9, 0, 0, b"\x1f\x05", 0x1f050200),
+    (22, 0xb8, 0, 2500, 2501, b"\x1f\x05", 0x3f000180),
+    (22, 0xb8, 0, 2500, 2501, b"\x1f\x06", 0x3f000180),
+    (22, 0xb8, 0, 2500, 2501, b"\x1f\x07", 0x3f000180),
+    (22, 0xb8, 0, 2500, 2501, b"\x1f\x08", 0x1f080200),
+    (22, 0xb8, 0, 2500, 2501, b"\x1f\x09", 0x3f000180),
+    (22, 0xb8, 0, 2500, 2501, b"\x1f\x0a", 0x3f000180),
+    (22, 0xb8, 0, 0, 0, b"\x44\x00\x1f\x00", 0x1f000210),
+    (22, 0xb8, 0, 0, 0, b"\x40\x00", 0x40000180),
+    (22, 0xb8, 0, 0, 0, b"\x00\x00", 0x00000180),
+    (22, 0xb8, 0, 0, 0, b"\x1f\x00", 0x1f000200),
+    (22, 0x08, 0, 0, 0, b"\x41\x03\x1f\x03", 0x1f030200),
+    (22, 0x88, 0, 0, 0, b"\x42\x00\x1f\x00", 0x1f000210),
+    (22, 0xb8, 0, 0, 0, b"\x02\x00", 0x3f000190),
+    (22, 0x38, 0, 0, 0, b"\x41\x00\x1f\x00", 0x1f000210),
+    (22, 0xb8, 0, 0, 0, b"\x1e\x00", 0x1e000000),
+    (22, 0x90, 0, 0, 0, b"\x5e\x00\x1f\x00", 0x3f000180),
+    (22, 0xb8, 0, 0, 0, b"\x60\x00\x1f\x00", 0x1f000240),
+    (22, 0xb8, 0, 0, 0, b"\x20\x00\x1f\x00", 0x3f0001c0),
+    (22, 0xb8, 0, 2500, 0, b"\x1f\x06", 0x3f000180),
+    (22, 0xb8, 0, 2501, 0, b"\x1f\x06", 0x1f060200),
+    (22, 0xb8, 0, 2499, 0, b"\x1f\x07", 0x1f070200),
+    (22, 0xb8, 0, 2500, 0, b"\x1f\x07", 0x3f000180),
+    (22, 0xb8, 0, 0, 2501, b"\x1f\x08", 0x1f080200),
+    (22, 0xb8, 0, 0, 2499, b"\x1f\x09", 0x1f090200),
 ];
 
 /// No PIN is entered.
 #[test]
 fn rules_are_tried_in_order(rt: HostRuntime) -> Result<(), Fail> {
-    for (kind, caps, trade, in_dollars, x, y, rules, results, byte) in RULES {
-        let currency = if in_dollars {
-            [0x08, 0x40]
-        } else {
-            [0x09, 0x78]
-        };
-        let purchase = purchase(&rt, trade, currency, &[])?;
+    for (kind, caps, trade, x, y, rules, wanted) in RULES {
+        let purchase = purchase(&rt, trade, [0x08, 0x40], &[])?;
         let card = ruled_card(&rt, x, y, rules);
         match Verifying::begin(&card, &settings(&rt, kind, caps), &purchase) {
             VerifyNext::Done(verified) => {
-                assert_eq!(rt;
-                    verified.results,
-                    results,
-                    "{kind} {caps} {trade} {rules:?}"
-                );
-                assert_eq!(rt;
-                    verified.tvr.bytes(),
-                    [0, 0, byte, 0, 0],
-                    "{kind} {caps} {trade} {rules:?}"
-                );
+                assert_eq!(rt; found(&verified), wanted, "{kind} {caps} {trade} {rules:?}");
                 assert!(rt; verified.performed);
             }
             _ => assert!(rt; false, "{kind} {caps} {trade} {rules:?}"),
@@ -620,100 +155,57 @@ fn rules_are_tried_in_order(rt: HostRuntime) -> Result<(), Fail> {
     Ok(())
 }
 
-/// Rules, PIN entries, the answers to VERIFY, the results and the third byte of the verification
-/// results, as other implementations give them.
+/// The results, and the third byte of the verification results behind them.
+fn found(verified: &Verified) -> u32 {
+    let [first, second, third] = verified.results;
+    let [_, _, byte, _, _] = verified.tvr.bytes();
+    u32::from_be_bytes([first, second, third, byte])
+}
+
+/// Rules, PIN entries, the status words of VERIFY, and the results with the third byte of the
+/// verification results behind them.
+type EntryRow = (&'static [u8], &'static [[u8; 4]], &'static [u16], u32);
+
+const ONE: &[[u8; 4]] = &[[1, 2, 3, 4]];
+
+const TWO: &[[u8; 4]] = &[[1, 1, 1, 1], [1, 2, 3, 4]];
+
+const THREE: &[[u8; 4]] = &[[1, 1, 1, 1], [2, 2, 2, 2], [1, 2, 3, 4]];
+
+/// As other implementations give them.
+const ENTRIES: [EntryRow; 10] = [
+    (b"\x03\x00", ONE, &[0x9000], 0x03000000),
+    (b"\x41\x00\x1f\x00", ONE, &[0x63c0], 0x1f000220),
+    (b"\x41\x00\x1e\x00", ONE, &[0x6983], 0x1e000020),
+    (b"\x01\x00", ONE, &[0x6984], 0x010001a0),
+    (b"\x41\x00\x1f\x00", ONE, &[0x6a88], 0x1f000200),
+    (b"\x41\x00\x1f\x00", ONE, &[0x63c5], 0x1f000208),
+    (b"\x01\x00", ONE, &[0x9000], 0x01000200),
+    (b"\x01\x00", TWO, &[0x63c2, 0x9000], 0x01000200),
+    (b"\x01\x00", THREE, &[0x63c2, 0x63c1, 0x9000], 0x01000200),
+    (
+        b"\x41\x00\x43\x00",
+        THREE,
+        &[0x63c0, 0x63c1, 0x9000],
+        0x43000020,
+    ),
+];
+
 #[test]
 fn entries_are_verified_by_the_card(rt: HostRuntime) -> Result<(), Fail> {
-    let rows: [(&[u8], &[[u8; 4]], &[[u8; 2]], [u8; 3], u8); 10] = [
-        (
-            &[0x03, 0x00],
-            &[[1, 2, 3, 4]],
-            &[[0x90, 0x00]],
-            [0x03, 0x00, 0x00],
-            0x00,
-        ),
-        (
-            &[0x41, 0x00, 0x1f, 0x00],
-            &[[1, 2, 3, 4]],
-            &[[0x63, 0xc0]],
-            [0x1f, 0x00, 0x02],
-            0x20,
-        ),
-        (
-            &[0x41, 0x00, 0x1e, 0x00],
-            &[[1, 2, 3, 4]],
-            &[[0x69, 0x83]],
-            [0x1e, 0x00, 0x00],
-            0x20,
-        ),
-        (
-            &[0x01, 0x00],
-            &[[1, 2, 3, 4]],
-            &[[0x69, 0x84]],
-            [0x01, 0x00, 0x01],
-            0xa0,
-        ),
-        (
-            &[0x41, 0x00, 0x1f, 0x00],
-            &[[1, 2, 3, 4]],
-            &[[0x6a, 0x88]],
-            [0x1f, 0x00, 0x02],
-            0x00,
-        ),
-        (
-            &[0x41, 0x00, 0x1f, 0x00],
-            &[[1, 1, 1, 1]],
-            &[[0x63, 0xc5]],
-            [0x1f, 0x00, 0x02],
-            0x08,
-        ),
-        (
-            &[0x01, 0x00],
-            &[[1, 2, 3, 4]],
-            &[[0x90, 0x00]],
-            [0x01, 0x00, 0x02],
-            0x00,
-        ),
-        (
-            &[0x01, 0x00],
-            &[[1, 1, 1, 1], [1, 2, 3, 4]],
-            &[[0x63, 0xc2], [0x90, 0x00]],
-            [0x01, 0x00, 0x02],
-            0x00,
-        ),
-        (
-            &[0x01, 0x00],
-            &[[1, 1, 1, 1], [2, 2, 2, 2], [1, 2, 3, 4]],
-            &[[0x63, 0xc2], [0x63, 0xc1], [0x90, 0x00]],
-            [0x01, 0x00, 0x02],
-            0x00,
-        ),
-        (
-            &[0x41, 0x00, 0x43, 0x00, 0x02, 0x00],
-            &[[1, 1, 1, 1], [2, 2, 2, 2], [3, 3, 3, 3]],
-            &[[0x63, 0xc0], [0x63, 0xc1], [0x90, 0x00]],
-            [0x43, 0x00, 0x00],
-            0x20,
-        ),
-    ];
     let settings = settings(&rt, 22, 0xb8);
-    for (rules, entries, replies, results, byte) in rows {
+    for (rules, entries, statuses, wanted) in ENTRIES {
         let purchase = purchase(&rt, 0x00, [0x08, 0x40], entries)?;
         let card = ruled_card(&rt, 0, 0, rules);
         let mut next = Verifying::begin(&card, &settings, &purchase);
-        for (entry, reply) in entries.iter().zip(replies) {
-            next = answered(&rt, next, *entry, reply);
+        for (entry, status) in entries.iter().zip(statuses) {
+            next = answered(&rt, next, *entry, &status.to_be_bytes());
         }
         match next {
             VerifyNext::Done(verified) => {
-                assert_eq!(rt; verified.results, results, "{rules:?} {replies:?}");
-                assert_eq!(rt;
-                    verified.tvr.bytes(),
-                    [0, 0, byte, 0, 0],
-                    "{rules:?} {replies:?}"
-                );
+                assert_eq!(rt; found(&verified), wanted, "{rules:?} {statuses:?}")
             }
-            _ => assert!(rt; false, "{rules:?} {replies:?}"),
+            _ => assert!(rt; false, "{rules:?} {statuses:?}"),
         }
     }
     Ok(())
@@ -754,6 +246,7 @@ fn answered<'s>(
 
 #[test]
 fn verification_is_passed_over_or_goes_online(rt: HostRuntime) -> Result<(), Fail> {
+    let abroad = purchase(&rt, 0x00, [0x09, 0x78], &[])?;
     let purchase = purchase(&rt, 0x00, [0x08, 0x40], &[[1, 2, 3, 4]])?;
     let online = settings(&rt, 22, 0xf8);
     match Verifying::begin(&ruled_card(&rt, 0, 0, &[0x02, 0x00]), &online, &purchase) {
@@ -762,6 +255,10 @@ fn verification_is_passed_over_or_goes_online(rt: HostRuntime) -> Result<(), Fai
             assert_eq!(rt; verified.tvr.bytes(), [0, 0, 0x04, 0, 0]);
             assert_eq!(rt; verified.online_pin, Digits::new(&[1, 2, 3, 4]));
         }
+        _ => assert!(rt; false),
+    }
+    match Verifying::begin(&ruled_card(&rt, 2501, 0, &[0x1f, 0x06]), &online, &abroad) {
+        VerifyNext::Done(verified) => assert_eq!(rt; found(&verified), 0x3f000180),
         _ => assert!(rt; false),
     }
     match Verifying::begin(&ruled_card(&rt, 0, 0, &[]), &online, &purchase) {
