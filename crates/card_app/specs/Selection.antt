@@ -1,0 +1,34 @@
+-- Which application SELECT finds (EMV 4.3 Book 1 section 11.3).
+use Rattle.std.specs.Prelude.{ℕ, ◌+◌, ◌==◌, nat_eq, if◌then◌else◌, List, [], ◌∷◌, drop, Option, Some, None}
+use Rattle.std.specs.List.{starts_with}
+use Rattle.card_files.specs.Views.{AppData}
+use Rattle.card_app.specs.declared.phase.Phase.{Phase}
+use Rattle.card_app.specs.declared.phase.Phase.TheVariants.{Idle, Selected, Started, Online, Closed, Done}
+
+-- the application that is selected
+abbrev pub current : Phase → Option ℕ
+current Idle = None
+current (Selected app) = Some app
+current (Started app) = Some app
+current (Online app first sent) = Some app
+current (Closed app) = Some app
+current (Done app first) = Some app
+
+-- the first application whose name begins with these bytes, where the first one has this number
+unfoldable pub first_named : ℕ → List ℕ → List AppData → Option ℕ
+first_named number name [] = None
+first_named number name (app ∷ apps) =
+    if starts_with nat_eq app.name name then Some number else first_named (number + 1) name apps
+
+-- the number behind the selected application
+abbrev pub behind : Option ℕ → ℕ
+behind None = 0
+behind (Some app) = app + 1
+
+-- where SELECT begins to look: the next occurrence (P2 02) is behind the selected application
+abbrev pub looks_from : Phase → ℕ → ℕ
+looks_from phase p2 = if p2 == 2 then behind (current phase) else 0
+
+-- the application that SELECT with these data finds
+abbrev pub found : List AppData → Phase → ℕ → List ℕ → Option ℕ
+found image phase p2 name = first_named (looks_from phase p2) name (drop (looks_from phase p2) image)
