@@ -1,0 +1,6 @@
+mod Allowing
+mod Comparing
+mod Continuing
+mod PowerUps
+mod Stands
+mod Steps

@@ -36,7 +36,13 @@ reply_data body (Compares k) = comparison_reply k
 abbrev pub Leads : List AppData → Phase → Option CommandData → List ℕ → Reply → Type 0
 Leads image phase c body (Plain status next) = next ≡ after_said image phase c (Some (record { body = body; status = status }))
 Leads image phase c body (Decides app decision status next) = next ≡ after_said image phase c (Some (record { body = body; status = status }))
-Leads image phase c body (Compares k) = (status : ℕ) → phase ≡ after_said image phase c (Some (record { body = body; status = status }))
+Leads image phase c body (Compares k) = (given : List ℕ) (status : ℕ) → phase ≡ after_said image phase c (Some (record { body = given; status = status }))
+
+-- the phase behind a reply
+abbrev pub phase_behind : Phase → Reply → Phase
+phase_behind phase (Plain status next) = next
+phase_behind phase (Decides app decision status next) = next
+phase_behind phase (Compares k) = phase
 
 -- an application's state allows the decision
 abbrev pub MayTake : CardState → ℕ → Decision → Type 0

@@ -9,10 +9,10 @@ ghost use Rattle.emv_ports.specs.Memory.{powered_off};
 ghost use Rattle.emv_ports.specs.declared.tear.Tear.{Tear};
 ghost use Rattle.torn_store.specs.Store.{IsGone};
 ghost use Rattle.apdu_core.specs.Response.{response_bytes, response_of};
-ghost use Rattle.card_app.specs.Answering.{card_answer, said};
+ghost use Rattle.card_app.specs.Answering.{card_answer, said, response_in};
 ghost use Rattle.card_app.specs.Pages.{StandsFor, MayStand, found_of};
 ghost use Rattle.card_app.specs.SeenCard.{CardOn, Answered, CutOff, Takes, IsCut};
-ghost use Rattle.card_app.specs.SeenReply.{MayCompare, comparison_reply};
+ghost use Rattle.card_app.specs.SeenReply.{MayReply, MayCompare, IsAt, reply_data, comparison_reply, is_equal, phase_behind};
 ghost use Rattle.card_app.specs.Session.{Exchange};
 
 use crate::answering::answer;
@@ -125,30 +125,9 @@ impl<'i, P: Pages> Card<'i, P> {
         let mut body = Body::new();
         let reply = answer(self.image, self.kept.state(), self.phase, command, &mut body);
         let Card { image, kept, phase } = self;
-        match reply {
-            Reply::Plain { status, phase } => {
-                respond(&body, status, out);
-                Ok(Card { image, kept, phase })
-            }
-            Reply::Decides {
-                app,
-                decision,
-                status,
-                phase,
-            } => match kept.decide(app, &decision) {
-                Ok(kept) => {
-                    respond(&body, status, out);
-                    Ok(Card { image, kept, phase })
-                }
-                Err(lost) => {
-                    out.clear();
-                    Err(lost)
-                }
-            },
-            Reply::Compares(with) => match compare(kept, &with, out) {
-                Ok(kept) => Ok(Card { image, kept, phase }),
-                Err(lost) => Err(lost),
-            },
+        match carry_out(kept, phase, reply, &body, out) {
+            Ok((kept, phase)) => Ok(Card { image, kept, phase }),
+            Err(lost) => Err(lost),
         }
     }
 
@@ -172,6 +151,57 @@ impl<'i, P: Pages> Card<'i, P> {
     }
 }
 
+/// Carries out a reply with this body: the decisions first, and then the answer. Gives the phase behind
+/// it.
+fn carry_out<P: Pages>(
+    kept: Kept<P>,
+    phase: Phase,
+    reply: Reply,
+    body: &Body,
+    out: &mut Answer,
+) -> Result<(Kept<P>, Phase), Lost<P>>
+    requires may { MayReply kept.state reply }
+    requires at { IsAt phase (length kept.state.apps.items) }
+
+    ensures takes { IfOk result (λ done. Takes kept done.0 (reply_data body.now.items reply).new) }
+    ensures phase { IfOk result (λ done. done.1 ≡ phase_behind phase reply) }
+    ensures at { IfOk result (λ done. IsAt done.1 (length kept.state.apps.items)) }
+    ensures losses { IfOk result (λ done. done.0.memory.losses ≡ kept.memory.losses) }
+    ensures apps { IfOk result (λ done. length done.0.state.apps.items ≡ length kept.state.apps.items) }
+    ensures answer { OnOk result (out.new.items ≡ (said (reply_data body.now.items reply)).answer) }
+    ensures read_again { OnOk result (response_of out.new.items ≡ Some (response_in (reply_data body.now.items reply))) }
+
+    ensures cut { IfErr result (λ lost. IsCut kept (P.memory lost.pages) (reply_data body.now.items reply).new) }
+    ensures gone { IfErr result (λ lost. IsGone kept.memory (P.memory lost.pages)) }
+    ensures silent { OnErr result (out.new.items ≡ []) }
+{
+    match reply {
+        Reply::Plain { status, phase } => {
+            respond(body, status, out);
+            Ok((kept, phase))
+        }
+        Reply::Decides {
+            app,
+            decision,
+            status,
+            phase,
+        } => match kept.decide(app, &decision) {
+            Ok(kept) => {
+                respond(body, status, out);
+                Ok((kept, phase))
+            }
+            Err(lost) => {
+                out.clear();
+                Err(lost)
+            }
+        },
+        Reply::Compares(with) => match compare(kept, &with, out) {
+            Ok(kept) => Ok((kept, phase)),
+            Err(lost) => Err(lost),
+        },
+    }
+}
+
 /// Writes the answer of this body and status.
 fn respond(body: &Body, status: u16, out: &mut Answer)
     ensures written { out.new.items ≡ response_bytes body.now.items status }
@@ -191,7 +221,7 @@ fn compare<P: Pages>(kept: Kept<P>, with: &Comparison, out: &mut Answer) -> Resu
     ensures losses { IfOk result (λ next. next.memory.losses ≡ kept.memory.losses) }
     ensures apps { IfOk result (λ next. length next.state.apps.items ≡ length kept.state.apps.items) }
     ensures said { OnOk result (out.new.items ≡ (said (comparison_reply with.now)).answer) }
-    ensures read_again { OnOk result (response_of out.new.items ≡ Some (record { body = []; status = (comparison_reply with.now).status })) }
+    ensures read_again { OnOk result (response_of out.new.items ≡ Some (response_in (comparison_reply with.now))) }
     ensures cut { IfErr result (λ lost. IsCut kept (P.memory lost.pages) (comparison_reply with.now).new) }
     ensures gone { IfErr result (λ lost. IsGone kept.memory (P.memory lost.pages)) }
     ensures silent { OnErr result (out.new.items ≡ []) }
@@ -202,7 +232,7 @@ fn compare<P: Pages>(kept: Kept<P>, with: &Comparison, out: &mut Answer) -> Resu
         Err(lost) => return Err(lost),
     };
     let body = Body::new();
-    if with.block != with.pin {
+    if !is_right(with) {
         respond(&body, tries_left(with.tries), out);
         return Ok(kept);
     }
@@ -214,6 +244,13 @@ fn compare<P: Pages>(kept: Kept<P>, with: &Comparison, out: &mut Answer) -> Resu
         }
         Err(lost) => Err(lost),
     }
+}
+
+/// Whether the block that came is the PIN's.
+fn is_right(with: &Comparison) -> bool
+    ensures { result ≡ is_equal with.now }
+{
+    with.block == with.pin
 }
 
 /// The status of a wrong PIN, which gives the tries that are left: one fewer than before.

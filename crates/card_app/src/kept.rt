@@ -89,6 +89,7 @@ impl<P: Pages> Kept<P> {
     }
 
     /// Takes one decision of an application: a commit, and its release.
+    #[tactic(auto, unfolding(crate::specs::Cuts::cut_of))]
     pub(crate) fn decide(self, app: u8, decision: &Decision) -> Result<Kept<P>, Lost<P>>
         requires in_range { app < length self.state.apps.items }
         requires allowed { MayTake self.state app decision.now }
