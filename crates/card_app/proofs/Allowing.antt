@@ -56,4 +56,4 @@ module _ (opening : CardState) (ds : List Decided) (allowed : Allowed opening ds
 pub count_is : (image : List AppData) (ds : List Decided) (state : CardState) → state ≡ totals (opening_of image) ds → length state.apps.items ≡ length image
 unfolding totals
 count_is image ds state is =
-    ap (λ (s : CardState). length s.apps.items) is ∙ counted 0 (opening_of image).apps.items ds ∙ length-map (λ a. a.opening) image
+    ap (λ (s : CardState). length s.apps.items) is ∙ counted 0 (opening_of image).apps.items ds ∙ length-map image (λ (a : AppData). a.opening)
