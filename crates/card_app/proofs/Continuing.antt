@@ -11,9 +11,10 @@ use Rattle.card_state.specs.declared.state.CardState.{CardState}
 use Rattle.emv_ports.specs.Memory.{Memory}
 use Rattle.emv_ports.specs.declared.tear.Tear.{Tear}
 use Rattle.card_app.specs.Answering.{reply_in, card_reply, card_answer, said, response_in}
-use Rattle.card_app.specs.Cuts.{Cut, cut_of}
+use Rattle.card_pages.specs.Cuts.{Cut, cut_of}
 use Rattle.card_app.specs.Replies.{ReplyData}
-use Rattle.card_app.specs.SeenCard.{KeptState, CardSeen, KeptOn, CardOn, Answered, CutOff, Took, Takes, CutAt, IsCut}
+use Rattle.card_pages.specs.SeenKept.{KeptState, KeptOn, Took, Takes, CutAt, IsCut}
+use Rattle.card_app.specs.SeenCard.{CardSeen, CardOn, Answered, CutOff}
 use Rattle.card_app.specs.SeenReply.{reply_data, Leads, phase_behind}
 use Rattle.card_app.specs.Session.{Exchange, after, after_said, phase_of}
 use Rattle.card_app.specs.declared.phase.Phase.{Phase}

@@ -1,6 +1,3 @@
 mod Allowing
 mod Comparing
 mod Continuing
-mod PowerUps
-mod Stands
-mod Steps

@@ -1,11 +1,9 @@
 pub mod Answering
-pub mod Cuts
 pub mod Cryptograms
 pub mod Files
 pub mod Options
 pub mod Orders
 pub mod OwnLists
-pub mod Pages
 pub mod Pin
 pub mod Replies
 pub mod SeenCard

@@ -1,10 +1,9 @@
 -- What a contract sees of a reply that is not carried out yet.
 use Rattle.std.specs.Prelude.{◌≡◌, ℕ, ◌<◌, List, [], ◌∷◌, length, slice_get, Bool, Option, Some, None, IfSome, ⊤}
-use Rattle.std.specs.Option.{ForSome}
 use Rattle.std.specs.Str.{bytes_eq}
 use Rattle.apdu_core.specs.Command.{CommandData}
 use Rattle.card_files.specs.Views.{AppData}
-use Rattle.card_state.specs.Change.{MayDecide}
+use Rattle.card_pages.specs.SeenKept.{MayTake}
 use Rattle.card_state.specs.Decisions.{Decided}
 use Rattle.card_state.specs.declared.decision.Decision.{Decision}
 use Rattle.card_state.specs.declared.decision.Decision.TheVariants.{PinTry}
@@ -43,10 +42,6 @@ abbrev pub phase_behind : Phase → Reply → Phase
 phase_behind phase (Plain status next) = next
 phase_behind phase (Decides app decision status next) = next
 phase_behind phase (Compares k) = phase
-
--- an application's state allows the decision
-abbrev pub MayTake : CardState → ℕ → Decision → Type 0
-MayTake state app decision = ForSome (slice_get state.apps.items app) (λ s. MayDecide s decision)
 
 -- the phase names an application that is there
 abbrev pub IsAt : Phase → ℕ → Type 0

@@ -10,19 +10,20 @@ ghost use Rattle.emv_ports.specs.declared.tear.Tear.{Tear};
 ghost use Rattle.torn_store.specs.Store.{IsGone};
 ghost use Rattle.apdu_core.specs.Response.{response_bytes, response_of};
 ghost use Rattle.card_app.specs.Answering.{card_answer, said, response_in};
-ghost use Rattle.card_app.specs.Pages.{StandsFor, MayStand, found_of};
-ghost use Rattle.card_app.specs.SeenCard.{CardOn, Answered, CutOff, Takes, IsCut};
+ghost use Rattle.card_pages.specs.Pages.{StandsFor, MayStand, found_of};
+ghost use Rattle.card_pages.specs.SeenKept.{Takes, IsCut};
+ghost use Rattle.card_app.specs.SeenCard.{CardOn, Answered, CutOff};
 ghost use Rattle.card_app.specs.SeenReply.{MayReply, MayCompare, IsAt, reply_data, comparison_reply, is_equal, phase_behind};
 ghost use Rattle.card_app.specs.Session.{Exchange};
 
 use crate::answering::answer;
-use crate::kept::{Kept, format};
 use crate::phase::Phase;
 use crate::reply::{Comparison, Reply};
 use apdu_core::status::NO_ERROR;
 use apdu_core::{Answer, Response, write_response};
 use card_cryptogram::Body;
 use card_files::Image;
+use card_pages::{Kept, format};
 use card_state::{CardState, Decision};
 use emv_ports::Pages;
 use std::marker::Model;
@@ -38,7 +39,9 @@ pub fn personalise<P: Pages>(image: &Image, pages: P) -> P
     ensures plan { (P.memory result).plan ≡ None }
     ensures losses { (P.memory result).losses ≡ (P.memory pages).losses }
 {
-    format(image, pages)
+    let mut opening = CardState::default();
+    image.opening(&mut opening);
+    format(&opening, pages)
 }
 
 /// A card that is on: the image of its applications, its pages with their state, and how far it has
@@ -52,7 +55,7 @@ pub struct Card<'i, P: Pages> {
 
 impl<'i, P: Pages> Model for Card<'i, P> {
     ghost use Rattle.std.specs.Prelude.{◌≡◌, length};
-    ghost use Rattle.card_app.specs.SeenCard.{CardSeen};
+    ghost use Rattle.card_app.specs.SeenCard.{CardSeen}
     ghost use Rattle.card_app.specs.SeenReply.{IsAt};
 
     ghost Value = { CardSeen };

@@ -10,7 +10,6 @@ mod authenticate;
 mod card;
 mod files;
 mod generate;
-mod kept;
 mod options;
 mod orders;
 mod phase;

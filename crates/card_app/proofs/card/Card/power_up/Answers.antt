@@ -1,7 +1,7 @@
 -- The card is at the start of a session, with the state that was found.
 use Rattle.std.proofs.Common.{◌≡◌, [], refl}
 use Rattle.card_files.specs.Files.{opening_of}
-use Rattle.card_app.specs.Pages.{found_of}
+use Rattle.card_pages.specs.Pages.{found_of}
 use Rattle.card_app.specs.Session.{phase_of}
 use Rattle.card_app.proofs.Allowing.{count_is}
 use Rattle.card_app.proofs.card.Card.power_up.Goals as goal

@@ -8,9 +8,9 @@ use Rattle.emv_ports.specs.Causes.{one_more}
 use Rattle.emv_ports.specs.Cut.{is_named}
 use Rattle.emv_ports.specs.Memory.{Memory}
 use Rattle.emv_ports.specs.declared.tear.Tear.{Tear}
-use Rattle.card_app.specs.Cuts.{Cut, Left, Dropped, Joined, Pending, commit_of, cut_of, behind_one, left_of, kept_by, pending_by}
-use Rattle.card_app.specs.Pages.{MayStand}
-use Rattle.card_app.specs.SeenCard.{KeptState, KeptOn, KeptLost, Took, CutAt}
+use Rattle.card_pages.specs.Cuts.{Cut, Left, Dropped, Joined, Pending, commit_of, cut_of, behind_one, left_of, kept_by, pending_by}
+use Rattle.card_pages.specs.Pages.{MayStand}
+use Rattle.card_pages.specs.SeenKept.{KeptState, KeptOn, KeptLost, Took, CutAt}
 
 abbrev alone : Decided → Cut
 alone d = record { before = []; cut = d }

@@ -10,9 +10,9 @@ use Rattle.torn_store.specs.Layout.{recover}
 use Rattle.torn_store.specs.Recovery.{Holds, Between}
 use Rattle.torn_store.proofs.Outcomes.{has_first}
 use Rattle.torn_store.proofs.Stored.{holds_among, one_of_two}
-use Rattle.card_app.specs.Cuts.{commit_of}
-use Rattle.card_app.specs.Pages.{Cells, StandsFor, StandsBetween, MayStand, found_of}
-use Rattle.card_app.specs.SeenCard.{KeptState, KeptOn}
+use Rattle.card_pages.specs.Cuts.{commit_of}
+use Rattle.card_pages.specs.Pages.{Cells, StandsFor, StandsBetween, MayStand, found_of}
+use Rattle.card_pages.specs.SeenKept.{KeptState, KeptOn}
 
 either : {A : Type 0} (one other : A) → (one ≡ other) ⊎ (one ≡ other) → one ≡ other
 either one other (inl is) = is

@@ -3,9 +3,9 @@ use Rattle.std.proofs.Common.{◌≡◌, List, ℕ, Some, None, ap, sym, ◌∙�
 use Rattle.card_state.specs.Encoding.{encoding}
 use Rattle.card_state.specs.Totals.{totals}
 use Rattle.card_state.specs.declared.state.CardState.{CardState}
-use Rattle.card_app.specs.Pages.{found_of}
-use Rattle.card_app.proofs.PowerUps.{without, with_pending, may_between, still_may, finds, kept_on}
-use Rattle.card_app.proofs.kept.Kept.power_up.Goals as goal
+use Rattle.card_pages.specs.Pages.{found_of}
+use Rattle.card_pages.proofs.PowerUps.{without, with_pending, may_between, still_may, finds, kept_on}
+use Rattle.card_pages.proofs.kept.Kept.power_up.Goals as goal
 
 pub open-requires-clause-between : goal.open-requires-clause-between
 open-requires-clause-between g c =
@@ -31,13 +31,14 @@ returns-in-Some-clause-found g c opening kept pending may =
     let list = found_of kept pending found.0 in
     let read = c.decode.ensures.reads (totals opening list) found.1 (sym (c.state.ensures.value ∙ found.2)) in
     let both : Some c.in-Some.state ≡ Some (totals opening list) = sym c.in-Some.is ∙ read in
-    let same : c.in-Some.state ≡ totals opening list = cc both in
-    (found.0,
-    kept_on opening kept list c.in-Ok.store.memory c.in-Ok.store.state c.in-Some.state (g.P.Pages.memory c.args.pages).plan
-        found.1 found.2 same c.in-Ok.ensures.holds c.in-Ok.ensures.plan c.in-Ok.ensures.commit)
+    let same : c.in-Some.state ≡ totals opening list = cc both in (
+      found.0,
+      kept_on opening kept list c.in-Ok.store.memory c.in-Ok.store.state c.in-Some.state (g.P.Pages.memory c.args.pages).plan
+          found.1 found.2 same c.in-Ok.ensures.holds c.in-Ok.ensures.plan c.in-Ok.ensures.commit,
+    )
 
 pub returns-in-Err-clause-lost : goal.returns-in-Err-clause-lost
 returns-in-Err-clause-lost g c opening kept pending may =
     let old = (g.P.Pages.memory c.args.pages).cells in
     still_may opening kept old (g.P.Pages.memory c.in-Err.lost.pages).cells pending may
-        (c.in-Err.ensures.lost (without opening kept) (with_pending opening kept pending) (may_between opening kept old pending may))
+    (c.in-Err.ensures.lost (without opening kept) (with_pending opening kept pending) (may_between opening kept old pending may))

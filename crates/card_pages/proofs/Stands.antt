@@ -22,9 +22,9 @@ use Rattle.torn_store.specs.Layout.{recover, changed, commit_writes}
 use Rattle.torn_store.specs.Recovery.{Holds, Between}
 use Rattle.torn_store.proofs.Outcomes.{has_first, has_second}
 use Rattle.torn_store.proofs.Stored.{holds_among}
-use Rattle.card_app.specs.SeenCard.{KeptState, KeptOn, KeptLost, CutAt}
-use Rattle.card_app.specs.Cuts.{Cut, Left, commit_of, cut_of, behind_one, left_at, left_of, kept_by, pending_by}
-use Rattle.card_app.specs.Pages.{Cells, StandsFor, StandsBetween, MayStand, found_of}
+use Rattle.card_pages.specs.SeenKept.{KeptState, KeptOn, KeptLost, CutAt}
+use Rattle.card_pages.specs.Cuts.{Cut, Left, commit_of, cut_of, behind_one, left_at, left_of, kept_by, pending_by}
+use Rattle.card_pages.specs.Pages.{Cells, StandsFor, StandsBetween, MayStand, found_of}
 
 -- one element changed
 pub same_count : (old new : List AppState) (app : ℕ) (behind : AppState → AppState) → app < length old

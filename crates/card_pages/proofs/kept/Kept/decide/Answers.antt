@@ -10,9 +10,9 @@ use Rattle.emv_ports.specs.Memory.{Memory, next}
 use Rattle.emv_ports.specs.declared.tear.Tear.{Tear}
 use Rattle.torn_store.specs.Layout.{recover}
 use Rattle.torn_store.specs.Recovery.{Holds}
-use Rattle.card_app.specs.SeenCard.{KeptState, CutAt}
-use Rattle.card_app.proofs.Stands.{same_count, some_writes, released}
-use Rattle.card_app.proofs.kept.Kept.decide.Goals as goal
+use Rattle.card_pages.specs.SeenKept.{KeptState, CutAt}
+use Rattle.card_pages.proofs.Stands.{same_count, some_writes, released}
+use Rattle.card_pages.proofs.kept.Kept.decide.Goals as goal
 
 pub returns-in-Ok-release-clause-apps : goal.returns-in-Ok-release-clause-apps
 returns-in-Ok-release-clause-apps g c =
@@ -31,12 +31,12 @@ returns-in-Err-release-clause-cut g c opening ds plan made on =
     c.in-Ok.ensures.state ∙ c.as_slice.ensures.value ∙ c.encode.ensures.bytes ∙ ap encoding longer in
     let cut =
     released lost.cells opening ds d c.in-Ok.settled.memory lost made old
-        (record { state_is = refl; stands = on.stands; plan_is = refl; commit_is = on.commit_is })
-        (c.in-Ok.ensures.plan ∙ ap (λ (k : KeptState). k.memory.plan) c.self.view_is)
-        (c.in-Ok.ensures.commit ∙ ap (λ (k : KeptState). next k.memory.commit) c.self.view_is)
-        (c.in-Ok.ensures.losses ∙ ap (λ (k : KeptState). k.memory.losses) c.self.view_is)
-        (some_writes c.self.inside.store.state c.as_slice.result.now c.in-Ok.settled.memory.writes c.in-Ok.ensures.wrote)
-        c.in-Err-release.ensures.cut c.in-Err-release.ensures.gone refl
-        (subst IsCardState longer c.encode.ensures.ranges)
-        (subst (λ (s : List ℕ). Holds recover lost.cells s) bytes c.in-Err-release.ensures.lost) in
+    (record { state_is = refl; stands = on.stands; plan_is = refl; commit_is = on.commit_is })
+    (c.in-Ok.ensures.plan ∙ ap (λ (k : KeptState). k.memory.plan) c.self.view_is)
+    (c.in-Ok.ensures.commit ∙ ap (λ (k : KeptState). next k.memory.commit) c.self.view_is)
+    (c.in-Ok.ensures.losses ∙ ap (λ (k : KeptState). k.memory.losses) c.self.view_is)
+    (some_writes c.self.inside.store.state c.as_slice.result.now c.in-Ok.settled.memory.writes c.in-Ok.ensures.wrote)
+    c.in-Err-release.ensures.cut c.in-Err-release.ensures.gone refl
+    (subst IsCardState longer c.encode.ensures.ranges)
+    (subst (λ (s : List ℕ). Holds recover lost.cells s) bytes c.in-Err-release.ensures.lost) in
     subst (λ (p : Option Tear). CutAt old lost opening ds (d ∷ []) p made (record { before = []; cut = d })) on.plan_is cut

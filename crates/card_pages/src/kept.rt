@@ -1,20 +1,16 @@
 //! The pages of a card that is on, with the state that they hold.
 ghost use Rattle.std.specs.Prelude.{◌≡◌, ◌<◌, ◌≤◌, ℕ, List, [], ◌∷◌, Bool, Option, Some, None, length, slice_get, true, false, IfOk, IfErr, OnOk, OnErr};
-ghost use Rattle.std.specs.Option.{ForSome};
-ghost use Rattle.card_files.specs.Files.{opening_of};
 ghost use Rattle.card_state.specs.Decisions.{Decided};
-ghost use Rattle.card_state.specs.Encoding.{encoding};
+ghost use Rattle.card_state.specs.Totals.{totals};
 ghost use Rattle.card_state.specs.declared.state.CardState.{CardState as State};
 ghost use Rattle.emv_ports.specs.Cut.{is_named};
 ghost use Rattle.emv_ports.specs.Memory.{powered_off};
 ghost use Rattle.emv_ports.specs.declared.tear.Tear.{Tear};
 ghost use Rattle.torn_store.specs.Store.{IsGone};
-ghost use Rattle.card_app.specs.Pages.{StandsFor, MayStand, found_of};
-ghost use Rattle.card_app.specs.SeenCard.{KeptOn, Takes, IsCutAlone};
-ghost use Rattle.card_app.specs.SeenReply.{MayTake};
+ghost use Rattle.card_pages.specs.Pages.{StandsFor, MayStand, found_of};
+ghost use Rattle.card_pages.specs.SeenKept.{KeptOn, Takes, IsCutAlone, MayTake};
 
 use arrayvec::ArrayVec;
-use card_files::Image;
 use card_state::{CardState, Decision, apply, decode, encode};
 use emv_ports::Pages;
 use std::marker::Model;
@@ -22,7 +18,7 @@ use torn_store::{Lost, Store};
 
 /// A store of pages that are on, and the state that it holds.
 #[derive(Drop)]
-pub(crate) struct Kept<P: Pages> {
+pub struct Kept<P: Pages> {
     store: Store<P>,
     state: CardState,
 }
@@ -30,7 +26,7 @@ pub(crate) struct Kept<P: Pages> {
 impl<P: Pages> Model for Kept<P> {
     ghost use Rattle.std.specs.Prelude.{◌≡◌};
     ghost use Rattle.card_state.specs.Encoding.{encoding};
-    ghost use Rattle.card_app.specs.SeenCard.{KeptState};
+    ghost use Rattle.card_pages.specs.SeenKept.{KeptState};
 
     ghost Value = { KeptState };
 
@@ -39,25 +35,30 @@ impl<P: Pages> Model for Kept<P> {
     ghost invariant = { λ k. k.store.state ≡ encoding k.state };
 }
 
-/// Writes the state of an image before its first decision to pages.
-pub(crate) fn format<P: Pages>(image: &Image, pages: P) -> P
+/// Writes a card's state before its first decision to pages, which are off and have no plan, before and
+/// behind the call.
+pub fn format<P: Pages>(opening: &CardState, pages: P) -> P
+    requires none { totals opening.now [] ≡ opening.now }
     requires off { (P.memory pages).on ≡ false }
     requires plan { (P.memory pages).plan ≡ None }
-    ensures stands { StandsFor (P.memory result).cells (opening_of image.now) [] }
+    ensures stands { StandsFor (P.memory result).cells opening.now [] }
     ensures off { (P.memory result).on ≡ false }
     ensures plan { (P.memory result).plan ≡ None }
     ensures losses { (P.memory result).losses ≡ (P.memory pages).losses }
 {
-    let mut state = CardState::default();
-    image.opening(&mut state);
     let mut bytes = ArrayVec::new();
-    encode(&state, &mut bytes);
+    encode(opening, &mut bytes);
     Store::format(pages, bytes.as_slice()).into_pages()
 }
 
 impl<P: Pages> Kept<P> {
-    /// Turns on pages that may stand for decisions, and reads their state.
-    pub(crate) fn power_up(pages: P) -> Result<Kept<P>, Lost<P>>
+    /// Turns on pages that may stand for the decisions of a card, as `format` and every later call leave
+    /// them, and reads their state. What is found is the list of decisions that are kept, or that list
+    /// with the pending one.
+    ///
+    /// `Lost` comes exactly where a tear is planned before the first decision. The pages stand then for
+    /// what they stood for.
+    pub fn power_up(pages: P) -> Result<Kept<P>, Lost<P>>
         requires off { (P.memory pages).on ≡ false }
         requires stands { (opening : State) × (kept : List Decided) × (pending : Option Decided)
             × MayStand (P.memory pages).cells opening kept pending }
@@ -82,15 +83,19 @@ impl<P: Pages> Kept<P> {
     }
 
     /// The state.
-    pub(crate) fn state(&self) -> &CardState
+    pub fn state(&self) -> &CardState
         ensures { result.now ≡ self.now.state }
     {
         &self.state
     }
 
-    /// Takes one decision of an application: a commit, and its release.
+    /// Takes one decision of an application that is there, and whose state allows it: a commit, and its
+    /// release.
+    ///
+    /// `Lost` comes exactly where the plan names this commit. The decision is dropped then where the
+    /// plan cuts its first write before it begins, kept at the release, and pending at any other place.
     #[tactic(auto, unfolding(crate::specs::Cuts::cut_of))]
-    pub(crate) fn decide(self, app: u8, decision: &Decision) -> Result<Kept<P>, Lost<P>>
+    pub fn decide(self, app: u8, decision: &Decision) -> Result<Kept<P>, Lost<P>>
         requires in_range { app < length self.state.apps.items }
         requires allowed { MayTake self.state app decision.now }
         ensures takes { IfOk result (λ next. Takes self next (record { app = app; decision = decision.now } ∷ [])) }
@@ -112,8 +117,8 @@ impl<P: Pages> Kept<P> {
         }
     }
 
-    /// Turns the pages off.
-    pub(crate) fn power_off(self) -> P
+    /// Turns the pages off. They stand for the decisions.
+    pub fn power_off(self) -> P
         ensures memory { P.memory result ≡ powered_off self.memory }
         ensures stands { (opening : State) (ds : List Decided) (plan : Option Tear) (made : ℕ)
             → KeptOn self opening ds plan made → StandsFor (P.memory result).cells opening ds }
