@@ -17,8 +17,8 @@ use Rattle.card_pages.specs.SeenKept.{KeptState, KeptOn, Took, Takes, CutAt, IsC
 use Rattle.card_app.specs.SeenCard.{CardSeen, CardOn, Answered, CutOff}
 use Rattle.card_app.specs.SeenReply.{reply_data, Leads, phase_behind}
 use Rattle.card_app.specs.Session.{Exchange, after, after_said, phase_of}
-use Rattle.card_app.specs.declared.phase.Phase.{Phase}
-use Rattle.card_app.specs.declared.phase.Phase.TheVariants.{Idle}
+use Rattle.card_cryptogram.specs.declared.phase.Phase.{Phase}
+use Rattle.card_cryptogram.specs.declared.phase.Phase.TheVariants.{Idle}
 use Rattle.card_app.specs.declared.reply.Reply.{Reply}
 use Rattle.card_app.specs.declared.reply.Reply.TheVariants.{Plain, Decides, Compares}
 

@@ -10,13 +10,14 @@ use Rattle.card_state.specs.declared.state.CardState.{CardState}
 use Rattle.card_app.specs.Cryptograms.{generate_row, authenticate_row}
 use Rattle.card_app.specs.Files.{select_row, record_row, data_row}
 use Rattle.card_app.specs.Options.{options_of}
-use Rattle.card_app.specs.Orders.{plain_order, pin_order, limit_order, script_row}
+use Rattle.card_app.specs.Orders.{script_row}
+use Rattle.card_cryptogram.specs.Orders.{plain_order, pin_order, limit_order}
 use Rattle.card_app.specs.Pin.{verify_of}
 use Rattle.card_app.specs.Replies.{ReplyData, refused, with_app}
 use Rattle.card_app.specs.Session.{Exchange, phase_of}
-use Rattle.card_app.specs.declared.orders.Order.TheVariants.{BlockApp, UnblockApp, BlockCard}
-use Rattle.card_app.specs.declared.phase.Phase.{Phase}
-use Rattle.card_app.specs.declared.phase.Phase.TheVariants.{Idle, Selected, Started, Online, Closed, Done}
+use Rattle.card_cryptogram.specs.declared.orders.Order.TheVariants.{BlockApp, UnblockApp, BlockCard}
+use Rattle.card_cryptogram.specs.declared.phase.Phase.{Phase}
+use Rattle.card_cryptogram.specs.declared.phase.Phase.TheVariants.{Idle, Selected, Started, Online, Closed, Done}
 
 -- GET PROCESSING OPTIONS comes behind SELECT
 abbrev pub options_in : List AppData → CardState → Phase → List ℕ → ReplyData

@@ -2,6 +2,7 @@
 use Rattle.std.specs.Prelude.{ℕ, ◌/◌, ◌%◌, ◌==◌, ◌&&◌, not, Bool, true, false, nat_le, if◌then◌else◌, List, [], length, slice_index, Option, Some, None}
 use Rattle.std.specs.Str.{bytes_eq}
 use Rattle.apdu_core.specs.Command.{CommandData}
+use Rattle.card_cryptogram.specs.Asked.{kind_asked, has_issuer_auth, is_right, is_online}
 use Rattle.card_cryptogram.specs.Bodies.{body_of}
 use Rattle.card_cryptogram.specs.Fields.{first_given, given_from, code_given}
 use Rattle.card_cryptogram.specs.Scripts.{authenticates}
@@ -15,23 +16,13 @@ use Rattle.card_state.specs.declared.decision.How.{How}
 use Rattle.card_state.specs.declared.state.AppState.{AppState}
 use Rattle.card_state.specs.declared.state.CardState.{CardState}
 use Rattle.emv_dict.specs.Bcd.{number_in}
-use Rattle.emv_dict.specs.Kinds.{kind_of}
 use Rattle.emv_dict.specs.declared.ending.Kind.{Kind}
-use Rattle.emv_dict.specs.declared.ending.Kind.TheVariants.{Aac, Tc, Arqc}
 use Rattle.object_lists.specs.DolEntries.{total_of}
 use Rattle.card_app.specs.OwnLists.{cdol_of}
 use Rattle.card_app.specs.Replies.{ReplyData, refused, decides, with_app}
-use Rattle.card_app.specs.declared.phase.First.{First as FirstData}
-use Rattle.card_app.specs.declared.phase.Phase.{Phase}
-use Rattle.card_app.specs.declared.phase.Phase.TheVariants.{Idle, Selected, Started, Online, Closed, Done}
-
--- the kind that P1 asks for with its two high bits, the others and P2 zero
-abbrev pub kind_asked : ℕ → ℕ → Option Kind
-kind_asked p1 p2 = if (p2 == 0) && (p1 % 64 == 0) then kind_of p1 else None
-
--- issuer authentication is supported: bit 3 of the first byte of the application interchange profile
-abbrev pub has_issuer_auth : List ℕ → Bool
-has_issuer_auth aip = slice_index aip 0 / 4 % 2 == 1
+use Rattle.card_cryptogram.specs.declared.phase.First.{First as FirstData}
+use Rattle.card_cryptogram.specs.declared.phase.Phase.{Phase}
+use Rattle.card_cryptogram.specs.declared.phase.Phase.TheVariants.{Idle, Selected, Started, Online, Closed, Done}
 
 -- the amount, and whether the currency is the application's own
 abbrev pub amount_in : Given → ℕ
@@ -57,23 +48,12 @@ first_for card_blocked app asked filled a s =
     if not (length filled == total_of (cdol_of a.cdol1)) then refused 0x6700
     else first_made app a s (first_of card_blocked asked a s (first_given (cdol_of a.cdol1) filled)) (first_given (cdol_of a.cdol1) filled)
 
--- EXTERNAL AUTHENTICATE was right
-abbrev pub is_right : Option Bool → Bool
-is_right None = false
-is_right (Some right) = right
-
 abbrev pub second_by : Bool → Kind → AppData → AppState → Option Bool → List ℕ → Given → Kind × How
 second_by card_blocked asked a s sent code given =
     second_kind asked s card_blocked (is_own a given) (amount_in given) (is_right sent) code (has_issuer_auth a.aip)
 
 abbrev pub second_made : ℕ → AppData → AppState → Kind × How → Given → ReplyData
 second_made app a s made given = cryptogram_for app a s made.0 (Second made.0 made.1 (amount_in given)) given
-
--- a request to go online
-abbrev pub is_online : Kind → Bool
-is_online Arqc = true
-is_online Tc = false
-is_online Aac = false
 
 -- the second GENERATE AC: a field that the second list names has its new value, any other that of the first one
 unfoldable pub second_for : Bool → ℕ → FirstData → Option Bool → Kind → List ℕ → AppData → AppState → ReplyData

@@ -9,8 +9,9 @@ use Rattle.card_files.specs.Views.{AppData}
 use Rattle.card_state.specs.declared.state.AppState.{AppState}
 use Rattle.card_state.specs.declared.state.CardState.{CardState}
 use Rattle.card_app.specs.Replies.{ReplyData, refused, shows, with_app}
-use Rattle.card_app.specs.Selection.{current, found}
-use Rattle.card_app.specs.declared.phase.Phase.{Phase}
+use Rattle.card_app.specs.Selection.{found}
+use Rattle.card_cryptogram.specs.Phases.{current}
+use Rattle.card_cryptogram.specs.declared.phase.Phase.{Phase}
 
 -- the file control information; a blocked application is shown with a warning
 abbrev pub shown_for : AppData → AppState → ReplyData

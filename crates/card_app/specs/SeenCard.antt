@@ -9,7 +9,7 @@ use Rattle.card_app.specs.Answering.{card_answer}
 use Rattle.card_pages.specs.Cuts.{Cut, cut_of}
 use Rattle.card_pages.specs.SeenKept.{KeptState, KeptOn, CutAt}
 use Rattle.card_app.specs.Session.{Exchange, phase_of}
-use Rattle.card_app.specs.declared.phase.Phase.{Phase}
+use Rattle.card_cryptogram.specs.declared.phase.Phase.{Phase}
 
 -- a card that is on: the applications of its image, its pages with their state, and its phase
 pub record CardSeen : Type 0 where

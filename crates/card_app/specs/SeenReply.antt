@@ -11,9 +11,9 @@ use Rattle.card_state.specs.declared.state.AppState.{AppState}
 use Rattle.card_state.specs.declared.state.CardState.{CardState}
 use Rattle.card_app.specs.Pin.{compared}
 use Rattle.card_app.specs.Replies.{ReplyData, shows, decides}
-use Rattle.card_app.specs.Selection.{current}
+use Rattle.card_cryptogram.specs.Phases.{current}
 use Rattle.card_app.specs.Session.{after_said, next_phase}
-use Rattle.card_app.specs.declared.phase.Phase.{Phase}
+use Rattle.card_cryptogram.specs.declared.phase.Phase.{Phase}
 use Rattle.card_app.specs.declared.reply.Comparison.{Comparison}
 use Rattle.card_app.specs.declared.reply.Reply.{Reply}
 use Rattle.card_app.specs.declared.reply.Reply.TheVariants.{Plain, Decides, Compares}

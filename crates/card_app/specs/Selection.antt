@@ -2,17 +2,8 @@
 use Rattle.std.specs.Prelude.{ℕ, ◌+◌, ◌==◌, nat_eq, if◌then◌else◌, List, [], ◌∷◌, drop, Option, Some, None}
 use Rattle.std.specs.List.{starts_with}
 use Rattle.card_files.specs.Views.{AppData}
-use Rattle.card_app.specs.declared.phase.Phase.{Phase}
-use Rattle.card_app.specs.declared.phase.Phase.TheVariants.{Idle, Selected, Started, Online, Closed, Done}
-
--- the application that is selected
-abbrev pub current : Phase → Option ℕ
-current Idle = None
-current (Selected app) = Some app
-current (Started app) = Some app
-current (Online app first sent) = Some app
-current (Closed app) = Some app
-current (Done app first) = Some app
+use Rattle.card_cryptogram.specs.Phases.{current}
+use Rattle.card_cryptogram.specs.declared.phase.Phase.{Phase}
 
 -- the first application whose name begins with these bytes, where the first one has this number
 unfoldable pub first_named : ℕ → List ℕ → List AppData → Option ℕ

@@ -10,9 +10,9 @@ use Rattle.emv_dict.specs.declared.ending.Kind.{Kind}
 use Rattle.emv_dict.specs.declared.ending.Kind.TheVariants.{Aac, Tc, Arqc}
 use Rattle.card_app.specs.Selection.{found}
 use Rattle.card_app.specs.OwnLists.{cdol_of}
-use Rattle.card_app.specs.declared.phase.First.{First}
-use Rattle.card_app.specs.declared.phase.Phase.{Phase}
-use Rattle.card_app.specs.declared.phase.Phase.TheVariants.{Idle, Selected, Started, Online, Closed, Done}
+use Rattle.card_cryptogram.specs.declared.phase.First.{First}
+use Rattle.card_cryptogram.specs.declared.phase.Phase.{Phase}
+use Rattle.card_cryptogram.specs.declared.phase.Phase.TheVariants.{Idle, Selected, Started, Online, Closed, Done}
 
 -- a command and its answer
 pub record Exchange : Type 0 where

@@ -9,15 +9,13 @@ use crate::authenticate::authenticate;
 use crate::files::{get_data, read_record};
 use crate::generate::generate;
 use crate::options::options;
-use crate::orders::{Order, limit_order, pin_order, plain_order};
-use crate::phase::Phase;
 use crate::reply::{Reply, refused};
 use crate::scripts::script;
 use crate::selection::select;
 use crate::verify::verify;
 use apdu_core::status::{CLASS_NOT_SUPPORTED, INSTRUCTION_NOT_SUPPORTED, WRONG_LENGTH};
 use apdu_core::{Command, read_command};
-use card_cryptogram::Body;
+use card_cryptogram::{Body, Order, Phase, limit_order, pin_order, plain_order};
 use card_files::Image;
 use card_state::CardState;
 

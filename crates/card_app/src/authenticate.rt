@@ -3,17 +3,15 @@ ghost use Rattle.std.specs.Prelude.{◌≡◌, ◌&&◌, [], length, Some, None,
 ghost use Rattle.apdu_core.specs.Seen.{seen_command};
 ghost use Rattle.card_app.specs.SeenReply.{reply_data, Leads, LeadsFor, MayReply, MayFor, IsAt};
 ghost use Rattle.card_app.specs.Cryptograms as spec;
-ghost use Rattle.card_app.specs.declared.phase.Phase.TheVariants.{Online};
+ghost use Rattle.card_cryptogram.specs.declared.phase.Phase.TheVariants.{Online};
 
 use crate::apps::{app_at, state_at};
-use crate::generate::has_issuer_auth;
-use crate::phase::{First, Phase};
 use crate::reply::{Reply, refused};
 use apdu_core::Command;
 use apdu_core::status::{
     AUTHENTICATION_FAILED, CONDITIONS_NOT_SATISFIED, NO_ERROR, WRONG_LENGTH, WRONG_PARAMETERS,
 };
-use card_cryptogram::authenticates;
+use card_cryptogram::{First, Phase, authenticates, has_issuer_auth};
 use card_files::{AppImage, Image};
 use card_state::{AppState, CardState, Decision};
 

@@ -17,11 +17,10 @@ ghost use Rattle.card_app.specs.SeenReply.{MayReply, MayCompare, IsAt, reply_dat
 ghost use Rattle.card_app.specs.Session.{Exchange};
 
 use crate::answering::answer;
-use crate::phase::Phase;
 use crate::reply::{Comparison, Reply};
 use apdu_core::status::NO_ERROR;
 use apdu_core::{Answer, Response, write_response};
-use card_cryptogram::Body;
+use card_cryptogram::{Body, Phase};
 use card_files::Image;
 use card_pages::{Kept, format};
 use card_state::{CardState, Decision};
@@ -55,7 +54,7 @@ pub struct Card<'i, P: Pages> {
 
 impl<'i, P: Pages> Model for Card<'i, P> {
     ghost use Rattle.std.specs.Prelude.{◌≡◌, length};
-    ghost use Rattle.card_app.specs.SeenCard.{CardSeen}
+    ghost use Rattle.card_app.specs.SeenCard.{CardSeen};
     ghost use Rattle.card_app.specs.SeenReply.{IsAt};
 
     ghost Value = { CardSeen };

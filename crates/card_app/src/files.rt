@@ -7,14 +7,13 @@ ghost use Rattle.card_app.specs.Replies.{shows, with_app};
 ghost use Rattle.card_app.specs.SeenReply.{IsAt};
 
 use crate::apps::{app_at, state_at};
-use crate::phase::Phase;
 use apdu_core::Command;
 use apdu_core::status::{
     CONDITIONS_NOT_SATISFIED, DATA_NOT_FOUND, FILE_NOT_FOUND, NO_ERROR, RECORD_NOT_FOUND,
     WRONG_LENGTH, WRONG_PARAMETERS,
 };
 use ber_tlv::Tag;
-use card_cryptogram::{Body, put};
+use card_cryptogram::{Body, Phase, put};
 use card_files::{AppImage, Image};
 use card_state::{AppState, CardState};
 

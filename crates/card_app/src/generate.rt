@@ -3,52 +3,26 @@ ghost use Rattle.std.specs.Prelude.{◌≡◌, ◌==◌, [], length, Some, None,
 ghost use Rattle.apdu_core.specs.Seen.{seen_command};
 ghost use Rattle.card_files.specs.Kept.{KeepsRules};
 ghost use Rattle.card_app.specs.SeenReply.{reply_data, Leads, LeadsFor, MayReply, MayFor, IsAt};
-ghost use Rattle.object_lists.specs.DolEntries.{total_of};
 ghost use Rattle.card_cryptogram.specs.Fields.{first_given as first_given_of};
 ghost use Rattle.card_cryptogram.specs.Bodies.{body_of, kind_in, cryptogram_in};
 ghost use Rattle.card_state.specs.Change.{changed as state_behind, MayDecide};
 ghost use Rattle.card_state.specs.declared.decision.Decision.TheVariants.{First as FirstKind, Second as SecondKind};
 ghost use Rattle.card_app.specs.Cryptograms as spec;
 ghost use Rattle.card_app.specs.OwnLists.{cdol_of as entries_of};
-ghost use Rattle.card_app.specs.declared.phase.Phase.TheVariants.{Started, Online, Closed};
+ghost use Rattle.card_cryptogram.specs.declared.phase.Phase.TheVariants.{Started, Online, Closed};
 
 use crate::apps::{app_at, cdol_of, state_at};
-use crate::phase::{First, Phase};
 use crate::reply::{Reply, refused};
 use apdu_core::Command;
 use apdu_core::status::{CONDITIONS_NOT_SATISFIED, NO_ERROR, WRONG_LENGTH, WRONG_PARAMETERS};
-use card_cryptogram::{Body, Given, code_given, cryptogram, first_given, given_from, write_body};
+use card_cryptogram::{
+    Body, First, Given, Phase, code_given, cryptogram, first_given, given_from, has_issuer_auth,
+    is_of_list, is_right, kind_asked, phase_behind, write_body,
+};
 use card_files::{AppImage, Image};
 use card_policy::{first, second};
 use card_state::{AppState, CardState, Decision, How, changed};
 use emv_dict::{Kind, amount_of};
-use object_lists::{Dol, total};
-
-/// The kind that P1 asks for with its two high bits, the others and P2 zero.
-fn kind_asked(p1: u8, p2: u8) -> Option<Kind>
-    ensures { result ≡ spec.kind_asked p1 p2 }
-{
-    if p2 == 0 && p1 % 64 == 0 {
-        Kind::of(p1)
-    } else {
-        None
-    }
-}
-
-/// Whether the profile has issuer authentication: bit 3 of its first byte (EMV 4.3 Book 3 Annex C1).
-pub(crate) fn has_issuer_auth(aip: [u8; 2]) -> bool
-    ensures { result ≡ spec.has_issuer_auth aip }
-{
-    aip[0] / 4 % 2 == 1
-}
-
-/// Whether the data has the length that the list wants.
-fn is_of_list(dol: &Dol, filled: &[u8]) -> bool
-    ensures exact { result ≡ (length filled.now == total_of dol.now) }
-    ensures whole { IsTrue result → length filled.now ≡ total_of dol.now }
-{
-    filled.len() == total(dol) as usize
-}
 
 /// Makes the cryptogram of a kind with the state behind the decision for it, and writes the answer.
 #[tactic(auto, unfolding(card_cryptogram::specs::Bodies::body_of))]
@@ -66,21 +40,6 @@ fn write_cryptogram(
     let made = cryptogram(&app.ac_key, app.aip, state, kind, given);
     write_body(app.ac_format, state, kind, made, out);
     made
-}
-
-/// The phase behind a first cryptogram.
-fn phase_behind(app: u8, kind: Kind, first: First) -> Phase
-    ensures { result ≡ (if spec.is_online kind then Online app first None else Closed app) }
-{
-    match kind {
-        Kind::Arqc => Phase::Online {
-            app,
-            first,
-            sent: None,
-        },
-        Kind::Tc => Phase::Closed { app },
-        Kind::Aac => Phase::Closed { app },
-    }
 }
 
 /// The first cryptogram, of a kind that the card may decide for.
@@ -154,16 +113,6 @@ fn generate_first(
     let given = first_given(&dol, command.body);
     let kind = first_of(app, state, card_blocked, asked, &given);
     make_first(app, state, number, kind, given, command, out)
-}
-
-/// Whether EXTERNAL AUTHENTICATE was right.
-fn is_right(sent: Option<bool>) -> bool
-    ensures { result ≡ spec.is_right sent }
-{
-    match sent {
-        Some(right) => right,
-        None => false,
-    }
 }
 
 /// The second cryptogram, of a kind that the card may decide for.

@@ -12,11 +12,10 @@ mod files;
 mod generate;
 mod options;
 mod orders;
-mod phase;
 mod reply;
 mod scripts;
 mod selection;
 mod verify;
 
 pub use card::{Card, personalise};
-pub use phase::{First, Phase};
+pub use card_cryptogram::{First, Given, Phase};

@@ -10,16 +10,15 @@ ghost use Rattle.card_app.specs.Answering.{options_row};
 ghost use Rattle.card_app.specs.Options as spec;
 ghost use Rattle.card_app.specs.OwnLists.{pdol_total as total_wanted};
 ghost use Rattle.card_app.specs.SeenReply.{reply_data, Leads, LeadsFor, MayReply, MayFor, IsAt};
-ghost use Rattle.card_app.specs.declared.phase.Phase.TheVariants.{Selected};
+ghost use Rattle.card_cryptogram.specs.declared.phase.Phase.TheVariants.{Selected};
 
 use crate::apps::{app_at, pdol_total, state_at};
-use crate::phase::Phase;
 use crate::reply::{Reply, refused};
 use apdu_core::Command;
 use apdu_core::status::{CONDITIONS_NOT_SATISFIED, NO_ERROR, WRONG_LENGTH, WRONG_PARAMETERS};
 use arrayvec::ArrayVec;
 use ber_tlv::{Tag, sole_value, write_item};
-use card_cryptogram::{Body, put};
+use card_cryptogram::{Body, Phase, put};
 use card_files::{AppImage, Image};
 use card_state::{AppState, CardState, Decision};
 

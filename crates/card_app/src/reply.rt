@@ -2,7 +2,7 @@
 ghost use Rattle.std.specs.Prelude.{◌≡◌};
 ghost use Rattle.card_app.specs.declared.reply.Reply.TheVariants.{Plain};
 
-use crate::phase::Phase;
+use card_cryptogram::Phase;
 use card_state::Decision;
 
 /// A PIN block to compare, behind one more PIN try.

@@ -2,18 +2,18 @@
 ghost use Rattle.std.specs.Prelude.{◌≡◌, ◌∷◌, [], length, Some, None};
 ghost use Rattle.apdu_core.specs.Seen.{seen_command};
 ghost use Rattle.card_app.specs.SeenReply.{reply_data, Leads, LeadsFor, MayReply, MayFor, IsAt, Stays};
+ghost use Rattle.card_cryptogram.specs.Orders.{size_of as size_wanted};
 ghost use Rattle.card_app.specs.Orders as spec;
-ghost use Rattle.card_app.specs.Selection.{current};
+ghost use Rattle.card_cryptogram.specs.Phases.{current};
 
 use crate::apps::{app_at, state_at};
-use crate::orders::{Order, scripted_of, size_of};
-use crate::phase::{First, Phase};
+use crate::orders::scripted_of;
 use crate::reply::{Reply, refused};
 use apdu_core::Command;
 use apdu_core::status::{
     CONDITIONS_NOT_SATISFIED, NO_ERROR, WRONG_LENGTH, WRONG_PARAMETERS, WRONG_SECURE_MESSAGING,
 };
-use card_cryptogram::has_code;
+use card_cryptogram::{First, Order, Phase, has_code, size_of};
 use card_files::{AppImage, Image};
 use card_state::{AppState, CardState, Decision};
 
@@ -34,7 +34,7 @@ fn carry_out(
     first: &First,
     command: &Command<'_>,
 ) -> Reply
-    requires size { length command.now.body.now ≡ spec.size_of order }
+    requires size { length command.now.body.now ≡ size_wanted order }
     requires stays { Stays phase (seen_command command.now) }
     requires at { current phase ≡ Some number }
     ensures said { reply_data [] result ≡ spec.carried_out number (spec.scripted_of order app.now first.now command.now.body.now) }

@@ -8,14 +8,13 @@ ghost use Rattle.card_app.specs.SeenReply.{reply_data, Leads, MayReply, IsAt};
 ghost use Rattle.card_app.specs.Selection as spec;
 
 use crate::apps::state_at;
-use crate::phase::Phase;
 use crate::reply::{Reply, refused};
 use apdu_core::Command;
 use apdu_core::status::{
     FILE_INVALIDATED, FILE_NOT_FOUND, FUNCTION_NOT_SUPPORTED, NO_ERROR, WRONG_LENGTH,
     WRONG_PARAMETERS,
 };
-use card_cryptogram::Body;
+use card_cryptogram::{Body, Phase};
 use card_files::{AppImage, Image};
 use card_state::CardState;
 

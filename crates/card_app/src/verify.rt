@@ -4,16 +4,16 @@ ghost use Rattle.apdu_core.specs.Seen.{seen_command};
 ghost use Rattle.card_app.specs.SeenReply.{reply_data, Leads, LeadsFor, MayReply, MayFor, IsAt};
 ghost use Rattle.card_app.specs.Answering.{verify_row};
 ghost use Rattle.card_app.specs.Pin as spec;
-ghost use Rattle.card_app.specs.declared.phase.Phase.TheVariants.{Started};
+ghost use Rattle.card_cryptogram.specs.declared.phase.Phase.TheVariants.{Started};
 
 use crate::apps::{app_at, state_at};
-use crate::phase::Phase;
 use crate::reply::{Comparison, Reply, refused};
 use apdu_core::Command;
 use apdu_core::status::{
     AUTHENTICATION_BLOCKED, CONDITIONS_NOT_SATISFIED, DATA_NOT_FOUND, WRONG_LENGTH,
     WRONG_PARAMETERS,
 };
+use card_cryptogram::Phase;
 use card_files::{AppImage, Image};
 use card_state::{AppState, CardState};
 

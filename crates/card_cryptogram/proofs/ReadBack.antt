@@ -24,7 +24,7 @@ one_is kind counter cryptogram iad eight six =
 
 two_is : (kind : Kind) (counter : ℕ) (cryptogram iad : List ℕ) → length cryptogram ≡ 8 → length iad ≡ 6
     → body_two kind counter cryptogram iad
-        ≡ 0x77 ∷ 29 ∷ 0x9F ∷ 0x27 ∷ 1 ∷ kind_byte kind ∷ 0x9F ∷ 0x36 ∷ 2 ∷ to_be_bytes w16 counter ++ (0x9F ∷ 0x26 ∷ 8 ∷ cryptogram ++ (0x9F ∷ 0x10 ∷ 6 ∷ iad))
+    ≡ 0x77 ∷ 29 ∷ 0x9F ∷ 0x27 ∷ 1 ∷ kind_byte kind ∷ 0x9F ∷ 0x36 ∷ 2 ∷ to_be_bytes w16 counter ++ (0x9F ∷ 0x26 ∷ 8 ∷ cryptogram ++ (0x9F ∷ 0x10 ∷ 6 ∷ iad))
 unfolding body_two written
 two_is kind counter cryptogram iad eight six =
     let count : length (cryptogram ++ (0x9F ∷ 0x10 ∷ 6 ∷ iad)) ≡ 17 =

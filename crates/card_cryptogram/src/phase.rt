@@ -1,8 +1,8 @@
 //! How far a card has come.
 ghost use Rattle.std.specs.Prelude.{◌≡◌};
-ghost use Rattle.card_app.specs.Selection as spec;
+ghost use Rattle.card_cryptogram.specs.Phases as spec;
 
-use card_cryptogram::Given;
+use crate::fields::Given;
 
 /// What of the first cryptogram of a transaction the later commands refer to.
 #[derive(Clone, Copy, PartialEq, Eq, Debug)]
@@ -20,9 +20,13 @@ pub enum Phase {
     /// No application is selected.
     Idle,
     /// An application is selected.
-    Selected { app: u8 },
+    Selected {
+        app: u8,
+    },
     /// Its processing options were given.
-    Started { app: u8 },
+    Started {
+        app: u8,
+    },
     /// Its first cryptogram is a request to go online. `sent` tells whether EXTERNAL AUTHENTICATE was
     /// sent, and whether it was right.
     Online {
@@ -31,9 +35,14 @@ pub enum Phase {
         sent: Option<bool>,
     },
     /// Its first cryptogram approves or declines.
-    Closed { app: u8 },
+    Closed {
+        app: u8,
+    },
     /// Its second cryptogram was made.
-    Done { app: u8, first: First },
+    Done {
+        app: u8,
+        first: First,
+    },
 }
 
 impl Phase {
