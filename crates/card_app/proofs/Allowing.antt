@@ -1,10 +1,9 @@
 -- A list of allowed decisions stays one with those of a reply.
-use Rattle.std.proofs.Common.{◌≡◌, ℕ, ◌+◌, ◌<◌, ◌++◌, Bool, true, false, List, [], ◌∷◌, length, slice_get, Option, refl, ap, sym, subst, ◌∙◌, arith, append-nil}
+use Rattle.std.proofs.Common.{◌≡◌, ℕ, ◌+◌, ◌<◌, ◌++◌, Bool, true, false, List, [], ◌∷◌, length, refl, ap, sym, subst, ◌∙◌, arith, append-nil}
 use Rattle.std.proofs.lemmas.List.{append_assoc, length-map}
-use Rattle.std.specs.Option.{ForSome}
 use Rattle.card_files.specs.Files.{opening_of}
 use Rattle.card_files.specs.Views.{AppData}
-use Rattle.card_state.specs.Allowed.{Finds, Allowed}
+use Rattle.card_state.specs.Allowed.{Allowed}
 use Rattle.card_state.specs.Decisions.{Decided}
 use Rattle.card_state.specs.Totals.{totals, apps_totals}
 use Rattle.card_state.specs.declared.decision.Decision.TheVariants.{PinTry, PinRight}
@@ -35,12 +34,16 @@ module _ (opening : CardState) (ds : List Decided) (allowed : Allowed opening ds
     where
       one : Decided
       one = record { app = k.app; decision = PinTry }
+
       other : Decided
       other = record { app = k.app; decision = PinRight k.limit }
+
       first : Allowed opening (ds ++ one ∷ [])
       first = Allowed-push opening ds one allowed (record { in_range = inside; allowed = may })
+
       inside_still : k.app < length (totals opening (ds ++ one ∷ [])).apps.items
       inside_still = subst (λ n. k.app < n) (same_apps opening ds (ds ++ one ∷ [])) inside
+
       by_test : (right : Bool) → Allowed opening (ds ++ (compared k.app k.limit k.tries right).new)
       by_test true =
           subst (λ (xs : List Decided). Allowed opening xs) (append_assoc ds (one ∷ []) (other ∷ []))

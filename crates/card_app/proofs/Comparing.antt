@@ -1,5 +1,5 @@
 -- A PIN try and then the comparison.
-use Rattle.std.proofs.Common.{◌≡◌, ℕ, ◌+◌, Bool, true, false, List, [], ◌∷◌, ◌++◌, Option, ap, sym, subst, ◌∙◌}
+use Rattle.std.proofs.Common.{◌≡◌, ℕ, ◌+◌, Bool, true, false, List, [], ◌∷◌, ◌++◌, Option, sym, subst}
 use Rattle.card_state.specs.Decisions.{Decided}
 use Rattle.card_state.specs.declared.decision.Decision.TheVariants.{PinTry, PinRight}
 use Rattle.card_state.specs.declared.state.CardState.{CardState}
@@ -50,8 +50,9 @@ module _ (k : Comparison) where
           → (at : Cut) × CutAt old.memory lost opening ds (comparison_reply k).new plan made at
       cut_right lost losses cut =
           let first = takes opening ds plan made on in
-          let both : Cut = record { before = one ∷ []; cut = other } in
-          (both,
-          subst (λ right. CutAt old.memory lost opening ds (new_with right) plan made both) (sym right)
-          (cut_second opening ds plan made one other old.memory between.memory lost losses first.spared
-              (cut opening (ds ++ one ∷ []) plan (made + 1) first.kept)))
+          let both : Cut = record { before = one ∷ []; cut = other } in (
+            both,
+            subst (λ right. CutAt old.memory lost opening ds (new_with right) plan made both) (sym right)
+                (cut_second opening ds plan made one other old.memory between.memory lost losses first.spared
+                (cut opening (ds ++ one ∷ []) plan (made + 1) first.kept)),
+          )

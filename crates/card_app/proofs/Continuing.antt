@@ -1,5 +1,5 @@
 -- A card that goes on by one command.
-use Rattle.std.proofs.Common.{◌≡◌, ℕ, ◌+◌, List, [], ◌∷◌, ◌++◌, length, Option, Some, None, refl, ap, sym, subst, ◌∙◌, arith, append-nil}
+use Rattle.std.proofs.Common.{◌≡◌, ℕ, List, [], ◌∷◌, Option, Some, refl, ap, sym, subst, ◌∙◌}
 use Rattle.std.proofs.lemmas.List.Sums.{fold-append}
 use Rattle.apdu_core.specs.Command.{CommandData, command_of}
 use Rattle.apdu_core.specs.Response.{ResponseData, response_of}
@@ -10,10 +10,9 @@ use Rattle.card_state.specs.Totals.{totals}
 use Rattle.card_state.specs.declared.state.CardState.{CardState}
 use Rattle.emv_ports.specs.Memory.{Memory}
 use Rattle.emv_ports.specs.declared.tear.Tear.{Tear}
-use Rattle.card_app.specs.Answering.{reply_in, card_reply, card_answer, said, response_in}
-use Rattle.card_pages.specs.Cuts.{Cut, cut_of}
+use Rattle.card_app.specs.Answering.{reply_in, card_reply, said, response_in}
 use Rattle.card_app.specs.Replies.{ReplyData}
-use Rattle.card_pages.specs.SeenKept.{KeptState, KeptOn, Took, Takes, CutAt, IsCut}
+use Rattle.card_pages.specs.SeenKept.{KeptState, Took, Takes, CutAt, IsCut}
 use Rattle.card_app.specs.SeenCard.{CardSeen, CardOn, Answered, CutOff}
 use Rattle.card_app.specs.SeenReply.{reply_data, Leads, phase_behind}
 use Rattle.card_app.specs.Session.{Exchange, after, after_said, phase_of}

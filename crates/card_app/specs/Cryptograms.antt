@@ -1,5 +1,5 @@
 -- GENERATE AC and EXTERNAL AUTHENTICATE (EMV 4.3 Book 3 sections 6.5.5 and 6.5.4).
-use Rattle.std.specs.Prelude.{ℕ, ◌/◌, ◌%◌, ◌==◌, ◌&&◌, not, Bool, true, false, nat_le, if◌then◌else◌, List, [], length, slice_index, Option, Some, None}
+use Rattle.std.specs.Prelude.{ℕ, ◌==◌, ◌&&◌, not, Bool, true, false, nat_le, if◌then◌else◌, List, [], length, Option, Some, None}
 use Rattle.std.specs.Str.{bytes_eq}
 use Rattle.apdu_core.specs.Command.{CommandData}
 use Rattle.card_cryptogram.specs.Asked.{kind_asked, has_issuer_auth, is_right, is_online}
@@ -61,8 +61,8 @@ second_for card_blocked app first sent asked filled a s =
     if not (length filled == total_of (cdol_of a.cdol2)) then refused 0x6700
     else if is_online asked then refused 0x6A86
     else second_made app a s
-        (second_by card_blocked asked a s sent (code_given (cdol_of a.cdol2) filled) (given_from (cdol_of a.cdol2) filled first.given))
-        (given_from (cdol_of a.cdol2) filled first.given)
+    (second_by card_blocked asked a s sent (code_given (cdol_of a.cdol2) filled) (given_from (cdol_of a.cdol2) filled first.given))
+    (given_from (cdol_of a.cdol2) filled first.given)
 
 abbrev pub generate_in : List AppData → CardState → Phase → Kind → List ℕ → ReplyData
 generate_in image state (Started app) asked filled = with_app image state app (first_for state.blocked app asked filled)

@@ -1,12 +1,12 @@
 -- What the issuer's script commands do (EMV 4.3 Book 3 sections 6.5.1 to 6.5.3 and 6.5.10), each with a code of eight bytes at the end of its data (EMV 4.3 Book 2 section 9.2).
-use Rattle.std.specs.Prelude.{ℕ, ◌+◌, ◌==◌, ◌&&◌, not, Bool, if◌then◌else◌, List, [], ◌∷◌, length, take, slice_index, Option, Some, None}
+use Rattle.std.specs.Prelude.{ℕ, ◌==◌, not, if◌then◌else◌, List, [], ◌∷◌, length, take, slice_index, Option, Some, None}
 use Rattle.apdu_core.specs.Command.{CommandData}
 use Rattle.card_cryptogram.specs.Scripts.{has_code, block_in}
 use Rattle.card_files.specs.AppRules.{is_plain_block}
 use Rattle.card_files.specs.Views.{AppData}
 use Rattle.card_state.specs.declared.decision.Decision.TheVariants.{Script}
 use Rattle.card_state.specs.declared.decision.Scripted.{Scripted}
-use Rattle.card_state.specs.declared.decision.Scripted.TheVariants.{Block, Unblock, CardBlock, PinUnblock, PinChange, Count, Sum}
+use Rattle.card_state.specs.declared.decision.Scripted.TheVariants.{Block, Unblock, CardBlock, PinUnblock, PinChange, Count}
 use Rattle.card_state.specs.declared.state.AppState.{AppState}
 use Rattle.card_state.specs.declared.state.CardState.{CardState}
 use Rattle.card_app.specs.Replies.{ReplyData, refused, decides, with_app}

@@ -1,11 +1,9 @@
 -- What a contract sees of a reply that is not carried out yet.
-use Rattle.std.specs.Prelude.{◌≡◌, ℕ, ◌<◌, List, [], ◌∷◌, length, slice_get, Bool, Option, Some, None, IfSome, ⊤}
+use Rattle.std.specs.Prelude.{◌≡◌, ℕ, ◌<◌, List, length, slice_get, Bool, Option, Some, IfSome}
 use Rattle.std.specs.Str.{bytes_eq}
 use Rattle.apdu_core.specs.Command.{CommandData}
 use Rattle.card_files.specs.Views.{AppData}
 use Rattle.card_pages.specs.SeenKept.{MayTake}
-use Rattle.card_state.specs.Decisions.{Decided}
-use Rattle.card_state.specs.declared.decision.Decision.{Decision}
 use Rattle.card_state.specs.declared.decision.Decision.TheVariants.{PinTry}
 use Rattle.card_state.specs.declared.state.AppState.{AppState}
 use Rattle.card_state.specs.declared.state.CardState.{CardState}

@@ -80,7 +80,7 @@ next_phase image phase c body status =
     else if c.ins == 0xA8 then (if status == 0x9000 then started phase else phase)
     else if c.ins == 0xAE then (if status == 0x9000 then with_cryptogram image c.body body phase else phase)
     else if c.ins == 0x82 then
-        (if status == 0x9000 then authenticated true phase else if status == 0x6300 then authenticated false phase else phase)
+    (if status == 0x9000 then authenticated true phase else if status == 0x6300 then authenticated false phase else phase)
     else phase
 
 abbrev pub after_said : List AppData → Phase → Option CommandData → Option ResponseData → Phase

@@ -35,13 +35,7 @@ fn status_of(right: bool) -> u16
 
 /// The decision whether the issuer is authenticated.
 #[tactic(auto, unfolding(crate::specs::Cryptograms::authenticate_for, crate::specs::Session::next_phase))]
-fn judge(
-    app: &AppImage,
-    state: &AppState,
-    number: u8,
-    first: First,
-    command: &Command<'_>,
-) -> Reply
+fn judge(app: &AppImage, state: &AppState, number: u8, first: First, command: &Command<'_>) -> Reply
     requires ins { command.now.ins ≡ 0x82 }
     ensures said { reply_data [] result ≡ spec.authenticate_for number first command.now.body.now app.now state.now }
     ensures leads { LeadsFor number app.now (Online number first None) (seen_command command.now) [] result }

@@ -125,7 +125,13 @@ impl<'i, P: Pages> Card<'i, P> {
             → Allowed (opening_of self.entry.image) (ds ++ (card_answer self.entry.image ds session command.now).new) }
     {
         let mut body = Body::new();
-        let reply = answer(self.image, self.kept.state(), self.phase, command, &mut body);
+        let reply = answer(
+            self.image,
+            self.kept.state(),
+            self.phase,
+            command,
+            &mut body,
+        );
         let Card { image, kept, phase } = self;
         match carry_out(kept, phase, reply, &body, out) {
             Ok((kept, phase)) => Ok(Card { image, kept, phase }),

@@ -75,7 +75,13 @@ fn make_first(
 }
 
 /// The kind of the first cryptogram.
-fn first_of(app: &AppImage, state: &AppState, card_blocked: bool, asked: Kind, given: &Given) -> Kind
+fn first_of(
+    app: &AppImage,
+    state: &AppState,
+    card_blocked: bool,
+    asked: Kind,
+    given: &Given,
+) -> Kind
     ensures kind { result ≡ spec.first_of card_blocked asked app.now state.now given.now }
     ensures may { MayDecide state.now (FirstKind result (spec.amount_in given.now) given.now.currency) }
 {

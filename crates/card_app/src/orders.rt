@@ -20,7 +20,12 @@ fn change_to(limit: u8, block: [u8; 8]) -> Option<Scripted>
 }
 
 /// What an order does, where its data allow it.
-pub(crate) fn scripted_of(order: Order, app: &AppImage, first: &First, body: &[u8]) -> Option<Scripted>
+pub(crate) fn scripted_of(
+    order: Order,
+    app: &AppImage,
+    first: &First,
+    body: &[u8],
+) -> Option<Scripted>
     requires { length body.now ≡ size_wanted order }
     ensures { result ≡ spec.scripted_of order app.now first.now body.now }
 {

@@ -25,7 +25,10 @@ pub(crate) struct Comparison {
 #[derive(Clone, Copy, PartialEq, Eq, Debug)]
 pub(crate) enum Reply {
     /// Nothing is decided.
-    Plain { status: u16, phase: Phase },
+    Plain {
+        status: u16,
+        phase: Phase,
+    },
     /// One decision, and then the answer.
     Decides {
         app: u8,

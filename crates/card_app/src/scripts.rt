@@ -115,9 +115,7 @@ pub(crate) fn script(
             first,
             command,
         ),
-        Phase::Idle
-        | Phase::Selected { .. }
-        | Phase::Started { .. }
-        | Phase::Closed { .. } => refused(phase, CONDITIONS_NOT_SATISFIED),
+        Phase::Idle | Phase::Selected { .. } | Phase::Started { .. } | Phase::Closed { .. } =>
+            refused(phase, CONDITIONS_NOT_SATISFIED),
     }
 }

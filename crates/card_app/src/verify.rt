@@ -66,12 +66,7 @@ fn compare_with(app: &AppImage, state: &AppState, number: u8, command: &Command<
 
 /// VERIFY with a plain PIN block.
 #[tactic(auto, unfolding(crate::specs::Answering::verify_row, crate::specs::Session::next_phase))]
-pub(crate) fn verify(
-    image: &Image,
-    state: &CardState,
-    phase: Phase,
-    command: &Command<'_>,
-) -> Reply
+pub(crate) fn verify(image: &Image, state: &CardState, phase: Phase, command: &Command<'_>) -> Reply
     requires apps { length state.now.apps.items ≡ length image.now }
     requires at { IsAt phase (length image.now) }
     requires ins { command.now.ins ≡ 0x20 }

@@ -1,14 +1,13 @@
 -- The kind and the cryptogram are read back from a body in either format.
-use Rattle.std.proofs.Common.{◌≡◌, ◌≢◌, ℕ, suc, ◌+◌, ◌==◌, Bool, true, false, List, [], ◌∷◌, ◌++◌, length, take, drop, slice_index, Some, refl, ap, ◌∙◌, arith, length-append}
+use Rattle.std.proofs.Common.{◌≡◌, ◌≢◌, ℕ, suc, ◌+◌, ◌==◌, true, false, List, [], ◌∷◌, ◌++◌, length, take, drop, slice_index, Some, refl, ap, ◌∙◌, arith, length-append}
 use Rattle.std.specs.Int.{to_be_bytes, w16}
 use Rattle.std.proofs.lemmas.List.{take_at}
 use Rattle.std.proofs.lemmas.Bool.Decides.{nat_tests}
-use Rattle.ber_tlv.specs.Written.{written, tag_bytes, length_bytes}
+use Rattle.ber_tlv.specs.Written.{written, length_bytes}
 use Rattle.emv_dict.specs.Kinds.{kind_byte, kind_of}
 use Rattle.emv_dict.specs.declared.ending.Kind.{Kind}
 use Rattle.emv_dict.specs.declared.ending.Kind.TheVariants.{Aac, Tc, Arqc}
-use Rattle.card_state.specs.declared.state.AppState.{AppState}
-use Rattle.card_cryptogram.specs.Bodies.{iad_of, body_one, body_two, body_with, kind_in, cryptogram_in}
+use Rattle.card_cryptogram.specs.Bodies.{body_one, body_two, kind_in, cryptogram_in}
 
 kind_back : (kind : Kind) → kind_of (kind_byte kind) ≡ Some kind
 kind_back Aac = refl

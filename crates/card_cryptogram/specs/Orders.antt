@@ -1,6 +1,6 @@
 -- The issuer's script commands by their codes (EMV 4.3 Book 3 sections 6.5.1 to 6.5.3 and 6.5.10; PUT DATA is
 -- this project's own).
-use Rattle.std.specs.Prelude.{ℕ, ◌==◌, ◌&&◌, Bool, if◌then◌else◌, List, Option, Some, None}
+use Rattle.std.specs.Prelude.{ℕ, ◌==◌, ◌&&◌, if◌then◌else◌, List, Option, Some, None}
 use Rattle.std.specs.List.{list_all}
 use Rattle.card_state.specs.declared.decision.Scripted.{Scripted}
 use Rattle.card_state.specs.declared.decision.Scripted.TheVariants.{Sum}

@@ -1,6 +1,6 @@
 -- What an issuer sends under session keys: the code of a script command, a PIN that is enciphered, and the
 -- response cryptogram (EMV 4.3 Book 2 sections 8.2 and 9).
-use Rattle.std.specs.Prelude.{ℕ, List, ◌++◌, ◌-◌, ◌==◌, ◌&&◌, Bool, length, take, drop}
+use Rattle.std.specs.Prelude.{ℕ, List, ◌-◌, ◌==◌, ◌&&◌, Bool, length, take, drop}
 use Rattle.std.specs.Str.{bytes_eq}
 use Rattle.app_cryptogram.specs.Cryptograms.{arpc_of, script_mac_of}
 use Rattle.card_keys.specs.Session.{session_ac_of, session_script_of}

@@ -1,5 +1,5 @@
 -- What a power-up finds, and what the pages stand for where it is cut.
-use Rattle.std.proofs.Common.{◌≡◌, ◌⊎◌, ℕ, Bool, true, false, List, [], ◌∷◌, ◌++◌, Option, Some, None, refl, ap, sym, subst, ◌∙◌, inl, inr}
+use Rattle.std.proofs.Common.{◌≡◌, ◌⊎◌, ℕ, Bool, true, false, List, [], ◌∷◌, Option, Some, None, ap, subst, ◌∙◌, inl, inr}
 use Rattle.card_state.specs.Decisions.{Decided}
 use Rattle.card_state.specs.Encoding.{encoding, IsCardState}
 use Rattle.card_state.specs.Totals.{totals}
@@ -10,9 +10,8 @@ use Rattle.torn_store.specs.Layout.{recover}
 use Rattle.torn_store.specs.Recovery.{Holds, Between}
 use Rattle.torn_store.proofs.Outcomes.{has_first}
 use Rattle.torn_store.proofs.Stored.{holds_among, one_of_two}
-use Rattle.card_pages.specs.Cuts.{commit_of}
-use Rattle.card_pages.specs.Pages.{Cells, StandsFor, StandsBetween, MayStand, found_of}
-use Rattle.card_pages.specs.SeenKept.{KeptState, KeptOn}
+use Rattle.card_pages.specs.Pages.{Cells, MayStand, found_of}
+use Rattle.card_pages.specs.SeenKept.{KeptOn}
 
 either : {A : Type 0} (one other : A) → (one ≡ other) ⊎ (one ≡ other) → one ≡ other
 either one other (inl is) = is

@@ -1,5 +1,5 @@
 -- What pages stand for behind a cut release, and behind a power-up.
-use Rattle.std.proofs.Common.{◌≡◌, ◌⊎◌, ℕ, ◌+◌, ◌*◌, ◌<◌, ◌≤◌, Bool, true, false, ◌==◌, ◌&&◌, nat_le, List, [], ◌∷◌, ◌++◌, length, get_or, slice_get, slice_set, Option, Some, None, option_map, refl, ap, sym, subst, ◌∙◌, inl, inr, arith, append-nil}
+use Rattle.std.proofs.Common.{◌≡◌, ℕ, ◌+◌, ◌*◌, ◌<◌, ◌≤◌, Bool, true, false, ◌==◌, nat_le, List, [], ◌∷◌, ◌++◌, length, get_or, slice_get, slice_set, Option, Some, None, option_map, refl, ap, sym, subst, ◌∙◌, arith, append-nil}
 use Rattle.std.specs.Prelude.{if◌then◌else◌}
 use Rattle.std.proofs.lemmas.Bool.Decides.{nat_tests}
 use Rattle.std.proofs.lemmas.List.{length-set}
@@ -9,7 +9,7 @@ use Rattle.card_state.specs.Encoding.{encoding, IsCardState}
 use Rattle.card_state.specs.Totals.{totals}
 use Rattle.card_state.specs.declared.state.AppState.{AppState}
 use Rattle.card_state.specs.declared.state.CardState.{CardState}
-use Rattle.emv_ports.specs.Cut.{is_named, is_among, cuts_among, release_cut}
+use Rattle.emv_ports.specs.Cut.{is_named, is_among, release_cut}
 use Rattle.emv_ports.specs.Causes.{one_more}
 use Rattle.emv_ports.specs.Memory.{Memory, next, next_release_cut}
 use Rattle.torn_store.specs.Store.{IsGone}
@@ -19,12 +19,12 @@ use Rattle.emv_ports.specs.declared.tear.Tear.{Tear}
 use Rattle.emv_ports.specs.declared.tear.TearAt.{TearAt}
 use Rattle.emv_ports.specs.declared.tear.TearAt.TheVariants.{Before, Within, Release}
 use Rattle.torn_store.specs.Layout.{recover, changed, commit_writes}
-use Rattle.torn_store.specs.Recovery.{Holds, Between}
-use Rattle.torn_store.proofs.Outcomes.{has_first, has_second}
+use Rattle.torn_store.specs.Recovery.{Holds}
+use Rattle.torn_store.proofs.Outcomes.{has_second}
 use Rattle.torn_store.proofs.Stored.{holds_among}
-use Rattle.card_pages.specs.SeenKept.{KeptState, KeptOn, KeptLost, CutAt}
-use Rattle.card_pages.specs.Cuts.{Cut, Left, commit_of, cut_of, behind_one, left_at, left_of, kept_by, pending_by}
-use Rattle.card_pages.specs.Pages.{Cells, StandsFor, StandsBetween, MayStand, found_of}
+use Rattle.card_pages.specs.SeenKept.{KeptOn, CutAt}
+use Rattle.card_pages.specs.Cuts.{Cut, commit_of, cut_of, behind_one, left_at, left_of, kept_by, pending_by}
+use Rattle.card_pages.specs.Pages.{Cells, StandsFor, StandsBetween, MayStand}
 
 -- one element changed
 pub same_count : (old new : List AppState) (app : ℕ) (behind : AppState → AppState) → app < length old

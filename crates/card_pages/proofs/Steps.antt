@@ -1,5 +1,5 @@
 -- One decision after another.
-use Rattle.std.proofs.Common.{◌≡◌, ℕ, ◌+◌, Bool, true, false, List, [], ◌∷◌, ◌++◌, length, Option, Some, None, option_map, refl, ap, sym, subst, ◌∙◌, arith, append-nil}
+use Rattle.std.proofs.Common.{◌≡◌, ℕ, ◌+◌, Bool, true, false, List, [], ◌∷◌, ◌++◌, Option, Some, None, option_map, refl, ap, sym, subst, ◌∙◌, arith, append-nil}
 use Rattle.std.specs.Prelude.{if◌then◌else◌}
 use Rattle.std.proofs.lemmas.List.{append_assoc}
 use Rattle.card_state.specs.Decisions.{Decided}
@@ -10,7 +10,7 @@ use Rattle.emv_ports.specs.Memory.{Memory}
 use Rattle.emv_ports.specs.declared.tear.Tear.{Tear}
 use Rattle.card_pages.specs.Cuts.{Cut, Left, Dropped, Joined, Pending, commit_of, cut_of, behind_one, left_of, kept_by, pending_by}
 use Rattle.card_pages.specs.Pages.{MayStand}
-use Rattle.card_pages.specs.SeenKept.{KeptState, KeptOn, KeptLost, Took, CutAt}
+use Rattle.card_pages.specs.SeenKept.{KeptState, KeptOn, Took, CutAt}
 
 abbrev alone : Decided → Cut
 alone d = record { before = []; cut = d }

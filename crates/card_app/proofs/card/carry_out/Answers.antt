@@ -1,6 +1,5 @@
 -- Each kind of reply takes its decisions, or one of them is cut.
-use Rattle.std.proofs.Common.{◌≡◌, [], ◌∷◌, sym, subst}
-use Rattle.card_state.specs.Decisions.{Decided}
+use Rattle.std.proofs.Common.{[], sym, subst}
 use Rattle.card_pages.specs.Cuts.{Cut}
 use Rattle.card_pages.specs.SeenKept.{Took, CutAt}
 use Rattle.card_app.specs.SeenReply.{reply_data}
@@ -21,10 +20,11 @@ returns-in-Ok-clause-takes g c opening ds plan made on =
 pub returns-in-Err-clause-cut : goal.returns-in-Err-clause-cut
 returns-in-Err-clause-cut g c opening ds plan made on =
     let lost = g.P.Pages.memory c.in-Err.lost.pages in
-    let at : Cut = record { before = []; cut = record { app = c.in-Decides.app; decision = c.in-Decides.decision } } in
-    (at,
-    subst (λ (r : Reply). CutAt c.args.kept.memory lost opening ds (reply_data c.args.body.now.items r).new plan made at) (sym c.in-Decides.is)
-    (c.in-Err.ensures.cut opening ds plan made on))
+    let at : Cut = record { before = []; cut = record { app = c.in-Decides.app; decision = c.in-Decides.decision } } in (
+      at,
+      subst (λ (r : Reply). CutAt c.args.kept.memory lost opening ds (reply_data c.args.body.now.items r).new plan made at) (sym c.in-Decides.is)
+          (c.in-Err.ensures.cut opening ds plan made on),
+    )
 
 pub returns-in-Ok-compare-clause-takes : goal.returns-in-Ok-compare-clause-takes
 returns-in-Ok-compare-clause-takes g c opening ds plan made on =
@@ -34,6 +34,7 @@ returns-in-Ok-compare-clause-takes g c opening ds plan made on =
 pub returns-in-Err-compare-clause-cut : goal.returns-in-Err-compare-clause-cut
 returns-in-Err-compare-clause-cut g c opening ds plan made on =
     let lost = g.P.Pages.memory c.in-Err-compare.lost.pages in
-    let one = c.in-Err-compare.ensures.cut opening ds plan made on in
-    (one.0,
-    subst (λ (r : Reply). CutAt c.args.kept.memory lost opening ds (reply_data c.args.body.now.items r).new plan made one.0) (sym c.in-Compares.is) one.1)
+    let one = c.in-Err-compare.ensures.cut opening ds plan made on in (
+      one.0,
+      subst (λ (r : Reply). CutAt c.args.kept.memory lost opening ds (reply_data c.args.body.now.items r).new plan made one.0) (sym c.in-Compares.is) one.1,
+    )

@@ -1,5 +1,5 @@
 -- What was written is read back.
-use Rattle.std.proofs.Common.{◌≡◌, List, ℕ, ap, ◌∙◌, arith}
+use Rattle.std.proofs.Common.{List, ℕ, ap, ◌∙◌, arith}
 use Rattle.card_cryptogram.specs.Bodies.{kind_in, cryptogram_in}
 use Rattle.card_cryptogram.proofs.ReadBack.{one_kind, one_cryptogram, two_kind, two_cryptogram}
 use Rattle.card_cryptogram.proofs.bodies.write_body.Goals as goal

@@ -1,5 +1,5 @@
 -- The card is at the start of a session, with the state that was found.
-use Rattle.std.proofs.Common.{◌≡◌, [], refl}
+use Rattle.std.proofs.Common.{refl}
 use Rattle.card_files.specs.Files.{opening_of}
 use Rattle.card_pages.specs.Pages.{found_of}
 use Rattle.card_app.specs.Session.{phase_of}

@@ -23,7 +23,7 @@ returns-in-Ok-clause-answered g c session ds plan made on =
     let next : CardSeen = record { image = c.self.inside.image.now; kept = c.in-Ok.kept; phase = c.in-Ok.phase } in
     subst (λ (s : CardSeen). Answered s next session ds plan made c.args.command.now c.carry_out.new.out.items) c.self.view_is
     (answered shown session ds plan made here c.args.command.now body reply is c.in-Ok.kept c.in-Ok.phase c.carry_out.new.out.items
-        c.in-Ok.ensures.takes c.in-Ok.ensures.phase c.answer-reply.ensures.leads c.in-Ok.ensures.answer c.in-Ok.ensures.read_again)
+    c.in-Ok.ensures.takes c.in-Ok.ensures.phase c.answer-reply.ensures.leads c.in-Ok.ensures.answer c.in-Ok.ensures.read_again)
 
 pub returns-in-Ok-clause-allowed : goal.returns-in-Ok-clause-allowed
 returns-in-Ok-clause-allowed g c session ds plan made on allowed =

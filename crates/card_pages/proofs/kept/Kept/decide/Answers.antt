@@ -4,8 +4,6 @@ use Rattle.card_state.specs.Change.{changed}
 use Rattle.card_state.specs.Decisions.{Decided}
 use Rattle.card_state.specs.Encoding.{encoding, IsCardState}
 use Rattle.card_state.specs.Totals.{totals}
-use Rattle.card_state.specs.declared.state.AppState.{AppState}
-use Rattle.card_state.specs.declared.state.CardState.{CardState}
 use Rattle.emv_ports.specs.Memory.{Memory, next}
 use Rattle.emv_ports.specs.declared.tear.Tear.{Tear}
 use Rattle.torn_store.specs.Layout.{recover}

@@ -1,6 +1,5 @@
 -- The state that is found is that of the kept list, with or without the pending decision.
-use Rattle.std.proofs.Common.{◌≡◌, List, ℕ, Some, None, ap, sym, ◌∙◌}
-use Rattle.card_state.specs.Encoding.{encoding}
+use Rattle.std.proofs.Common.{◌≡◌, Some, None, sym, ◌∙◌}
 use Rattle.card_state.specs.Totals.{totals}
 use Rattle.card_state.specs.declared.state.CardState.{CardState}
 use Rattle.card_pages.specs.Pages.{found_of}
