@@ -113,7 +113,7 @@ impl<P: Pages> Kept<P> {
                 Ok(store) => Ok(Kept { store, state }),
                 Err(lost) => Err(lost),
             },
-            Err(lost) => Err(lost),
+            Err(torn) => Err(torn),
         }
     }
 
