@@ -10,4 +10,5 @@ pub record IsAsked (template : List ℕ) (before : ℕ) : Type 0 where
   pub command : List ℕ
   pub later : List (List ℕ)
   pub stands : drop before (commands_of template) ≡ command ∷ later
+  pub few : before < 512
   pub sendable : is_some (command_of command) ≡ true

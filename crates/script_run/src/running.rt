@@ -1,8 +1,10 @@
 //! The commands of one template, sent to the card in their order (EMV 4.3 Book 3 section 10.10).
-ghost use Rattle.std.specs.Prelude.{◌≡◌, ◌≤◌, ◌<◌, ◌+◌, ◌-◌, ◌*◌, ◌++◌, [], ◌∷◌, ℕ, List, length, drop, is_some, IsTrue, IsOk, min};
+ghost use Rattle.std.specs.Prelude.{◌≡◌, ◌≤◌, ◌<◌, ◌+◌, ◌-◌, ◌*◌, ◌++◌, [], ◌∷◌, ℕ, List, length, drop, is_some, true, IsOk, IfSome, MatchOption};
+ghost use Rattle.apdu_core.specs.Command.{command_of};
 ghost use Rattle.ber_tlv.specs.Left.{items_of};
 ghost use Rattle.emv_dict.specs.Progress.{Progress, Wants, Done, Leads};
 ghost use Rattle.script_run.specs.Ran.{all_went_on, failed_at, goes_on, ran, rest_of, template_ran};
+ghost use Rattle.script_run.specs.Leading.{RunNextLeads, left_next, AsksNumber};
 ghost use Rattle.script_run.specs.Ran as spec;
 ghost use Rattle.script_run.specs.Script.{commands_of};
 
@@ -62,8 +64,6 @@ pub enum RunNext {
 }
 
 impl Running {
-    ghost use Rattle.script_run.specs.Leading.{RunNextLeads, left_next, AsksNumber};
-
     /// Begins the script of a template's value, of which a copy is kept.
     pub fn begin(template: &[u8]) -> RunNext
         requires { length template.now ≤ 1024 }
@@ -84,11 +84,10 @@ impl Running {
         ensures wants { (whole : List (List ℕ) → Progress (List ℕ)) (answers : List (List ℕ))
             → Leads whole answers (rest_of self.now) → whole answers ≡ Wants out.new.items }
     {
-        let Some(command) = command_at(&self.template, self.before) else {
+        let Some(command) = asked(&self.template, self.before) else {
             unreachable!();
         };
-        out.clear();
-        append(out, command);
+        write_bytes(command, out);
     }
 
     /// Goes on with the card's answer.
@@ -124,15 +123,16 @@ impl Running {
 /// Goes on with the command that has so many before it.
 fn go_on(template: ArrayVec<u8, 1024>, identifier: [u8; 4], before: usize) -> RunNext
     requires whole { IsOk (items_of template.items) }
+    requires few { before ≤ 512 }
     ensures leads { (whole : List (List ℕ) → Progress (List ℕ)) (answers : List (List ℕ))
         → Leads whole answers (ran identifier (before + 1) (drop before (commands_of template.items))) → RunNextLeads whole answers result }
     ensures number { AsksNumber (before + 1) result }
     ensures left { left_next result ≤ length (drop before (commands_of template.items)) }
 {
-    let Some(command) = command_at(&template, before) else {
+    let Some(command) = asked(&template, before) else {
         return RunNext::Done(all_went_on(identifier));
     };
-    if read_command(command).is_ok() {
+    if is_command(command) {
         RunNext::Ask(Running {
             template,
             identifier,
@@ -141,6 +141,32 @@ fn go_on(template: ArrayVec<u8, 1024>, identifier: [u8; 4], before: usize) -> Ru
     } else {
         RunNext::Done(failed_at(identifier, before + 1))
     }
+}
+
+/// The command that has so many before it.
+fn asked(template: &ArrayVec<u8, 1024>, before: usize) -> Option<&[u8]>
+    requires { IsOk (items_of template.now.items) }
+    ensures left { MatchOption result (drop before (commands_of template.now.items) ≡ [])
+        (λ command. drop before (commands_of template.now.items) ≡ command.now ∷ drop (before + 1) (commands_of template.now.items)) }
+    ensures few { IfSome result (λ _. before < 512) }
+{
+    command_at(template, before)
+}
+
+/// Whether these bytes are a command.
+fn is_command(bytes: &[u8]) -> bool
+    ensures { result ≡ is_some (command_of bytes.now) }
+{
+    read_command(bytes).is_ok()
+}
+
+/// Writes a command as it is, in place of what `out` held.
+fn write_bytes(command: &[u8], out: &mut Out)
+    requires { is_some (command_of command.now) ≡ true }
+    ensures { out.new.items ≡ command.now }
+{
+    out.clear();
+    append(out, command);
 }
 
 /// Whether the next command follows behind this answer.

@@ -1,5 +1,5 @@
 //! The value of an issuer script template (EMV 4.3 Book 3 section 10.10).
-ghost use Rattle.std.specs.Prelude.{◌≡◌, ◌≤◌, Ok, IsOk, length, option_map, slice_get};
+ghost use Rattle.std.specs.Prelude.{◌≡◌, ◌≤◌, Ok, IsOk, IsSome, length, option_map, slice_get};
 ghost use Rattle.ber_tlv.specs.Left.{items_behind, items_of};
 ghost use Rattle.script_run.specs.Script.{script_of, commands_of, no_identifier};
 ghost use Rattle.script_run.specs.Only.{only_commands};
@@ -19,7 +19,8 @@ const NO_IDENTIFIER: [u8; 4] = [0; 4];
 /// value spells no script.
 #[tactic(auto, unfolding(crate::specs::Script::script_of))]
 pub(crate) fn read_identifier(template: &[u8]) -> Option<[u8; 4]>
-    ensures { result ≡ option_map (λ script. script.identifier) (script_of template.now) }
+    ensures identifier { result ≡ option_map (λ script. script.identifier) (script_of template.now) }
+    ensures whole { IsSome result → IsOk (items_of template.now) }
 {
     let mut cursor = Cursor::new(template);
     let Ok(first) = cursor.next() else {
@@ -43,6 +44,7 @@ pub(crate) fn read_identifier(template: &[u8]) -> Option<[u8; 4]>
 
 /// Whether each object that is left is a command, and nothing else is.
 fn only_commands(cursor: &mut Cursor) -> bool
+    requires { cursor.old.place ≤ length cursor.old.bytes }
     ensures { result ≡ only_commands (items_behind cursor.old.bytes cursor.old.place) }
 {
     loop {
