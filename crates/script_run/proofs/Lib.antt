@@ -1,0 +1,3 @@
+mod Form
+mod Bounds
+mod Stages
