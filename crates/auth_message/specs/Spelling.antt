@@ -59,8 +59,7 @@ request_paid f = record {
 abbrev pub request_fields : RequestData → List (ℕ × List ℕ)
 request_fields f =
     named_fields (request_named f)
-    ++ (0x5F24, f.t5f24) ∷ paid_fields (request_paid f)
-    ++ (0x9F10, f.t9f10) ∷ optional 0xDF11 f.tdf11
+    ++ ((0x5F24, f.t5f24) ∷ (paid_fields (request_paid f) ++ ((0x9F10, f.t9f10) ∷ optional 0xDF11 f.tdf11)))
 
 -- a request
 unfoldable pub request_bytes : RequestData → List ℕ
@@ -87,8 +86,7 @@ present_paid f = record {
 abbrev pub present_fields : PresentData → List (ℕ × List ℕ)
 present_fields f =
     named_fields (present_named f)
-    ++ paid_fields (present_paid f)
-    ++ (0x9F10, f.t9f10) ∷ (0x8A, f.t8a) ∷ []
+    ++ (paid_fields (present_paid f) ++ ((0x9F10, f.t9f10) ∷ (0x8A, f.t8a) ∷ []))
 
 -- a presentment
 unfoldable pub present_bytes : PresentData → List ℕ

@@ -1,6 +1,6 @@
 //! Writing the messages and the reply.
 ghost use Rattle.std.specs.Prelude.{◌≡◌, ◌+◌, ◌≤◌, ◌++◌, Ok, length, IfSome, IsTrue, option_map};
-ghost use Rattle.emv_dict.specs.Pan.{HasPanLength};
+ghost use Rattle.emv_dict.specs.Pan.{HasPanLength, pan_of, pan_field};
 ghost use Rattle.ber_tlv.specs.Tag.{is_readable};
 ghost use Rattle.ber_tlv.specs.Written.{written};
 ghost use Rattle.auth_message.specs.Accepted.{IsRequest, IsPresent, IsReversal};
@@ -130,9 +130,7 @@ pub fn write_reply(code: [u8; 2], auth: Option<&[u8]>, scripts: &[u8], out: &mut
 {
     let mut value = Message::new();
     put(&mut value, 0x8A, &code);
-    if let Some(auth) = auth {
-        put(&mut value, 0x91, auth);
-    }
+    put_bytes_if_there(&mut value, 0x91, auth);
     append(&mut value, scripts);
     finish(out, 0xE2, &value);
 }
@@ -142,6 +140,8 @@ fn put_named(out: &mut Message, named: &Named)
     requires room { length out.old.items ≤ 1500 }
     requires account_number { HasPanLength named.now.pan }
     ensures fields { out.new.items ≡ out.old.items ++ spelled (named_fields named.now) }
+    ensures read_again { pan_of (pan_field named.now.pan) ≡ Ok named.now.pan }
+    ensures sequence { IfSome named.now.t5f34 (λ v. length v ≡ 1) }
     ensures short { length out.new.items ≤ length out.old.items + 114 }
 {
     put(out, 0x9F1C, &named.t9f1c);
@@ -174,6 +174,20 @@ fn put_if_there<const N: usize>(out: &mut Message, tag: u32, value: &Option<[u8;
     requires few { N ≤ 32 }
     requires room { length out.old.items ≤ 2000 }
     ensures fields { out.new.items ≡ out.old.items ++ spelled (optional tag value.now) }
+    ensures sized { IfSome value.now (λ v. length v ≡ N) }
+    ensures short { length out.new.items ≤ length out.old.items + 38 }
+{
+    if let Some(bytes) = value {
+        put(out, tag, bytes);
+    }
+}
+
+/// Appends a field of any length that may be absent.
+fn put_bytes_if_there(out: &mut Message, tag: u32, value: Option<&[u8]>)
+    requires readable { IsTrue (is_readable tag) }
+    requires few { IfSome value (λ v. length v.now ≤ 32) }
+    requires room { length out.old.items ≤ 2000 }
+    ensures fields { out.new.items ≡ out.old.items ++ spelled (optional tag (option_map (λ v. v.now) value.entry)) }
     ensures short { length out.new.items ≤ length out.old.items + 38 }
 {
     if let Some(bytes) = value {
