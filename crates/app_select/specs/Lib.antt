@@ -9,4 +9,3 @@ pub mod NextLeads
 pub mod SeenSaid
 pub mod SeenCandidate
 pub mod SeenState
-pub mod TurnLeads

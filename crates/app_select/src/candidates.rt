@@ -1,12 +1,14 @@
 //! The candidates for selection (EMV 4.3 Book 1 sections 12.2.3 and 12.4).
-ghost use Rattle.std.specs.Prelude.{◌≡◌, ◌≤◌, ◌<◌, ◌+◌, ◌++◌, ◌∷◌, ℕ, [], List, length, take, drop, filter, map};
+ghost use Rattle.std.specs.Prelude.{◌≡◌, ◌≤◌, ◌<◌, ◌+◌, ◌++◌, ◌∷◌, ℕ, [], List, length, take, drop, filter, map, IfSome, IfNone};
+ghost use Rattle.emv_dict.specs.Settings.{IsSettings};
 ghost use Rattle.std.specs.List.{list_any};
 ghost use Rattle.app_select.specs.Candidates as spec;
 ghost use Rattle.app_select.specs.SeenCandidate.{seen_candidate, seen_all, is_ranked};
 
 use arrayvec::ArrayVec;
-use emv_dict::{AidRow, Name};
+use emv_dict::{AidRow, Name, Settings};
 use std::default::MadeWith;
+use std::marker::Model;
 
 /// The most applications that a terminal finds: 16 occurrences of each of 16 AIDs.
 pub(crate) const MOST: usize = 256;
@@ -28,8 +30,8 @@ pub struct Candidate<'s> {
     pub priority: Option<u8>,
 }
 
-/// Candidates, the first one first.
-pub(crate) type Candidates<'s> = ArrayVec<Candidate<'s>, MOST, &'s AidRow>;
+/// Candidates in a row. The row of the settings is a blank's.
+type List<'s> = ArrayVec<Candidate<'s>, MOST, &'s AidRow>;
 
 impl<'s> MadeWith<&'s AidRow> for Candidate<'s> {
     fn made_with(row: &'s AidRow) -> Candidate<'s> {
@@ -37,6 +39,65 @@ impl<'s> MadeWith<&'s AidRow> for Candidate<'s> {
             row,
             name: row.name.copy(),
             priority: None,
+        }
+    }
+}
+
+/// The candidates for selection: while the list is asked for the applications found so far, then those that
+/// are left to be tried, in their order. Contracts see the list of them.
+#[derive(Drop)]
+pub struct Candidates<'s> {
+    list: List<'s>,
+}
+
+impl<'s> Model for Candidates<'s> {
+    ghost use Rattle.std.specs.Prelude.{List};
+    ghost use Rattle.app_select.specs.Candidates.{CandidateData};
+    ghost use Rattle.app_select.specs.SeenCandidate.{seen_all};
+
+    ghost Value = { List CandidateData };
+
+    ghost view = { λ c. seen_all c.list.items };
+}
+
+impl<'s> Candidates<'s> {
+    /// No candidates yet, for a terminal with these settings.
+    pub fn new(settings: &'s Settings) -> Candidates<'s>
+        requires { IsSettings settings.now }
+        ensures { result ≡ [] }
+    {
+        let [row, ..] = settings.aids.as_slice() else {
+            unreachable!();
+        };
+        Candidates {
+            list: List::new_in(row),
+        }
+    }
+
+    /// Adds an application that was found.
+    pub(crate) fn push(&mut self, candidate: Candidate<'s>)
+        requires { length self.old < 256 }
+        ensures { self.new ≡ self.old ++ seen_candidate candidate.entry ∷ [] }
+    {
+        self.list.push(candidate);
+    }
+
+    /// Takes out the first candidate.
+    pub(crate) fn pop_front(&mut self) -> Option<Candidate<'s>>
+        ensures some { IfSome result (λ candidate. self.old ≡ seen_candidate candidate ∷ self.new) }
+        ensures none { IfNone result ((self.old ≡ []) × (self.new ≡ [])) }
+    {
+        self.list.pop_at(0)
+    }
+
+    /// Leaves the candidates among the applications found, in their order.
+    pub(crate) fn arrange(&mut self, confirm: bool)
+        ensures candidates { self.new ≡ spec.candidates confirm self.old }
+        ensures few { length self.new ≤ length self.old }
+    {
+        let found = self.list.take();
+        for rank in 1..=LAST_RANK {
+            push_ranked(&found, confirm, rank, &mut self.list);
         }
     }
 }
@@ -92,7 +153,7 @@ fn is_ranked(
 }
 
 /// Appends those of a rank among the applications found.
-fn push_ranked<'s>(found: &[Candidate<'s>], confirm: bool, rank: u8, list: &mut Candidates<'s>)
+fn push_ranked<'s>(found: &[Candidate<'s>], confirm: bool, rank: u8, list: &mut List<'s>)
     requires { length list.old.items + length (filter (spec.has_rank rank) (spec.allowed confirm (seen_all found.now))) ≤ 256 }
     ensures { seen_all list.new.items ≡ seen_all list.old.items ++ filter (spec.has_rank rank) (spec.allowed confirm (seen_all found.now)) }
 {
@@ -108,13 +169,3 @@ fn push_ranked<'s>(found: &[Candidate<'s>], confirm: bool, rank: u8, list: &mut 
     }
 }
 
-/// Puts the candidates among the applications found into their order.
-pub(crate) fn arrange<'s>(confirm: bool, list: &mut Candidates<'s>)
-    ensures candidates { seen_all list.new.items ≡ spec.candidates confirm (seen_all list.old.items) }
-    ensures few { length list.new.items ≤ length list.old.items }
-{
-    let found = list.take();
-    for rank in 1..=LAST_RANK {
-        push_ranked(&found, confirm, rank, list);
-    }
-}

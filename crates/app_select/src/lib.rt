@@ -4,8 +4,11 @@
 
 pub mod candidates;
 pub mod fci;
+pub mod search;
 pub mod selecting;
 
+pub use candidates::Candidates;
+pub use search::{Choice, Search, SearchNext};
 pub use selecting::{SelectNext, Selected, Selecting, steps_give_chosen};
 
 #[cfg(test)]
