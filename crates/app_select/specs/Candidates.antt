@@ -1,5 +1,5 @@
 -- The candidates for selection and their order (EMV 4.3 Book 1 sections 12.2.3 and 12.4).
-use Rattle.std.specs.Prelude.{ℕ, zero, suc, List, [], ◌∷◌, ◌++◌, ◌%◌, ◌==◌, ◌||◌, Bool, false, not, nat_le, filter, Option, Some, None, if◌then◌else◌}
+use Rattle.std.specs.Prelude.{ℕ, zero, suc, List, [], ◌∷◌, ◌++◌, ◌+◌, ◌%◌, ◌==◌, ◌||◌, Bool, false, not, nat_le, filter, Option, Some, None, if◌then◌else◌}
 use Rattle.std.specs.List.{list_any}
 use Rattle.std.specs.Str.{bytes_eq}
 use Rattle.emv_dict.specs.declared.purchase.AidRow.{AidRow}
@@ -44,7 +44,7 @@ has_rank rank candidate = rank_of candidate.priority == rank
 -- those of this rank, then those of the next one, for so many ranks
 abbrev pub by_rank : ℕ → ℕ → List CandidateData → List CandidateData
 by_rank rank zero candidates = []
-by_rank rank (suc ranks) candidates = filter (has_rank rank) candidates ++ by_rank (suc rank) ranks candidates
+by_rank rank (suc ranks) candidates = filter (has_rank rank) candidates ++ by_rank (rank + 1) ranks candidates
 
 -- in the order of priority; those of one priority in the order found
 abbrev pub ordered : List CandidateData → List CandidateData

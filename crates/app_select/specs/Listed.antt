@@ -1,10 +1,9 @@
 -- The list of applications (EMV 4.3 Book 1 section 12.3.3): each AID of the terminal is selected, and
 -- again for its next occurrence.
-use Rattle.std.specs.Prelude.{ℕ, List, [], ◌∷◌, ◌+◌, ◌&&◌, Bool, false, nat_lt, map, Option, Some, None, if◌then◌else◌}
+use Rattle.std.specs.Prelude.{ℕ, List, [], ◌∷◌, ◌+◌, ◌&&◌, Bool, false, nat_lt, Option, Some, None, if◌then◌else◌}
 use Rattle.std.specs.List.{filter_map}
 use Rattle.std.specs.Option.{option_or}
 use Rattle.app_select.specs.Candidates.{CandidateData}
-use Rattle.app_select.specs.Fci.{FciData}
 use Rattle.app_select.specs.Said.{SaidData, Unreadable, Blocked, Named, Nothing, select_said, fault_of, is_longer, is_supported}
 use Rattle.emv_dict.specs.declared.ending.Cause.{Cause}
 use Rattle.emv_dict.specs.declared.purchase.AidRow.{AidRow}

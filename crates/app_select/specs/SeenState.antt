@@ -5,10 +5,10 @@ use Rattle.app_select.specs.Listed.{most_occurrences}
 use Rattle.app_select.specs.SeenCandidate.{seen_candidate}
 use Rattle.app_select.specs.declared.search.Asked.{Asked}
 use Rattle.app_select.specs.declared.search.Asked.TheVariants as asked
-use Rattle.app_select.specs.declared.search.Course.{Course}
+use Rattle.app_select.specs.declared.course.Course.{Course}
 
 abbrev pub seen_course : Course → SearchData
-seen_course course = Listed (course.row.now ∷ course.later.now) course.turn course.confirm
+seen_course course = Listed (course.row.row.now ∷ course.later.now) course.turn course.confirm
 
 abbrev pub seen_asked : Asked → SearchData
 seen_asked (asked.Listed course) = seen_course course

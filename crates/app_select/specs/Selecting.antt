@@ -1,7 +1,6 @@
 -- Application selection as a step over the card's answers (EMV 4.3 Book 1 sections 12.3.3 and 12.4).
 use Rattle.std.specs.Prelude.{ℕ, List, [], ◌∷◌, ◌++◌, ◌==◌, Bool, Option, Some, None, if◌then◌else◌}
 use Rattle.app_select.specs.Candidates.{CandidateData, candidates}
-use Rattle.app_select.specs.Fci.{FciData}
 use Rattle.app_select.specs.Listed.{listed, first_fault, found_in}
 use Rattle.app_select.specs.Said.{SaidData, Unreadable, Blocked, Named, Nothing, select_said, select_command}
 use Rattle.emv_dict.specs.Progress.{Progress, Wants, Stopped, Done}

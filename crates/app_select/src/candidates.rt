@@ -1,12 +1,14 @@
 //! The candidates for selection (EMV 4.3 Book 1 sections 12.2.3 and 12.4).
-ghost use Rattle.std.specs.Prelude.{◌≡◌, ◌≤◌, ◌<◌, ◌+◌, ◌++◌, ◌∷◌, ℕ, [], List, length, take, drop, filter, map, IfSome, IfNone};
+ghost use Rattle.std.specs.Prelude.{◌≡◌, ◌≤◌, ◌<◌, ◌+◌, ◌++◌, ◌∷◌, ℕ, [], List, length, take, drop, filter, map, IfSome, IfNone, true, if◌then◌else◌};
+ghost use Rattle.std.specs.Str.{bytes_eq};
 ghost use Rattle.emv_dict.specs.Settings.{IsSettings};
 ghost use Rattle.std.specs.List.{list_any};
 ghost use Rattle.app_select.specs.Candidates as spec;
-ghost use Rattle.app_select.specs.SeenCandidate.{seen_candidate, seen_all, is_ranked};
+ghost use Rattle.app_select.specs.SeenCandidate.{seen_candidate, seen_all, is_kept, is_ranked};
 
+use crate::course::Row;
 use arrayvec::ArrayVec;
-use emv_dict::{AidRow, Name, Settings};
+use emv_dict::{Name, Settings};
 use std::default::MadeWith;
 use std::marker::Model;
 
@@ -21,9 +23,9 @@ const CONFIRMATION: u8 = 0x80;
 
 /// An application of the card that the terminal supports.
 #[derive(Drop)]
-pub struct Candidate<'s> {
+pub(crate) struct Candidate<'s> {
     /// The terminal's row that it was found by.
-    pub row: &'s AidRow,
+    pub row: Row<'s>,
     /// Its name.
     pub name: Name,
     /// Its priority indicator (87).
@@ -31,16 +33,23 @@ pub struct Candidate<'s> {
 }
 
 /// Candidates in a row. The row of the settings is a blank's.
-type List<'s> = ArrayVec<Candidate<'s>, MOST, &'s AidRow>;
+type List<'s> = ArrayVec<Candidate<'s>, MOST, Row<'s>>;
 
-impl<'s> MadeWith<&'s AidRow> for Candidate<'s> {
-    fn made_with(row: &'s AidRow) -> Candidate<'s> {
+impl<'s> MadeWith<Row<'s>> for Candidate<'s> {
+    fn made_with(row: Row<'s>) -> Candidate<'s> {
         Candidate {
             row,
-            name: row.name.copy(),
+            name: blank_name(),
             priority: None,
         }
     }
+}
+
+/// The name in an unused place, which is made faster than a copy of another.
+fn blank_name() -> Name {
+    let mut bytes = ArrayVec::new();
+    bytes.push(0);
+    Name(bytes)
 }
 
 /// The candidates for selection: while the list is asked for the applications found so far, then those that
@@ -70,7 +79,7 @@ impl<'s> Candidates<'s> {
             unreachable!();
         };
         Candidates {
-            list: List::new_in(row),
+            list: List::new_in(Row { row }),
         }
     }
 
@@ -96,9 +105,7 @@ impl<'s> Candidates<'s> {
         ensures few { length self.new ≤ length self.old }
     {
         let found = self.list.take();
-        for rank in 1..=LAST_RANK {
-            push_ranked(&found, confirm, rank, &mut self.list);
-        }
+        push_all(&found, confirm, &mut self.list);
     }
 }
 
@@ -115,11 +122,17 @@ fn rank_of(priority: Option<u8>) -> u8
     }
 }
 
-/// Whether one of these candidates has a name.
-fn has_name(candidates: &[Candidate<'_>], name: &Name) -> bool
-    ensures { result ≡ list_any (spec.has_name name.now) (seen_all candidates.now) }
+fn has_name(candidate: &Candidate<'_>, name: &Name) -> bool
+    ensures { result ≡ bytes_eq candidate.now.name name.now }
 {
-    candidates.iter().any(|other| other.name == *name)
+    candidate.name == *name
+}
+
+/// Whether one of these candidates has a name.
+fn is_named(candidates: &[Candidate<'_>], name: &Name) -> bool
+    ensures { result ≡ list_any (λ other. bytes_eq other.name name.now) candidates.now }
+{
+    candidates.iter().any(|other| has_name(other, name))
 }
 
 /// Whether the terminal has a way to confirm an application of this priority, or none is needed.
@@ -138,18 +151,33 @@ fn needs_confirmation(priority: Option<u8>) -> bool
     }
 }
 
-/// Whether a candidate behind these is the first of its name, may be selected, and has this rank.
-fn is_ranked(
-    earlier: &[Candidate<'_>],
-    candidate: &Candidate<'_>,
-    confirm: bool,
-    rank: u8,
-) -> bool
+/// Whether a candidate behind these is the first of its name, and may be selected.
+#[tactic(auto, using(crate::proofs::Ranks::any_seen))]
+fn is_kept(earlier: &[Candidate<'_>], candidate: &Candidate<'_>, confirm: bool) -> bool
+    ensures { result ≡ is_kept confirm (seen_all earlier.now) (seen_candidate candidate.now) }
+{
+    is_allowed(confirm, candidate) && !is_named(earlier, &candidate.name)
+}
+
+/// Whether one that stays has this rank.
+fn is_ranked(earlier: &[Candidate<'_>], candidate: &Candidate<'_>, confirm: bool, rank: u8) -> bool
     ensures { result ≡ is_ranked confirm rank (seen_all earlier.now) (seen_candidate candidate.now) }
 {
-    rank_of(candidate.priority) == rank
-        && is_allowed(confirm, candidate)
-        && !has_name(earlier, &candidate.name)
+    rank_of(candidate.priority) == rank && is_kept(earlier, candidate, confirm)
+}
+
+/// Appends a candidate where it is wanted.
+fn push_if<'s>(is_wanted: bool, candidate: &Candidate<'s>, list: &mut List<'s>)
+    requires { is_wanted ≡ true → length list.old.items < 256 }
+    ensures { seen_all list.new.items ≡ seen_all list.old.items ++ (if is_wanted then seen_candidate candidate.now ∷ [] else []) }
+{
+    if is_wanted {
+        list.push(Candidate {
+            row: candidate.row,
+            name: candidate.name.copy(),
+            priority: candidate.priority,
+        });
+    }
 }
 
 /// Appends those of a rank among the applications found.
@@ -159,13 +187,20 @@ fn push_ranked<'s>(found: &[Candidate<'s>], confirm: bool, rank: u8, list: &mut 
 {
     for place in 0..found.len() {
         let candidate = &found[place];
-        if is_ranked(&found[..place], candidate, confirm, rank) {
-            list.push(Candidate {
-                row: candidate.row,
-                name: candidate.name.copy(),
-                priority: candidate.priority,
-            });
-        }
+        let is_wanted = is_ranked(&found[..place], candidate, confirm, rank);
+        push_if(is_wanted, candidate, list);
     }
 }
 
+/// Puts the candidates among the applications found into an empty list, in their order.
+#[tactic(auto, unfolding(crate::specs::Candidates::candidates))]
+fn push_all<'s>(found: &[Candidate<'s>], confirm: bool, list: &mut List<'s>)
+    requires empty { list.old.items ≡ [] }
+    requires few { length found.now ≤ 256 }
+    ensures candidates { seen_all list.new.items ≡ spec.candidates confirm (seen_all found.now) }
+    ensures few { length list.new.items ≤ length found.now }
+{
+    for rank in 1..=LAST_RANK {
+        push_ranked(found, confirm, rank, list);
+    }
+}

@@ -45,7 +45,7 @@ pub(crate) enum Said<'a> {
 }
 
 /// Reads an answer to SELECT.
-#[tactic(auto, unfolding(crate::specs::Said::select_said))]
+#[tactic(auto, using(crate::proofs::Bounds::said_short), unfolding(crate::specs::Said::select_said))]
 pub(crate) fn read_select(reply: &[u8]) -> Said<'_>
     ensures exact { seen_said result ≡ select_said reply.now }
     ensures short { IsSaidShort (select_said reply.now) }

@@ -3,6 +3,7 @@
 #![tactic(auto)]
 
 pub mod candidates;
+mod course;
 pub mod fci;
 pub mod search;
 pub mod selecting;

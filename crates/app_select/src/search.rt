@@ -1,12 +1,13 @@
 //! Application selection with its candidates lent (EMV 4.3 Book 1 sections 12.3.3 and 12.4).
 ghost use Rattle.std.specs.Prelude.{◌≡◌, ◌≤◌, ◌<◌, ◌+◌, ◌*◌, ◌∷◌, ◌++◌, ℕ, [], List, length, option_map};
 ghost use Rattle.emv_dict.specs.Progress.{Progress, Wants, Leads};
-ghost use Rattle.emv_dict.specs.Settings.{IsSettings};
+ghost use Rattle.emv_dict.specs.Settings.{IsSettings, IsAidRow};
 ghost use Rattle.app_select.specs.Candidates.{CandidateData};
 ghost use Rattle.app_select.specs.Leading.{rest_with, answers_left, HasRoom};
 ghost use Rattle.app_select.specs.Selecting.{SelectedData, opening, selecting};
 
 use crate::candidates::{Candidate, Candidates};
+use crate::course::{Course, Row};
 use apdu_core::Out;
 use arrayvec::ArrayVec;
 use emv_dict::{AidRow, Cause, Settings};
@@ -14,21 +15,10 @@ use std::marker::Model;
 
 mod turns;
 
-use turns::{choose, listed, opened, write_asked};
+use turns::{choose, first_row, listed, opened, write_asked};
 
 /// The bytes of a processing options data object list (9F38): it stands in the body of an answer.
 pub(crate) type Pdol = ArrayVec<u8, 256>;
-
-/// The way through the list of AIDs: the row that is asked for, those behind it, and the number of its
-/// occurrence from 0.
-#[derive(Drop)]
-pub(crate) struct Course<'s> {
-    row: &'s AidRow,
-    later: &'s [AidRow],
-    turn: u8,
-    /// Whether the cardholder can confirm an application.
-    confirm: bool,
-}
 
 /// Which SELECT is to be answered.
 #[derive(Drop)]
@@ -60,7 +50,7 @@ impl<'s> Model for Search<'s> {
 /// An application that is selected. The candidates behind it stand beside it.
 #[derive(Drop)]
 pub struct Choice<'s> {
-    row: &'s AidRow,
+    row: Row<'s>,
     pdol: Option<Pdol>,
 }
 
@@ -70,7 +60,7 @@ impl<'s> Model for Choice<'s> {
 
     ghost Value = { ChoiceData };
 
-    ghost view = { λ c. record { row = c.row.now; pdol = option_map (λ list. list.items) c.pdol } };
+    ghost view = { λ c. record { row = c.row.row.now; pdol = option_map (λ list. list.items) c.pdol } };
 }
 
 /// How application selection goes on.
@@ -97,18 +87,7 @@ impl<'s> Search<'s> {
         // Sixteen SELECTs of each of sixteen AIDs, and the final ones of all applications so found.
         ensures few { answers_left result [] ≤ 16 * 16 + 256 }
     {
-        let [row, later @ ..] = settings.aids.as_slice() else {
-            unreachable!();
-        };
-        let course = Course {
-            row,
-            later,
-            turn: 0,
-            confirm,
-        };
-        Search {
-            asked: Asked::Listed(course),
-        }
+        first_row(settings.aids.as_slice(), confirm)
     }
 
     /// Writes the command that the card is to answer, in place of what `out` held.
@@ -129,7 +108,8 @@ impl<'s> Search<'s> {
         // Fewer answers are left to be taken.
         ensures nearer { answers_left_next result candidates.new < answers_left self.entry candidates.old }
     {
-        match self.asked {
+        let Search { asked } = self;
+        match asked {
             Asked::Listed(course) => listed(course, candidates, reply),
             Asked::Final(candidate) => opened(candidate, candidates, reply),
         }
@@ -141,9 +121,10 @@ impl<'s> Choice<'s> {
 
     /// The terminal's row of the application.
     pub fn row(&self) -> &'s AidRow
-        ensures { result.now ≡ self.now.row }
+        ensures row { result.now ≡ self.now.row }
+        ensures valid { IsAidRow result.now }
     {
-        self.row
+        self.row.row
     }
 
     /// The processing options data object list (9F38), where the card gave one.

@@ -1,7 +1,7 @@
 //! Application selection with the candidates in its state (EMV 4.3 Book 1 sections 12.3.3 and 12.4).
 ghost use Rattle.std.specs.Prelude.{◌≡◌, ◌≤◌, ◌∷◌, ◌++◌, ℕ, [], List, Bool, option_map};
 ghost use Rattle.emv_dict.specs.Progress.{Progress, Wants, Leads};
-ghost use Rattle.emv_dict.specs.Settings.{IsSettings};
+ghost use Rattle.emv_dict.specs.Settings.{IsSettings, IsAidRow};
 ghost use Rattle.emv_dict.specs.declared.purchase.AidRow.{AidRow};
 ghost use Rattle.app_select.specs.Candidates.{CandidateData};
 ghost use Rattle.app_select.specs.Chosen.{Follow, chosen, first_of, followed};
@@ -97,7 +97,8 @@ impl<'s> Selecting<'s> {
 impl<'s> Selected<'s> {
     /// The terminal's row of the application.
     pub fn row(&self) -> &'s AidRow
-        ensures { result.now ≡ self.now.row }
+        ensures row { result.now ≡ self.now.row }
+        ensures valid { IsAidRow result.now }
     {
         self.choice.row()
     }

@@ -1,10 +1,12 @@
 //! What an answer to SELECT changes.
-ghost use Rattle.std.specs.Prelude.{◌≡◌, ◌≤◌, ◌<◌, ◌+◌, ◌-◌, ◌*◌, ◌∷◌, ◌++◌, ◌==◌, ℕ, [], List, Bool, length, option_map, if◌then◌else◌};
+ghost use Rattle.std.specs.Prelude.{◌≡◌, ◌≤◌, ◌<◌, ◌+◌, ◌-◌, ◌*◌, ◌∷◌, ◌++◌, ◌==◌, ℕ, [], List, Bool, length, option_map, true, if◌then◌else◌};
 ghost use Rattle.std.specs.Option.{option_to_list};
+ghost use Rattle.std.specs.List.{All};
+ghost use Rattle.emv_dict.specs.Settings.{IsAidRow};
 ghost use Rattle.emv_dict.specs.Progress.{Progress, Wants, Leads};
 ghost use Rattle.app_select.specs.Candidates.{CandidateData};
 ghost use Rattle.app_select.specs.Fci.{FciData, IsShort};
-ghost use Rattle.app_select.specs.Leading.{rest_with, answers_left, HasRoom};
+ghost use Rattle.app_select.specs.Leading.{Listed, rest_with, answers_left, HasRoom};
 ghost use Rattle.app_select.specs.Listed.{found_by, goes_on, most_occurrences};
 ghost use Rattle.app_select.specs.NextLeads.{SearchNextLeads, NextHasRoom, answers_left_next};
 ghost use Rattle.app_select.specs.Said.{Named, select_said, select_command, is_longer, is_supported};
@@ -13,8 +15,9 @@ ghost use Rattle.app_select.specs.SeenSaid.{seen_fci};
 ghost use Rattle.app_select.specs.SeenState.{seen_asked, seen_course};
 ghost use Rattle.app_select.specs.Selecting.{SelectedData, listing, opening};
 
-use super::{Asked, Choice, Course, Pdol, Search, SearchNext};
+use super::{Asked, Choice, Pdol, Search, SearchNext};
 use crate::candidates::{Candidate, Candidates};
+use crate::course::{Course, Row};
 use crate::fci::{Fci, Said, read_select};
 use apdu_core::{Command, Out, write_command};
 use emv_dict::{AidRow, Cause, Name};
@@ -34,7 +37,7 @@ pub(super) fn write_asked(asked: &Asked<'_>, out: &mut Out)
     ensures { (candidates : List CandidateData) → rest_with (seen_asked asked.now) candidates [] ≡ Wants out.new.items }
 {
     match asked {
-        Asked::Listed(course) => write_select(&course.row.name, occurrence(course.turn), out),
+        Asked::Listed(course) => write_select(&course.row.row.name, occurrence(course.turn), out),
         Asked::Final(candidate) => write_select(&candidate.name, FIRST_OCCURRENCE, out),
     }
 }
@@ -103,11 +106,13 @@ fn named<'s>(
     ensures nearer { answers_left_next result candidates.new < answers_left (seen_course course.entry) candidates.old }
 {
     add(course.row, valid, fci, candidates);
-    if goes_on(course.row, course.turn, &fci.name) {
+    if goes_on(course.row.row, course.turn, &fci.name) {
         SearchNext::Ask(Search {
             asked: Asked::Listed(Course {
+                row: course.row,
+                later: course.later,
                 turn: course.turn + 1,
-                ..course
+                confirm: course.confirm,
             }),
         })
     } else {
@@ -116,12 +121,12 @@ fn named<'s>(
 }
 
 /// Adds the application that a readable FCI gives, where it is valid and the terminal supports it.
-fn add<'s>(row: &'s AidRow, valid: bool, fci: &Fci<'_>, candidates: &mut Candidates<'s>)
+fn add<'s>(row: Row<'s>, valid: bool, fci: &Fci<'_>, candidates: &mut Candidates<'s>)
     requires { length candidates.old < 256 }
-    ensures found { candidates.new ≡ candidates.old ++ option_to_list (found_by row.now (Named valid (seen_fci fci.now))) }
+    ensures found { candidates.new ≡ candidates.old ++ option_to_list (found_by row.entry.row.now (Named valid (seen_fci fci.now))) }
     ensures few { length candidates.new ≤ length candidates.old + 1 }
 {
-    if valid && is_supported(row, &fci.name) {
+    if valid && is_supported(row.row, &fci.name) {
         candidates.push(Candidate {
             row,
             name: fci.name.copy(),
@@ -149,9 +154,29 @@ fn is_longer(row: &AidRow, name: &Name) -> bool
 /// Whether the next occurrence of an AID is asked for behind this name.
 fn goes_on(row: &AidRow, turn: u8, name: &Name) -> bool
     requires { turn < most_occurrences }
-    ensures { (valid : Bool) (fci : FciData) → fci.name ≡ name.now → result ≡ goes_on row.now turn (Named valid fci) }
+    ensures exact { (valid : Bool) (fci : FciData) → fci.name ≡ name.now → result ≡ goes_on row.now turn (Named valid fci) }
+    ensures few { result ≡ true → turn + 1 < most_occurrences }
 {
     is_longer(row, name) && turn + 1 < MOST_OCCURRENCES
+}
+
+/// Asks for the first of these rows.
+pub(super) fn first_row<'s>(rows: &'s [AidRow], confirm: bool) -> Search<'s>
+    requires valid { All IsAidRow rows.now }
+    requires some { 1 ≤ length rows.now }
+    ensures { result ≡ Listed rows.entry.now 0 confirm }
+{
+    let [row, later @ ..] = rows else {
+        unreachable!();
+    };
+    Search {
+        asked: Asked::Listed(Course {
+            row: Row { row },
+            later,
+            turn: 0,
+            confirm,
+        }),
+    }
 }
 
 /// Goes on with the next row of the list, or behind the list with the first candidate.
@@ -160,26 +185,19 @@ fn next_row<'s>(
     confirm: bool,
     candidates: &mut Candidates<'s>,
 ) -> SearchNext<'s>
-    requires { length candidates.old + most_occurrences * length later.now ≤ 256 }
+    requires valid { All IsAidRow later.now }
+    requires room { length candidates.old + most_occurrences * length later.now ≤ 256 }
     ensures leads { (whole : List (List ℕ) → Progress SelectedData) (answers : List (List ℕ))
         → Leads whole answers (listing (record { found = candidates.old; rows = later.entry.now; turn = 0; confirm = confirm }))
         → SearchNextLeads candidates.new whole answers result }
     ensures room { NextHasRoom result candidates.new }
     ensures nearer { answers_left_next result candidates.new ≤ 2 * (most_occurrences * length later.entry.now) + length candidates.old }
 {
-    match later {
-        [row, later @ ..] => SearchNext::Ask(Search {
-            asked: Asked::Listed(Course {
-                row,
-                later,
-                turn: 0,
-                confirm,
-            }),
-        }),
-        [] => {
-            candidates.arrange(confirm);
-            choose(candidates)
-        }
+    if later.is_empty() {
+        candidates.arrange(confirm);
+        choose(candidates)
+    } else {
+        SearchNext::Ask(first_row(later, confirm))
     }
 }
 
