@@ -1,0 +1,4 @@
+pub mod Bounds
+pub mod Ranks
+pub mod Turns
+pub mod Chains
