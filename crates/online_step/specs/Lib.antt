@@ -1,0 +1,4 @@
+pub mod Ac
+pub mod Authenticate
+pub mod Generate
+pub mod SeenAc
