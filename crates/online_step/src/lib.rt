@@ -10,3 +10,6 @@ mod objects;
 pub use ac::{Ac, read_ac};
 pub use authenticate::{authenticate_command, read_verdict};
 pub use generate::{fill_list, write_generate};
+
+#[cfg(test)]
+mod tests;
