@@ -1,1 +1,5 @@
 pub mod Opened
+pub mod Sizes
+pub mod Spelled
+pub mod ReadBack
+pub mod Again
