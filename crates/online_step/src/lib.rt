@@ -4,12 +4,16 @@
 
 pub mod ac;
 pub mod authenticate;
+pub mod captures;
 pub mod generate;
 mod objects;
+pub mod online;
 
 pub use ac::{Ac, read_ac};
 pub use authenticate::{authenticate_command, read_verdict};
+pub use captures::{presentment, reversal};
 pub use generate::{fill_list, write_generate};
+pub use online::request;
 
 #[cfg(test)]
 mod tests;
