@@ -8,3 +8,6 @@ mod template;
 
 pub use laws::commands_are_asked_in_turn;
 pub use running::{RunNext, Running};
+
+#[cfg(test)]
+mod tests;
