@@ -1,0 +1,2 @@
+-- The fields of the messages are as they must be.
+use Rattle.std.proofs.Common.{◌≡◌, ℕ}
