@@ -1,20 +1,15 @@
 -- Each message that is written is read back with the same fields.
-use Rattle.std.proofs.Common.{◌≡◌, ℕ, Bool, true, false, ◌&&◌, IsTrue, IfSome, ◌≤◌, nat_le, List, [], ◌∷◌, ◌++◌, length, Option, Some, None, Result, Ok, Err, refl, sym, ap, ◌∙◌, arith, append-nil, ◌==◌}
+use Rattle.std.proofs.Common.{◌≡◌, ℕ, true, false, ◌&&◌, IfSome, ◌≤◌, nat_le, List, [], ◌∷◌, ◌++◌, length, Option, Some, None, Ok, refl, sym, ap, ◌∙◌, arith, append-nil, ◌==◌}
 use Rattle.std.proofs.lemmas.Bool.{le-leb}
-use Rattle.ber_tlv.specs.Item.{ItemData}
-use Rattle.emv_dict.specs.Pan.{pan_of, pan_field, HasPanLength}
-use Rattle.auth_message.specs.declared.fault.MessageFault.{MessageFault}
+use Rattle.emv_dict.specs.Pan.{pan_of, pan_field}
 use Rattle.auth_message.specs.declared.message.Incoming.TheVariants.{Request, Present, Reverse}
-use Rattle.auth_message.specs.declared.groups.Named.{Named}
-use Rattle.auth_message.specs.declared.groups.Paid.{Paid}
 use Rattle.auth_message.specs.declared.reversal.ReversalFields.{ReversalFields}
 use Rattle.auth_message.specs.Accepted.{AreDigits, IsRequest, IsPresent, IsReversal}
 use Rattle.auth_message.specs.Data.{RequestData, PresentData}
-use Rattle.auth_message.specs.Fields.{◌>>=◌, fixed_at, some_at, fixed_if_there, ended}
-use Rattle.auth_message.specs.Groups.{named_at, paid_at}
+use Rattle.auth_message.specs.Fields.{◌>>=◌, fixed_if_there}
 use Rattle.auth_message.specs.Message.{message_of, message_in}
 use Rattle.auth_message.specs.Messages.{request_at, present_at, reversal_at}
-use Rattle.auth_message.specs.Spelling.{optional, named_fields, paid_fields, request_fields, request_named, request_paid, request_bytes, present_named, present_paid, reversal_named, spelled, present_fields, present_bytes, reversal_fields, reversal_bytes}
+use Rattle.auth_message.specs.Spelling.{optional, paid_fields, request_fields, request_named, request_paid, request_bytes, present_named, present_paid, reversal_named, spelled, present_fields, present_bytes, reversal_fields, reversal_bytes}
 use Rattle.auth_message.proofs.Spelled.{placed, are_tags, fields_read, front_length, optional_front, optional_last}
 use Rattle.auth_message.proofs.ReadBack.{IsOther, IsNamed, IsPaid, IsOptional, next_place, named_again, paid_again, fixed_again, some_again, optional_again, any_bytes, digit_bytes}
 

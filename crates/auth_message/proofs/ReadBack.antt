@@ -1,14 +1,11 @@
 -- Fields that are spelled are read back.
-use Rattle.std.proofs.Common.{◌≡◌, ℕ, Bool, true, false, ◌&&◌, IsTrue, IfSome, ◌+◌, ◌≤◌, ◌==◌, not, ◌||◌, nat_le, List, [], ◌∷◌, ◌++◌, length, Option, Some, None, Result, Ok, Err, refl, sym, ap, ◌∙◌, arith}
-use Rattle.ber_tlv.specs.Item.{ItemData}
+use Rattle.std.proofs.Common.{◌≡◌, ℕ, Bool, true, false, ◌&&◌, IfSome, ◌+◌, ◌==◌, nat_le, List, ◌∷◌, ◌++◌, length, Option, Some, None, Ok, refl, arith}
 use Rattle.ber_tlv.specs.Written.{written}
-use Rattle.emv_dict.specs.Pan.{pan_of, pan_field, HasPanLength}
-use Rattle.emv_dict.specs.Digits.{AllDecimal}
-use Rattle.auth_message.specs.declared.fault.MessageFault.{MessageFault}
+use Rattle.emv_dict.specs.Pan.{pan_of, pan_field}
 use Rattle.auth_message.specs.declared.groups.Named.{Named}
 use Rattle.auth_message.specs.declared.groups.Paid.{Paid}
 use Rattle.auth_message.specs.Accepted.{AreDigits}
-use Rattle.auth_message.specs.Field.{are_digits, is_fixed, fixed_value, some_value}
+use Rattle.auth_message.specs.Field.{is_fixed, fixed_value, some_value}
 use Rattle.auth_message.specs.Fields.{given, behind, wanted, fixed_at, some_at, pan_at, fixed_if_there}
 use Rattle.auth_message.specs.Groups.{named_at, paid_at}
 use Rattle.auth_message.specs.Spelling.{optional, named_fields, paid_fields}
@@ -98,17 +95,19 @@ paid_again place paid rest is =
     let eighth = next_place seventh 0x9C paid.t9c in
     let ninth = next_place eighth 0x9F37 paid.t9f37 in
     let tenth = next_place ninth 0x82 paid.t82 in
-    let eleventh = next_place tenth 0x9F36 paid.t9f36 in
-    (next_place eleventh 0x9F26 paid.t9f26, rw (
-    fixed_again 6 true 0x9F02 place paid.t9f02 (_) is.t9f02,
-    fixed_again 6 true 0x9F03 second paid.t9f03 (_) is.t9f03,
-    fixed_again 2 false 0x9F1A third paid.t9f1a (_) is.t9f1a,
-    fixed_again 5 false 0x95 fourth paid.t95 (_) is.t95,
-    fixed_again 2 true 0x5F2A fifth paid.t5f2a (_) is.t5f2a,
-    fixed_again 3 true 0x9A sixth paid.t9a (_) is.t9a,
-    fixed_again 1 false 0x9C seventh paid.t9c (_) is.t9c,
-    fixed_again 4 false 0x9F37 eighth paid.t9f37 (_) is.t9f37,
-    fixed_again 2 false 0x82 ninth paid.t82 (_) is.t82,
-    fixed_again 2 false 0x9F36 tenth paid.t9f36 (_) is.t9f36,
-    fixed_again 8 false 0x9F26 eleventh paid.t9f26 (_) is.t9f26,
-    ) refl)
+    let eleventh = next_place tenth 0x9F36 paid.t9f36 in (
+      next_place eleventh 0x9F26 paid.t9f26,
+      rw (
+        fixed_again 6 true 0x9F02 place paid.t9f02 (_) is.t9f02,
+        fixed_again 6 true 0x9F03 second paid.t9f03 (_) is.t9f03,
+        fixed_again 2 false 0x9F1A third paid.t9f1a (_) is.t9f1a,
+        fixed_again 5 false 0x95 fourth paid.t95 (_) is.t95,
+        fixed_again 2 true 0x5F2A fifth paid.t5f2a (_) is.t5f2a,
+        fixed_again 3 true 0x9A sixth paid.t9a (_) is.t9a,
+        fixed_again 1 false 0x9C seventh paid.t9c (_) is.t9c,
+        fixed_again 4 false 0x9F37 eighth paid.t9f37 (_) is.t9f37,
+        fixed_again 2 false 0x82 ninth paid.t82 (_) is.t82,
+        fixed_again 2 false 0x9F36 tenth paid.t9f36 (_) is.t9f36,
+        fixed_again 8 false 0x9F26 eleventh paid.t9f26 (_) is.t9f26,
+      ) refl,
+    )

@@ -1,7 +1,7 @@
 -- How long a field gets.
 use Rattle.std.proofs.Common.{ℕ, ◌+◌, ◌≤◌, Bool, true, false, List, length, arith, length-append, ◌≡◌, refl}
 use Rattle.std.specs.Prelude.{nat_lt}
-use Rattle.ber_tlv.specs.Written.{written, tag_bytes, length_bytes}
+use Rattle.ber_tlv.specs.Written.{written, tag_bytes}
 use Rattle.ber_tlv.proofs.Spelling.{any_count}
 
 tag_short : (tag : ℕ) (p q : Bool) → nat_lt tag 256 ≡ p → nat_lt tag 65536 ≡ q → length (tag_bytes tag) ≤ 3

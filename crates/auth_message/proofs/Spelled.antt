@@ -1,13 +1,12 @@
 -- The items of fields as they are spelled.
-use Rattle.std.proofs.Common.{◌≡◌, ℕ, Bool, true, false, ◌&&◌, IsTrue, ◌+◌, ◌-◌, ◌<◌, ◌≤◌, ◌==◌, nat_lt, List, [], ◌∷◌, ◌++◌, length, take, Option, Some, None, Result, Ok, Err, slice_get, slice_index, refl, sym, ap, subst, ◌∙◌, arith, append_assoc, append-nil, length-append, zero-add}
+use Rattle.std.proofs.Common.{◌≡◌, ℕ, Bool, true, ◌&&◌, ◌+◌, ◌-◌, ◌<◌, ◌==◌, nat_lt, List, [], ◌∷◌, ◌++◌, length, take, Option, Some, None, Ok, slice_get, slice_index, refl, sym, ap, subst, ◌∙◌, arith, append_assoc, append-nil, length-append}
 use Rattle.std.specs.List.{list_all, list_any}
 use Rattle.std.proofs.lemmas.Bool.Decides.{nat_tests}
 use Rattle.ber_tlv.specs.Item.{ItemData, item_at}
 use Rattle.ber_tlv.specs.Items.{Begins, NextItem}
-use Rattle.ber_tlv.specs.Left.{items_behind, items_of, then_left}
+use Rattle.ber_tlv.specs.Left.{items_behind, then_left}
 use Rattle.ber_tlv.specs.Tag.{is_readable}
 use Rattle.ber_tlv.specs.Written.{tag_bytes, length_bytes, written}
-use Rattle.ber_tlv.specs.declared.item.TlvFault.{TlvFault}
 use Rattle.ber_tlv.proofs.ReadAgain.{item_read, both}
 use Rattle.ber_tlv.proofs.Reading.{no_zeros, left-item, left-end}
 use Rattle.auth_message.specs.Outer.{outer_of}
@@ -105,22 +104,21 @@ outer_read known tag content items is is_known inside =
     alone_item known bytes item (length bytes) items first (sym (left-end bytes (length bytes) (no_zeros bytes (length bytes) (omega arith))))
     (ap (λ b. items_behind b (length bytes - length content)) (take_whole bytes) ∙ inside) is_known
 
-header : ℕ → List ℕ → List ℕ
+abbrev pub header : ℕ → List ℕ → List ℕ
 header tag content = tag_bytes tag ++ length_bytes (length content)
 
-in_parts : (tag : ℕ) (content : List ℕ) → written tag content ≡ header tag content ++ content
-unfolding written header
+pub in_parts : (tag : ℕ) (content : List ℕ) → written tag content ≡ header tag content ++ content
+unfolding written
 in_parts tag content = refl
 
 -- how many bytes stand before the value of a message
-pub front_length : ℕ → List ℕ → ℕ
+abbrev pub front_length : ℕ → List ℕ → ℕ
 front_length tag content = length (header tag content)
 
 -- a message of fields, and what its value holds behind them
 pub message_read : (known : List ℕ) (tag : ℕ) (fields : List (ℕ × List ℕ)) (rest : List ℕ) (items : List ItemData) → is_tag tag ≡ true → list_any (λ t. t == tag) known ≡ true → are_tags fields ≡ true
     → items_behind (written tag (spelled fields ++ rest)) (front_length tag (spelled fields ++ rest) + length (spelled fields)) ≡ Ok items
     → outer_of known (written tag (spelled fields ++ rest)) ≡ Ok (tag, placed (front_length tag (spelled fields ++ rest)) fields ++ items)
-unfolding front_length
 message_read known tag fields rest items is is_known are behind =
     let content = spelled fields ++ rest in
     let bytes = written tag content in
@@ -130,7 +128,6 @@ message_read known tag fields rest items is is_known are behind =
 -- a message of fields alone
 pub fields_read : (known : List ℕ) (tag : ℕ) (fields : List (ℕ × List ℕ)) → is_tag tag ≡ true → list_any (λ t. t == tag) known ≡ true → are_tags fields ≡ true
     → outer_of known (written tag (spelled fields)) ≡ Ok (tag, placed (front_length tag (spelled fields)) fields)
-unfolding front_length
 fields_read known tag fields is is_known are =
     let content = spelled fields in
     let bytes = written tag content in

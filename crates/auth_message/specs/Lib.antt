@@ -8,4 +8,5 @@ pub mod Message
 pub mod Messages
 pub mod Outer
 pub mod Reply
+pub mod Script
 pub mod Spelling

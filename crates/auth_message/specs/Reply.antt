@@ -1,6 +1,6 @@
 -- The reply that bytes are, or its first fault (own; the templates of EMV 4.3 Book 3 section 10.10).
-use Rattle.std.specs.Prelude.{◌≡◌, ℕ, ◌-◌, ◌≤◌, ◌==◌, ◌&&◌, ◌||◌, nat_le, Bool, true, false, if◌then◌else◌, List, [], ◌∷◌, length, drop, take_while, slice_range, Option, Some, None, Result, Ok, Err}
-use Rattle.std.specs.List.{All}
+use Rattle.std.specs.Prelude.{◌≡◌, ℕ, ◌≤◌, ◌==◌, ◌&&◌, ◌||◌, nat_le, Bool, false, IsTrue, if◌then◌else◌, List, [], ◌∷◌, length, slice_range, Option, Result, Ok, Err}
+use Rattle.std.specs.List.{list_all}
 use Rattle.ber_tlv.specs.Item.{ItemData, item_at}
 use Rattle.ber_tlv.specs.Left.{items_of}
 use Rattle.ber_tlv.specs.declared.item.TlvFault.{TlvFault}
@@ -27,10 +27,12 @@ is_template item = item.tag == 0x71 || item.tag == 0x72
 
 -- the scripts that come next, and what stands behind them
 abbrev pub templates : List ItemData → List ItemData
-templates items = take_while is_template items
+templates [] = []
+templates (item ∷ items) = (if is_template item then item ∷ templates items else [])
 
 abbrev pub behind_templates : List ItemData → List ItemData
-behind_templates items = drop (length (templates items)) items
+behind_templates [] = []
+behind_templates (item ∷ items) = (if is_template item then behind_templates items else item ∷ items)
 
 -- the place behind the item that begins at a place
 abbrev pub end_in : Result (ItemData × ℕ) TlvFault → ℕ
@@ -40,15 +42,15 @@ end_in (Err fault) = 0
 abbrev pub end_of : List ℕ → ItemData → ℕ
 end_of bytes item = end_in (item_at bytes item.start)
 
--- the last of some items, or this one where there are none
-abbrev pub last_or : ItemData → List ItemData → ItemData
-last_or item [] = item
-last_or item (other ∷ others) = last_or other others
+-- the place behind the last of some items, or this one where there are none
+abbrev pub end_behind : List ℕ → ℕ → List ItemData → ℕ
+end_behind bytes end [] = end
+end_behind bytes end (item ∷ items) = end_behind bytes (end_of bytes item) items
 
 -- the bytes from the start of the first item to the end of the last one; none where there is none
 abbrev pub bytes_of : List ℕ → List ItemData → List ℕ
 bytes_of bytes [] = []
-bytes_of bytes (first ∷ others) = slice_range bytes first.start (end_of bytes (last_or first others))
+bytes_of bytes (first ∷ others) = slice_range bytes first.start (end_behind bytes (end_of bytes first) others)
 
 -- at most 8 scripts of at most 1,024 bytes together
 abbrev pub are_few : List ItemData → List ℕ → Bool
@@ -77,7 +79,7 @@ reply_of bytes = outer_of (0xE2 ∷ []) bytes >>= λ outer. reply_at bytes outer
 pub record AreScripts (bytes : List ℕ) : Type 0 where
   pub items : List ItemData
   pub listed : items_of bytes ≡ Ok items
-  pub templates : All (λ item. is_template item ≡ true) items
+  pub templates : IsTrue (list_all is_template items)
   pub few : length items ≤ 8
   pub short : length bytes ≤ 1024
   pub no_padding : bytes_of bytes items ≡ bytes

@@ -3,6 +3,7 @@ ghost use Rattle.std.specs.Prelude.{◌≡◌, MatchResult, Ok, Err};
 ghost use Rattle.auth_message.specs.Reply.{reply_of};
 
 use crate::fault::MessageFault;
+use crate::outer::open;
 use std::marker::Model;
 
 /// The host's reply.
@@ -26,7 +27,7 @@ impl<'a> Model for Reply<'a> {
     ghost view = { λ r. record {
       code = r.code;
       auth = option_map (λ value. value.now) r.auth;
-      scripts = r.scripts.now
+      scripts = r.scripts.now;
     } };
 }
 
@@ -34,8 +35,21 @@ impl<'a> Model for Reply<'a> {
 /// value, then another tag, then an item beside it; then 8A, of two bytes, and 91, of 8 to 16 bytes, as
 /// `Missing` and `Value`; then more than 8 scripts or more than 1,024 bytes of them as `Value` of 71; then
 /// an item behind the last script as `Coding`.
+#[tactic(auto, unfolding(crate::specs::Reply::reply_at))]
 pub fn read_reply(bytes: &[u8]) -> Result<Reply<'_>, MessageFault>
     ensures { MatchResult result (λ reply. reply_of bytes.now ≡ Ok reply) (λ fault. reply_of bytes.now ≡ Err fault) }
 {
-    Err(MessageFault::Coding(0))
+    let (_, mut fields) = match open(bytes, &[0xE2]) {
+        Ok(found) => found,
+        Err(fault) => return Err(fault),
+    };
+    let code = fields.fixed(0x8A, false)?;
+    let auth = fields.auth()?;
+    let scripts = fields.scripts()?;
+    fields.end()?;
+    Ok(Reply {
+        code,
+        auth,
+        scripts,
+    })
 }

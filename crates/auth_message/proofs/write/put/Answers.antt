@@ -1,4 +1,4 @@
-use Rattle.std.proofs.Common.{◌≡◌, ◌++◌, ◌≤◌, ◌+◌, length, List, ℕ, arith, length-append, ap, sym, ◌∙◌}
+use Rattle.std.proofs.Common.{◌≡◌, ◌++◌, length, List, ℕ, arith, length-append, ap}
 use Rattle.ber_tlv.specs.Written.{written}
 use Rattle.auth_message.proofs.Sizes.{written_short}
 use Rattle.auth_message.proofs.write.put.Goals as goal

@@ -1,4 +1,4 @@
-use Rattle.std.proofs.Common.{◌≡◌, ◌++◌, append_assoc, append-nil}
+use Rattle.std.proofs.Common.{append_assoc, append-nil}
 use Rattle.auth_message.proofs.write.put_paid.Goals as goal
 
 pub returns-clause-fields : goal.returns-clause-fields

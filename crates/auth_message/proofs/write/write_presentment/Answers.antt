@@ -1,9 +1,9 @@
-use Rattle.std.proofs.Common.{◌≡◌, ◌++◌, [], ap, ◌∙◌, subst}
+use Rattle.std.proofs.Common.{◌≡◌, ap, ◌∙◌, subst}
 use Rattle.ber_tlv.specs.Written.{written}
 use Rattle.auth_message.specs.declared.groups.Named.{Named}
 use Rattle.auth_message.specs.declared.groups.Paid.{Paid}
 use Rattle.auth_message.specs.Data.{PresentData}
-use Rattle.auth_message.specs.Spelling.{present_bytes, present_fields, spelled, named_fields, paid_fields, optional}
+use Rattle.auth_message.specs.Spelling.{present_bytes, present_fields, spelled, named_fields, paid_fields}
 use Rattle.auth_message.proofs.Spelled.{present_joined}
 use Rattle.auth_message.proofs.Again.{present_again, PresentSizes}
 use Rattle.auth_message.proofs.write.write_presentment.Goals as goal

@@ -1,4 +1,4 @@
-use Rattle.std.proofs.Common.{◌≡◌, ◌++◌, [], ap, ◌∙◌, subst}
+use Rattle.std.proofs.Common.{◌≡◌, ap, ◌∙◌, subst}
 use Rattle.ber_tlv.specs.Written.{written}
 use Rattle.auth_message.specs.declared.groups.Named.{Named}
 use Rattle.auth_message.specs.declared.groups.Paid.{Paid}

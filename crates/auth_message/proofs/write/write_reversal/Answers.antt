@@ -1,4 +1,4 @@
-use Rattle.std.proofs.Common.{◌≡◌, ◌++◌, [], refl, ap, ◌∙◌, length, arith}
+use Rattle.std.proofs.Common.{◌≡◌, ap, ◌∙◌, arith}
 use Rattle.ber_tlv.specs.Written.{written}
 use Rattle.auth_message.specs.Spelling.{reversal_bytes, reversal_fields, reversal_named, named_fields, spelled}
 use Rattle.auth_message.proofs.Spelled.{reversal_joined}
