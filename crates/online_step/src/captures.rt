@@ -4,7 +4,7 @@ ghost use Rattle.emv_dict.specs.Settings.{IsPurchase};
 ghost use Rattle.online_step.specs.Captures.{presentment_of, reversal_of};
 
 use crate::ac::Ac;
-use crate::online::sequence_number;
+use crate::fields::{country, cryptogram, currency, date, identification, number, sequence_number};
 use auth_message::{Message, PresentFields, ReversalFields, write_presentment, write_reversal};
 use emv_dict::{Purchase, Settings, Tvr, amount_bytes};
 use object_lists::CardData;
@@ -25,20 +25,20 @@ pub fn presentment(
     ensures { out.new.items ≡ presentment_of card.now settings.now purchase.now tvr.0 ac.now code }
 {
     let fields = PresentFields {
-        t9f1c: settings.id,
+        t9f1c: identification(settings),
         pan: card.pan.copy(),
         t5f34: sequence_number(card),
         t9f02: amount_bytes(purchase.amount),
         t9f03: amount_bytes(purchase.other),
-        t9f1a: settings.country,
+        t9f1a: country(settings),
         t95: tvr.bytes(),
-        t5f2a: purchase.currency,
-        t9a: purchase.date,
+        t5f2a: currency(purchase),
+        t9a: date(purchase),
         t9c: [purchase.trade],
-        t9f37: purchase.number,
+        t9f37: number(purchase),
         t82: card.aip,
         t9f36: ac.counter.to_be_bytes(),
-        t9f26: ac.cryptogram,
+        t9f26: cryptogram(ac),
         t9f10: &ac.iad,
         t8a: code,
     };
@@ -60,12 +60,12 @@ pub fn reversal(
     ensures { out.new.items ≡ reversal_of card.now settings.now purchase.now counter code }
 {
     let fields = ReversalFields {
-        t9f1c: settings.id,
+        t9f1c: identification(settings),
         pan: card.pan.copy(),
         t5f34: sequence_number(card),
         t9f36: counter.to_be_bytes(),
         t9f02: amount_bytes(purchase.amount),
-        t5f2a: purchase.currency,
+        t5f2a: currency(purchase),
         t8a: code,
     };
     write_reversal(&fields, out);

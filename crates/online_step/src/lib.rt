@@ -5,6 +5,7 @@
 pub mod ac;
 pub mod authenticate;
 pub mod captures;
+mod fields;
 pub mod generate;
 mod objects;
 pub mod online;

@@ -4,9 +4,10 @@ ghost use Rattle.auth_message.specs.Accepted.{AreDigits};
 ghost use Rattle.env_map.specs.Entries.{value_of};
 ghost use Rattle.emv_dict.specs.Digits.{HasPinLength};
 ghost use Rattle.online_step.specs.Request.{enciphered, request_of};
-ghost use Rattle.online_step.specs.TerminalData.{object as object_value, HasTerminalData};
+ghost use Rattle.online_step.specs.TerminalData.{HasTerminalData};
 
 use crate::ac::Ac;
+use crate::fields::{cryptogram, expiry, object, sequence_number};
 use auth_message::{Message, RequestFields, write_request};
 use ber_tlv::Tag;
 use emv_dict::{Digits, Settings};
@@ -28,7 +29,7 @@ pub fn request(
     out: &mut Message,
 )
     requires terminal { HasTerminalData terminal.now }
-    requires pin { IfSome pin.entry (λ digits. HasPinLength digits.now) }
+    requires pin { IfSome pin (λ digits. HasPinLength digits.now) }
     ensures { out.new.items ≡ request_of card.now terminal.now settings.now ac.now (option_map (λ digits. digits.now) pin.entry) }
 {
     let fields = RequestFields {
@@ -46,50 +47,16 @@ pub fn request(
         t9f37: object(terminal, 0x9f37),
         t82: card.aip,
         t9f36: ac.counter.to_be_bytes(),
-        t9f26: ac.cryptogram,
+        t9f26: cryptogram(ac),
         t9f10: &ac.iad,
         tdf11: enciphered(settings, card, pin),
     };
     write_request(&fields, out);
 }
 
-/// The value of an object that is there, with `N` bytes.
-fn object<const N: usize>(env: &Env, tag: u32) -> [u8; N]
-    requires some { 0 < N }
-    requires sized { length (object_value tag env.now) ≡ N }
-    ensures { result ≡ object_value tag env.now }
-{
-    let Some(value) = env.get(Tag(tag)) else {
-        unreachable!();
-    };
-    let mut bytes = [0; N];
-    bytes.copy_from_slice(value);
-    bytes
-}
-
-/// The application expiration date.
-fn expiry(card: &CardData) -> [u8; 3]
-    ensures value { result ≡ object_value 0x5F24 card.now.entries }
-    ensures digits { AreDigits result }
-{
-    object(card.env(), 0x5f24)
-}
-
-/// The sequence number of the account number, where the card has one.
-pub(crate) fn sequence_number(card: &CardData) -> Option<[u8; 1]>
-    ensures value { result ≡ value_of 0x5F34 card.now.entries }
-    ensures digits { IfSome result AreDigits }
-{
-    match card.value(Tag(0x5f34)) {
-        Some([byte]) => Some([*byte]),
-        Some(_) => unreachable!(),
-        None => None,
-    }
-}
-
 /// The PIN block that goes to the issuer, where a PIN was entered.
 fn enciphered(settings: &Settings, card: &CardData, pin: Option<&Digits>) -> Option<[u8; 8]>
-    requires { IfSome pin.entry (λ digits. HasPinLength digits.now) }
+    requires { IfSome pin (λ digits. HasPinLength digits.now) }
     ensures { result ≡ enciphered settings.now card.now (option_map (λ digits. digits.now) pin.entry) }
 {
     match pin {

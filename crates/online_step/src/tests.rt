@@ -1,11 +1,23 @@
 //! Answers of cards, many of them not as they should be, and the commands.
 ghost use Rattle.std.specs.Prelude.{◌≤◌};
+ghost use Rattle.emv_dict.specs.Settings.{IsPurchase};
 
-use crate::{authenticate_command, read_ac, read_verdict, write_generate};
+mod card;
+mod terminal;
+
+use crate::{
+    Ac, authenticate_command, fill_list, presentment, read_ac, read_verdict, request, reversal,
+    write_generate,
+};
 use apdu_core::Out;
 use arrayvec::ArrayVec;
+use auth_message::Message;
 use ber_tlv::Tag;
-use emv_dict::{Cause, Kind};
+use card::card;
+use emv_dict::{Cause, Digits, Kind, Purchase, Settings, Tvr};
+use std::alloc::Global;
+use std::process::Abort;
+use terminal::terminal;
 
 /// In each row the first or the second time, the kind that is asked, the answer in hexadecimal digits, and
 /// the kind, the counter and the cryptogram that it gives, or why it is refused.
@@ -260,3 +272,118 @@ fn verdicts_are_read(rt: HostRuntime) {
         assert_eq!(rt; read_verdict(&bytes(answer)), verdict, "{answer}");
     }
 }
+
+#[test]
+fn lists_are_filled(rt: HostRuntime) {
+    let card = card(&rt);
+    let terminal = terminal(&rt);
+    let mut filled = ArrayVec::new();
+    for (tag, data) in [
+        (
+            0x8c,
+            "0000000025000000000000000840800000000008402406150001020304",
+        ),
+        (
+            0x8d,
+            "30300000000025000000000000000840800000000008402406150001020304",
+        ),
+    ] {
+        assert!(rt; fill_list(Tag(tag), &card, &terminal, &mut filled));
+        assert_eq!(rt; filled.as_slice(), bytes(data).as_slice());
+    }
+}
+
+fn settings(alloc: Global) -> Settings {
+    Settings {
+        kind: 22,
+        country: [0x08, 0x40],
+        caps: [0xe0, 0xb8, 0xc8],
+        id: *b"TERM0001",
+        pin_key: [
+            0x51, 0xaf, 0x1a, 0xde, 0x33, 0x37, 0x90, 0xdf, 0xba, 0x4c, 0x02, 0x79, 0xc8, 0x8f,
+            0x16, 0x34,
+        ],
+        exceptions: Vec::new(alloc),
+        aids: Vec::new(alloc),
+    }
+}
+
+/// The cryptogram that an answer gives.
+fn ac(rt: &impl Abort, answer: &str) -> Option<Ac> {
+    match read_ac(&bytes(answer), Kind::Tc, false) {
+        Ok(ac) => Some(ac),
+        Err(_) => {
+            assert!(rt; false, "{answer}");
+            None
+        }
+    }
+}
+
+const REQUEST: &str =
+    "9f1c085445524d303030315a0847617390010100105f3401015f24032612319f02060000000025009f03060000000000009f1a020840950580000000005f2a0208409a032406159c01009f37040102030482021c009f3602000b9f2608204bb40db680038e9f1006018000000301";
+
+#[test]
+fn requests_are_written(rt: HostRuntime) {
+    let card = card(&rt);
+    let terminal = terminal(&rt);
+    let settings = settings(rt.alloc());
+    let Some(ac) = ac(&rt, "801180000b204bb40db680038e0180000003019000") else {
+        return;
+    };
+    let mut out = Message::new();
+    request(&card, &terminal, &settings, &ac, None, &mut out);
+    assert_eq!(rt; out.len(), 112);
+    assert!(rt; out.starts_with(&[0xe1, 0x6e]));
+    assert!(rt; out.ends_with(&bytes(REQUEST)));
+    let Some(pin) = Digits::new(&[1, 2, 3, 4]) else {
+        return;
+    };
+    request(&card, &terminal, &settings, &ac, Some(&pin), &mut out);
+    assert!(rt; out.starts_with(&[0xe1, 0x79]));
+    assert_eq!(rt;
+        &out.as_slice()[112..],
+        bytes("df11082f649716b1db47b5").as_slice()
+    );
+}
+
+fn purchase(alloc: Global) -> Purchase
+    ensures { IsPurchase result }
+{
+    Purchase {
+        amount: 2500,
+        other: 0,
+        currency: [0x08, 0x40],
+        trade: 0,
+        services: false,
+        date: [0x24, 0x06, 0x15],
+        time: [0x12, 0x00, 0x00],
+        number: [1, 2, 3, 4],
+        word: 49,
+        pins: Vec::new(alloc),
+        forced: false,
+        confirm: true,
+    }
+}
+
+#[test]
+fn purchases_are_settled(rt: HostRuntime) {
+    let card = card(&rt);
+    let settings = settings(rt.alloc());
+    let purchase = purchase(rt.alloc());
+    let Some(ac) = ac(&rt, "801140000baeeb602c93d476400140000003019000") else {
+        return;
+    };
+    let mut out = Message::new();
+    let tvr = Tvr::OFFLINE_DATA_AUTHENTICATION_NOT_PERFORMED.0
+        | Tvr::SCRIPT_FAILED_BEFORE_FINAL_CRYPTOGRAM.0;
+    presentment(&card, &settings, &purchase, Tvr(tvr), &ac, *b"00", &mut out);
+    assert_eq!(rt; out.as_slice(), bytes(PRESENTMENT).as_slice());
+    reversal(&card, &settings, &purchase, 11, *b"Z3", &mut out);
+    assert_eq!(rt; out.as_slice(), bytes(REVERSAL).as_slice());
+}
+
+const PRESENTMENT: &str =
+    "e36c9f1c085445524d303030315a0847617390010100105f3401019f02060000000025009f03060000000000009f1a020840950580000000205f2a0208409a032406159c01009f37040102030482021c009f3602000b9f2608aeeb602c93d476409f10060140000003018a023030";
+
+const REVERSAL: &str =
+    "e4309f1c085445524d303030315a0847617390010100105f3401019f3602000b9f02060000000025005f2a0208408a025a33";
