@@ -77,7 +77,7 @@ impl<'a> Cursor<'a> {
     }
 
     /// The place that the cursor has come to: behind the object that `next` gave last.
-    pub(crate) fn place(&self) -> usize
+    pub fn place(&self) -> usize
         ensures { result ≡ self.now.place }
     {
         self.place

@@ -2,7 +2,7 @@
 use Rattle.std.specs.Prelude.{ℕ, zero, suc, ◌+◌, ◌*◌, ◌/◌, ◌%◌, ◌^◌, Bool, ◌&&◌, List, [], ◌∷◌, ◌++◌, length}
 use Rattle.emv_dict.specs.Nibbles.{nibbles, is_decimal}
 
--- a byte of two number_of_digits digits
+-- a byte of two decimal digits
 abbrev pub has_digits : ℕ → Bool
 has_digits byte = is_decimal (byte / 16) && is_decimal (byte % 16)
 

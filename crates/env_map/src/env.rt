@@ -51,6 +51,14 @@ impl Env {
         }
     }
 
+    /// Takes all objects out.
+    pub fn clear(&mut self)
+        ensures { self.new ≡ [] }
+    {
+        self.bytes.clear();
+        self.places.clear();
+    }
+
     /// The value of a tag.
     pub fn get(&self, tag: Tag) -> Option<&[u8]>
         ensures { option_map (λ value. value.now) result ≡ value_of tag.0 self.now }
