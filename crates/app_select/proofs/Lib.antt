@@ -2,3 +2,5 @@ pub mod Bounds
 pub mod Ranks
 pub mod Turns
 pub mod Chains
+pub mod Order
+pub mod Names

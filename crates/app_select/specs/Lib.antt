@@ -9,3 +9,4 @@ pub mod NextLeads
 pub mod SeenSaid
 pub mod SeenCandidate
 pub mod SeenState
+pub mod Laws

@@ -5,10 +5,12 @@
 pub mod candidates;
 mod course;
 pub mod fci;
+pub mod laws;
 pub mod search;
 pub mod selecting;
 
 pub use candidates::Candidates;
+pub use laws::{names_stand_once, order_is_stable};
 pub use search::{Choice, Search, SearchNext};
 pub use selecting::{SelectNext, Selected, Selecting, steps_give_chosen};
 
