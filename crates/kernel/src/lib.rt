@@ -1,0 +1,5 @@
+//! The whole dialogue of a terminal with a card and the issuer's host, from application selection to
+//! the capture (EMV 4.3 Book 3 section 8).
+#![tactic(auto)]
+
+mod moment;
