@@ -39,29 +39,29 @@ abbrev pub code_or_zeros : Option (List ℕ) → List ℕ
 code_or_zeros code = unwrap_or code (0 ∷ 0 ∷ [])
 
 -- an approval is presented, with the cryptogram that approved
-unfoldable pub presentment : Deal → ReadCard → MomentDataData → Option (List ℕ)
+unfoldable pub presentment : Deal → ReadCard → MomentData → Option (List ℕ)
 presentment deal card moment =
     option_map (λ ac. presentment_of card deal.settings deal.purchase
         (results_behind card moment.tvr_when_first moment.tvr_when_second) ac (code_or_zeros moment.code)) moment.last
 
 -- a request that may have been approved is reversed, where the payment ended otherwise
-unfoldable pub reversal : Deal → ReadCard → MomentDataData → Option (List ℕ)
+unfoldable pub reversal : Deal → ReadCard → MomentData → Option (List ℕ)
 reversal deal card moment =
     if moment.is_open then option_map (λ counter. reversal_of card deal.settings deal.purchase counter (code_or_zeros moment.code)) moment.counter
     else None
 
-abbrev pub capture_by : Deal → Ending → ReadCard → MomentDataData → Option (List ℕ)
+abbrev pub capture_by : Deal → Ending → ReadCard → MomentData → Option (List ℕ)
 capture_by deal (Approved online) card moment = presentment deal card moment
 capture_by deal (Declined online) card moment = reversal deal card moment
 capture_by deal (Terminated step cause) card moment = reversal deal card moment
 capture_by deal (CutOff step) card moment = reversal deal card moment
 
 -- nothing is captured before the card is read
-abbrev pub capture : Deal → Ending → Option ReadCard → MomentDataDataData → Option (List ℕ)
+abbrev pub capture : Deal → Ending → Option ReadCard → MomentData → Option (List ℕ)
 capture deal ending None moment = None
 capture deal ending (Some card) moment = capture_by deal ending card moment
 
-abbrev pub end_with : Deal → Ending → Option ReadCard → MomentDataData → EndData
+abbrev pub end_with : Deal → Ending → Option ReadCard → MomentData → EndData
 end_with deal ending card moment = record { ending = ending; moment = moment; card = card; capture = capture deal ending card moment }
 
 abbrev pub end_by : Deal → List Mark → Deed → Option EndData

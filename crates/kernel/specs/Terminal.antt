@@ -18,11 +18,10 @@ abbrev pub if_there : ℕ → Option (List ℕ) → Entries
 if_there tag None = []
 if_there tag (Some value) = (tag, value) ∷ []
 
--- the objects of a terminal in this application at this moment, by rising tag
-unfoldable pub terminal_objects : Deal → AidRow → MomentData → Entries
-terminal_objects deal row moment =
-    if_there 0x8A moment.code ++ if_there 0x91 moment.issuer_data
-    ++ (0x95, tvr_bytes moment.tvr)
+-- those that are always there, by rising tag
+unfoldable pub lasting_objects : Deal → AidRow → MomentData → Entries
+lasting_objects deal row moment =
+    (0x95, tvr_bytes moment.tvr)
     ∷ (0x9A, deal.purchase.date)
     ∷ (0x9B, to_be_bytes w16 moment.tsi)
     ∷ (0x9C, deal.purchase.trade ∷ [])
@@ -39,3 +38,7 @@ terminal_objects deal row moment =
     ∷ (0x9F35, two_digits deal.settings.kind ∷ [])
     ∷ (0x9F37, deal.purchase.number)
     ∷ []
+
+-- the objects of a terminal in this application at this moment, by rising tag
+unfoldable pub terminal_objects : Deal → AidRow → MomentData → Entries
+terminal_objects deal row moment = if_there 0x8A moment.code ++ if_there 0x91 moment.issuer_data ++ lasting_objects deal row moment

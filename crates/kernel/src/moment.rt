@@ -102,8 +102,13 @@ impl Moment {
     {
         self.tvr = Tvr(self.tvr.0 | verified.tvr.0);
         self.tsi = Tsi(self.tsi.0 | tsi_if(verified.performed, Tsi::CARDHOLDER_VERIFICATION));
-        self.results = verified.results;
-        self.pin = verified.online_pin;
+        let Verified {
+            results,
+            online_pin,
+            ..
+        } = verified;
+        self.results = results;
+        self.pin = online_pin;
     }
 
     pub(crate) fn has_judged(&mut self, judged: Judged)
