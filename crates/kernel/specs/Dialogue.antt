@@ -8,9 +8,6 @@ use Rattle.app_select.specs.Candidates.{CandidateData}
 use Rattle.app_select.specs.Selecting.{SelectedData, final, selecting}
 use Rattle.auth_message.specs.Reply.{ReplyData, reply_of}
 use Rattle.auth_message.specs.declared.fault.MessageFault.{MessageFault}
-use Rattle.ber_tlv.specs.Item.{ItemData}
-use Rattle.ber_tlv.specs.Left.{items_of}
-use Rattle.ber_tlv.specs.declared.item.TlvFault.{TlvFault}
 use Rattle.cvm_list.specs.Begun.{cvm}
 use Rattle.env_map.specs.Entries.{Entries}
 use Rattle.emv_dict.specs.Progress.{Progress, Wants, Stopped, Done}
@@ -36,6 +33,7 @@ use Rattle.kernel.specs.Course.{Standing, Rest, stands, over, by_progress, card_
 use Rattle.kernel.specs.Marks as mark
 use Rattle.kernel.specs.Marks.{Mark, moment}
 use Rattle.kernel.specs.Reply.{Reply, ToCard, Over}
+use Rattle.kernel.specs.Scripts.{templates}
 use Rattle.kernel.specs.Terminal.{Deal, terminal_objects}
 
 -- a transaction once the card is read: what was dealt, the terminal's row of the application, and the card
@@ -54,31 +52,23 @@ decision online Tc = Approved online
 decision online Aac = Declined online
 decision online Arqc = Declined online
 
-abbrev pub with_tag : ℕ → Result (List ItemData) TlvFault → List (List ℕ)
-with_tag tag (Ok items) = map (λ item. item.value) (filter (λ item. item.tag == tag) items)
-with_tag tag (Err fault) = []
-
--- the values of a reply's script templates of this tag, in their order
-abbrev pub templates : ℕ → ReplyData → List (List ℕ)
-templates tag reply = with_tag tag (items_of reply.scripts)
-
 -- a card that is gone fails the script that runs and each one behind it, and the ending stands
 abbrev pub all_failed : List (List ℕ) → List Mark → List Mark
 all_failed [] marks = marks
-all_failed (template ∷ templates) marks = all_failed templates (mark.HasRunBehind no_script ∷ marks)
+all_failed (template ∷ others) marks = all_failed others (mark.HasRunBehind no_script ∷ marks)
 
 -- the script's result where the command that the card left failed, as one whose answer can't be read
 abbrev pub left_script : Ending → List (List ℕ) → List Mark → Step → (List (List ℕ) → Progress (List ℕ)) → Standing Mark
-left_script ending templates marks cut course =
+left_script ending others marks cut course =
     by_progress (λ command. stands marks (Over ending)) (λ cause. stands marks (Over ending))
-        (λ result. stands (all_failed templates (mark.HasRunBehind result ∷ marks)) (Over ending)) (course ([] ∷ []))
+        (λ result. stands (all_failed others (mark.HasRunBehind result ∷ marks)) (Over ending)) (course ([] ∷ []))
 
 -- the templates 72, behind the second cryptogram
 unfoldable pub scripts_behind : Ending → List (List ℕ) → List Mark → Rest Mark
 scripts_behind ending [] marks = over marks ending
-scripts_behind ending (template ∷ templates) marks =
-    card_step (left_script ending templates marks) step.Script step.Script marks (template_ran template)
-        (λ result. scripts_behind ending templates (mark.HasRunBehind result ∷ marks))
+scripts_behind ending (template ∷ others) marks =
+    card_step (left_script ending others marks) step.Script step.Script marks (template_ran template)
+        (λ result. scripts_behind ending others (mark.HasRunBehind result ∷ marks))
 
 -- the second GENERATE AC of this kind, over the data of CDOL2
 unfoldable pub second : Trade → Bool → Kind → List (List ℕ) → List Mark → Rest Mark
@@ -93,13 +83,13 @@ kind_for code = (if bytes_eq code (0x30 ∷ 0x30 ∷ []) then Tc else Aac)
 
 -- the templates 71, before it
 unfoldable pub scripts_before : Trade → ReplyData → List (List ℕ) → List Mark → Rest Mark
-scripts_before trade reply [] marks = second trade true (kind_for reply.code) (templates 0x72 reply) marks
-scripts_before trade reply (template ∷ templates) marks =
+scripts_before trade reply [] marks = second trade true (kind_for reply.code) (templates 0x72 reply.scripts) marks
+scripts_before trade reply (template ∷ others) marks =
     card_step (cut_off marks) step.Script step.Script marks (template_ran template)
-        (λ result. scripts_before trade reply templates (mark.HasRunBefore result ∷ marks))
+        (λ result. scripts_before trade reply others (mark.HasRunBefore result ∷ marks))
 
 abbrev pub issuer_scripts : Trade → ReplyData → List Mark → Rest Mark
-issuer_scripts trade reply marks = scripts_before trade reply (templates 0x71 reply) marks
+issuer_scripts trade reply marks = scripts_before trade reply (templates 0x71 reply.scripts) marks
 
 -- the card has issuer authentication: b3 of the first byte of the application interchange profile
 abbrev pub has_authentication : ReadCard → Bool
@@ -185,15 +175,15 @@ read deal row opened =
         (λ card. restrictions (record { deal = deal; row = row; card = card }))
 
 -- GET PROCESSING OPTIONS; a card that refuses the application is asked for the others
-abbrev pub initiated : Deal → AidRow → Rest Mark → Option Opened → Rest Mark
-initiated deal row others None = others
-initiated deal row others (Some opened) = read deal row opened
+abbrev pub granted : Deal → AidRow → Rest Mark → Option Opened → Rest Mark
+granted deal row others None = others
+granted deal row others (Some opened) = read deal row opened
 
 unfoldable pub initiation : Deal → SelectedData → Rest Mark → Rest Mark
 initiation deal selected others =
     card_step (cut_off []) step.Initiate step.Initiate []
         (initiating selected.pdol (terminal_objects deal selected.row (moment [])))
-        (initiated deal selected.row others)
+        (granted deal selected.row others)
 
 abbrev pub opened : Deal → Rest Mark → Option SelectedData → Rest Mark
 opened deal others None = others

@@ -3,4 +3,8 @@
 #![tactic(auto)]
 
 mod moment;
+mod scripts;
+mod stage;
+mod table;
 mod terminal;
+mod trading;
