@@ -1,3 +1,5 @@
 pub mod Courses
 pub mod Left
 pub mod Putting
+pub mod Following
+pub mod Analysis

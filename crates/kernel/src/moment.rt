@@ -1,5 +1,5 @@
 //! What a terminal holds at a moment of the dialogue (EMV 4.3 Book 3 Annexes C5 and C6, Book 4 Annex A6).
-ghost use Rattle.std.specs.Prelude.{◌≡◌, [], ◌∷◌, ◌<◌, ◌≤◌, ℕ, List, length, option_map, IfSome, not};
+ghost use Rattle.std.specs.Prelude.{◌≡◌, ◌+◌, [], ◌∷◌, ◌<◌, ◌≤◌, ℕ, List, length, option_map, IfSome, not};
 ghost use Rattle.kernel.specs.Marks.{Mark, HasRead, HasRestricted, HasVerified, HasJudged, HasAnalysed, HasFirst, HasReply, WasUnable, HasAuthenticated, HasRunBefore, HasSecond, HasRunBehind, moment, offline_code as spec_offline, unable_code as spec_unable, is_whole as whole_test, bits_if};
 ghost use Rattle.object_lists.specs.CardRead.{ReadCard};
 
@@ -86,19 +86,22 @@ impl Moment {
 
     /// The card is read: without offline data authentication.
     pub(crate) fn has_read(&mut self)
-        ensures { (marks : List Mark) (card : ReadCard) → self.old ≡ moment marks → self.new ≡ moment (HasRead card ∷ marks) }
+        ensures marks { (marks : List Mark) (card : ReadCard) → self.old ≡ moment marks → self.new ≡ moment (HasRead card ∷ marks) }
+        ensures scripts { self.new.scripts ≡ self.old.scripts }
     {
         self.tvr = Tvr(self.tvr.0 | Tvr::OFFLINE_DATA_AUTHENTICATION_NOT_PERFORMED.0);
     }
 
     pub(crate) fn has_restricted(&mut self, bits: Tvr)
-        ensures { (marks : List Mark) → self.old ≡ moment marks → self.new ≡ moment (HasRestricted bits.0 ∷ marks) }
+        ensures marks { (marks : List Mark) → self.old ≡ moment marks → self.new ≡ moment (HasRestricted bits.0 ∷ marks) }
+        ensures scripts { self.new.scripts ≡ self.old.scripts }
     {
         self.tvr = Tvr(self.tvr.0 | bits.0);
     }
 
     pub(crate) fn has_verified(&mut self, verified: Verified)
-        ensures { (marks : List Mark) → self.old ≡ moment marks → self.new ≡ moment (HasVerified verified ∷ marks) }
+        ensures marks { (marks : List Mark) → self.old ≡ moment marks → self.new ≡ moment (HasVerified verified ∷ marks) }
+        ensures scripts { self.new.scripts ≡ self.old.scripts }
     {
         self.tvr = Tvr(self.tvr.0 | verified.tvr.0);
         self.tsi = Tsi(self.tsi.0 | tsi_if(verified.performed, Tsi::CARDHOLDER_VERIFICATION));
@@ -112,21 +115,24 @@ impl Moment {
     }
 
     pub(crate) fn has_judged(&mut self, judged: Judged)
-        ensures { (marks : List Mark) → self.old ≡ moment marks → self.new ≡ moment (HasJudged judged ∷ marks) }
+        ensures marks { (marks : List Mark) → self.old ≡ moment marks → self.new ≡ moment (HasJudged judged ∷ marks) }
+        ensures scripts { self.new.scripts ≡ self.old.scripts }
     {
         self.tvr = Tvr(self.tvr.0 | judged.tvr.0);
         self.tsi = Tsi(self.tsi.0 | tsi_if(judged.performed, Tsi::TERMINAL_RISK_MANAGEMENT));
     }
 
     pub(crate) fn has_analysed(&mut self, wanted: Kind)
-        ensures { (marks : List Mark) → self.old ≡ moment marks → self.new ≡ moment (HasAnalysed wanted ∷ marks) }
+        ensures marks { (marks : List Mark) → self.old ≡ moment marks → self.new ≡ moment (HasAnalysed wanted ∷ marks) }
+        ensures scripts { self.new.scripts ≡ self.old.scripts }
     {
         self.tvr_when_first = self.tvr;
         self.code = offline_code(wanted);
     }
 
     pub(crate) fn has_first(&mut self, ac: Ac)
-        ensures { (marks : List Mark) → self.old ≡ moment marks → self.new ≡ moment (HasFirst ac ∷ marks) }
+        ensures marks { (marks : List Mark) → self.old ≡ moment marks → self.new ≡ moment (HasFirst ac ∷ marks) }
+        ensures scripts { self.new.scripts ≡ self.old.scripts }
     {
         self.tsi = Tsi(self.tsi.0 | Tsi::CARD_RISK_MANAGEMENT.0);
         self.code = offline_code(ac.kind);
@@ -136,7 +142,8 @@ impl Moment {
 
     pub(crate) fn has_reply(&mut self, reply: &Reply)
         requires { IfSome reply.now.auth (λ value. length value ≤ 16) }
-        ensures { (marks : List Mark) → self.old ≡ moment marks → self.new ≡ moment (HasReply reply.now ∷ marks) }
+        ensures marks { (marks : List Mark) → self.old ≡ moment marks → self.new ≡ moment (HasReply reply.now ∷ marks) }
+        ensures scripts { self.new.scripts ≡ self.old.scripts }
     {
         self.code = Some(reply.code);
         self.issuer_data = kept(reply.auth);
@@ -144,14 +151,16 @@ impl Moment {
     }
 
     pub(crate) fn was_unable(&mut self, sent: bool, wanted: Kind)
-        ensures { (marks : List Mark) → self.old ≡ moment marks → self.new ≡ moment (WasUnable sent wanted ∷ marks) }
+        ensures marks { (marks : List Mark) → self.old ≡ moment marks → self.new ≡ moment (WasUnable sent wanted ∷ marks) }
+        ensures scripts { self.new.scripts ≡ self.old.scripts }
     {
         self.code = Some(unable_code(wanted));
         self.is_open = sent;
     }
 
     pub(crate) fn has_authenticated(&mut self, good: bool)
-        ensures { (marks : List Mark) → self.old ≡ moment marks → self.new ≡ moment (HasAuthenticated good ∷ marks) }
+        ensures marks { (marks : List Mark) → self.old ≡ moment marks → self.new ≡ moment (HasAuthenticated good ∷ marks) }
+        ensures scripts { self.new.scripts ≡ self.old.scripts }
     {
         self.tvr = Tvr(self.tvr.0 | tvr_unless(good, Tvr::ISSUER_AUTHENTICATION_FAILED));
         self.tsi = Tsi(self.tsi.0 | Tsi::ISSUER_AUTHENTICATION.0);
@@ -159,7 +168,8 @@ impl Moment {
 
     pub(crate) fn has_run_before(&mut self, script: [u8; 5])
         requires { length self.old.scripts < 8 }
-        ensures { (marks : List Mark) → self.old ≡ moment marks → self.new ≡ moment (HasRunBefore script ∷ marks) }
+        ensures marks { (marks : List Mark) → self.old ≡ moment marks → self.new ≡ moment (HasRunBefore script ∷ marks) }
+        ensures scripts { length self.new.scripts ≡ length self.old.scripts + 1 }
     {
         let whole = is_whole(script);
         self.tvr = Tvr(self.tvr.0 | tvr_unless(whole, Tvr::SCRIPT_FAILED_BEFORE_FINAL_CRYPTOGRAM));
@@ -168,7 +178,8 @@ impl Moment {
     }
 
     pub(crate) fn has_second(&mut self, ac: Ac)
-        ensures { (marks : List Mark) → self.old ≡ moment marks → self.new ≡ moment (HasSecond ac ∷ marks) }
+        ensures marks { (marks : List Mark) → self.old ≡ moment marks → self.new ≡ moment (HasSecond ac ∷ marks) }
+        ensures scripts { self.new.scripts ≡ self.old.scripts }
     {
         self.tvr_when_second = Some(self.tvr);
         self.last = Some(ac);
@@ -176,7 +187,8 @@ impl Moment {
 
     pub(crate) fn has_run_behind(&mut self, script: [u8; 5])
         requires { length self.old.scripts < 8 }
-        ensures { (marks : List Mark) → self.old ≡ moment marks → self.new ≡ moment (HasRunBehind script ∷ marks) }
+        ensures marks { (marks : List Mark) → self.old ≡ moment marks → self.new ≡ moment (HasRunBehind script ∷ marks) }
+        ensures scripts { length self.new.scripts ≡ length self.old.scripts + 1 }
     {
         let whole = is_whole(script);
         self.tvr = Tvr(self.tvr.0 | tvr_unless(whole, Tvr::SCRIPT_FAILED_AFTER_FINAL_CRYPTOGRAM));

@@ -4,7 +4,8 @@ ghost use Rattle.std.specs.List.{All};
 ghost use Rattle.cvm_list.specs.NextIs.{NextLeads as VerifyLeads};
 ghost use Rattle.cvm_list.specs.declared.verified.Verified.{Verified};
 ghost use Rattle.emv_dict.specs.Progress.{Progress};
-ghost use Rattle.emv_dict.specs.Settings.{IsAidRow, most_amount};
+ghost use Rattle.action_analysis.specs.Analysed as spec;
+ghost use Rattle.emv_dict.specs.Settings.{IsAidRow, IsSettings, most_amount};
 ghost use Rattle.emv_dict.specs.declared.ending.Kind.{Kind};
 ghost use Rattle.emv_dict.specs.declared.ending.Step.TheVariants as step;
 ghost use Rattle.emv_dict.specs.declared.purchase.Logged.{Logged};
@@ -17,6 +18,7 @@ ghost use Rattle.kernel.specs.Table.{IsDeal, deal_of};
 ghost use Rattle.risk_mgmt.specs.Judging.{NextLeads as JudgeLeads};
 ghost use Rattle.risk_mgmt.specs.declared.judged.Judged.{Judged};
 
+use crate::moment::Moment;
 use crate::stage::Trading;
 use crate::table::Table;
 use crate::terminal::put_terminal;
@@ -24,7 +26,7 @@ use action_analysis::{codes_of, wanted};
 use arrayvec::ArrayVec;
 use ber_tlv::Tag;
 use cvm_list::{VerifyNext, Verifying};
-use emv_dict::{AidRow, Cause, Ending, Kind, Logged, Step};
+use emv_dict::{AidRow, Cause, Ending, Kind, Logged, Settings, Step};
 use object_lists::CardData;
 use online_step::{fill_list, write_generate};
 use risk_mgmt::{JudgeNext, Judging};
@@ -47,7 +49,7 @@ pub(crate) fn verify_next<'s>(
     ensures stands { (marks : List Mark) (course : List (List ℕ) → Progress Verified) (rest : List Reply → Standing Mark)
         → Begins table.old marks rest (card_step (cut_off marks) step.Verify step.Verify marks course
             (λ verified. risk (record { deal = deal_of table.old; row = row.now; card = card.now }) (HasVerified verified ∷ marks)) log.now)
-        → VerifyLeads course [] next
+        → VerifyLeads course [] next.entry
         → TradingStands table.new (record { deal = deal_of table.old; row = row.now; card = card.now }) result log.now rest }
     ensures same { deal_of table.new ≡ deal_of table.old }
     ensures room { HasRoom table.new (scripts_left table.new.reply.scripts result) }
@@ -128,11 +130,18 @@ fn analyse<'s>(table: &mut Table<'s>, card: &CardData, row: &AidRow) -> Trading<
     ensures same { deal_of table.new ≡ deal_of table.old }
     ensures room { HasRoom table.new (scripts_left table.new.reply.scripts result) }
 {
-    let settings = table.settings;
-    let codes = codes_of(card, row);
-    let asked = wanted(table.moment.tvr, &codes, settings.kind);
+    let asked = kind_wanted(&table.moment, card, row, table.settings);
     table.moment.has_analysed(asked);
     begin_first(table, card, row, asked)
+}
+
+/// The kind of cryptogram that is asked for first.
+fn kind_wanted(moment: &Moment, card: &CardData, row: &AidRow, settings: &Settings) -> Kind
+    requires { IsSettings settings.now }
+    ensures { result ≡ spec.wanted moment.now.tvr (spec.codes_of card.now row.now) settings.now.kind }
+{
+    let codes = codes_of(card, row);
+    wanted(moment.tvr, &codes, settings.kind)
 }
 
 /// The first GENERATE AC is asked for a cryptogram of this kind.
