@@ -1,9 +1,10 @@
 -- What the finished steps of a dialogue leave: which bits stand at a moment, and the other values that the terminal
 -- then holds (EMV 4.3 Book 3 section 10 and Annexes C5 and C6).
-use Rattle.std.specs.Prelude.{ℕ, Bool, true, false, ◌==◌, not, if◌then◌else◌, List, [], ◌∷◌, ◌++◌, bit_or, Option, Some, None}
+use Rattle.std.specs.Prelude.{ℕ, Bool, true, false, ◌==◌, not, if◌then◌else◌, List, [], ◌∷◌, ◌++◌, length, bit_or, Option, Some, None}
 use Rattle.std.specs.Str.{bytes_eq}
 use Rattle.auth_message.specs.Reply.{ReplyData}
 use Rattle.cvm_list.specs.declared.verified.Verified.{Verified}
+use Rattle.emv_dict.specs.Digits.{is_pin_length}
 use Rattle.emv_dict.specs.Flags.{tvr_bit, tsi_bit}
 use Rattle.emv_dict.specs.declared.ending.Kind.{Kind}
 use Rattle.emv_dict.specs.declared.ending.Kind.TheVariants.{Aac, Tc, Arqc}
@@ -104,9 +105,14 @@ abbrev pub results_of : Mark → Option (List ℕ)
 results_of (HasVerified verified) = Some verified.results
 results_of other = None
 
+-- an entry that is a PIN, as each one is
+abbrev pub sound_pin : Option (List ℕ) → Option (List ℕ)
+sound_pin None = None
+sound_pin (Some digits) = (if is_pin_length (length digits) then Some digits else None)
+
 -- the PIN that goes to the issuer
 abbrev pub pin_of : Mark → Option (Option (List ℕ))
-pin_of (HasVerified verified) = Some verified.online_pin
+pin_of (HasVerified verified) = Some (sound_pin verified.online_pin)
 pin_of other = None
 
 -- the issuer authentication data (91)

@@ -1,13 +1,14 @@
 //! What a terminal holds at a moment of the dialogue (EMV 4.3 Book 3 Annexes C5 and C6, Book 4 Annex A6).
 ghost use Rattle.std.specs.Prelude.{◌≡◌, ◌+◌, [], ◌∷◌, ◌<◌, ◌≤◌, ℕ, List, length, option_map, IfSome, not};
-ghost use Rattle.kernel.specs.Marks.{Mark, HasRead, HasRestricted, HasVerified, HasJudged, HasAnalysed, HasFirst, HasReply, WasUnable, HasAuthenticated, HasRunBefore, HasSecond, HasRunBehind, moment, offline_code as spec_offline, unable_code as spec_unable, is_whole as whole_test, bits_if};
+ghost use Rattle.emv_dict.specs.Digits.{HasPinLength};
+ghost use Rattle.kernel.specs.Marks.{Mark, HasRead, HasRestricted, HasVerified, HasJudged, HasAnalysed, HasFirst, HasReply, WasUnable, HasAuthenticated, HasRunBefore, HasSecond, HasRunBehind, moment, offline_code as spec_offline, unable_code as spec_unable, is_whole as whole_test, bits_if, sound_pin as sound};
 ghost use Rattle.object_lists.specs.CardRead.{ReadCard};
 
 use arrayvec::ArrayVec;
 use auth_message::Reply;
 use ber_tlv::append;
 use cvm_list::Verified;
-use emv_dict::{Digits, Kind, Tsi, Tvr};
+use emv_dict::{Digits, Kind, Tsi, Tvr, is_pin_length};
 use online_step::Ac;
 use risk_mgmt::Judged;
 use std::marker::Model;
@@ -61,6 +62,11 @@ impl Model for Moment {
       tvr_when_second = option_map (λ tvr. tvr.0) m.tvr_when_second;
       scripts = m.scripts.items;
     } };
+
+    ghost use Rattle.std.specs.Prelude.{IfSome};
+    ghost use Rattle.emv_dict.specs.Digits.{HasPinLength};
+
+    ghost invariant = { λ m. IfSome m.pin HasPinLength };
 }
 
 impl Moment {
@@ -82,6 +88,14 @@ impl Moment {
             tvr_when_second: None,
             scripts: ArrayVec::new(),
         }
+    }
+
+    /// The PIN that goes to the issuer.
+    pub(crate) fn pin(&self) -> Option<&Digits>
+        ensures pin { option_map (λ digits. digits.now) result ≡ self.now.pin }
+        ensures length { IfSome result (λ digits. HasPinLength digits.now) }
+    {
+        self.pin.as_ref()
     }
 
     /// The card is read: without offline data authentication.
@@ -111,7 +125,7 @@ impl Moment {
             ..
         } = verified;
         self.results = results;
-        self.pin = online_pin;
+        self.pin = sound_pin(online_pin);
     }
 
     pub(crate) fn has_judged(&mut self, judged: Judged)
@@ -194,6 +208,17 @@ impl Moment {
         self.tvr = Tvr(self.tvr.0 | tvr_unless(whole, Tvr::SCRIPT_FAILED_AFTER_FINAL_CRYPTOGRAM));
         self.tsi = Tsi(self.tsi.0 | Tsi::SCRIPT_PROCESSING.0);
         self.scripts.push(script);
+    }
+}
+
+/// An entry that is a PIN: 4 to 12 digits, as each one has.
+fn sound_pin(entry: Option<Digits>) -> Option<Digits>
+    ensures pin { result ≡ sound entry }
+    ensures length { IfSome result HasPinLength }
+{
+    match entry {
+        Some(digits) if is_pin_length(digits.len()) => Some(digits),
+        _ => None,
     }
 }
 
