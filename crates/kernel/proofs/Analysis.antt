@@ -6,10 +6,11 @@ use Rattle.emv_dict.specs.declared.ending.Kind.{Kind}
 use Rattle.emv_dict.specs.declared.ending.Step.TheVariants as step
 use Rattle.emv_dict.specs.declared.purchase.Logged.{Logged}
 use Rattle.online_step.specs.Ac.{AcData, ac_of}
+use Rattle.restrictions.specs.Restricted.{restricted}
 use Rattle.online_step.specs.Generate.{list_data, generate_command, generated}
 use Rattle.kernel.specs.Course.{Standing, Rest, card_step, cut_off}
-use Rattle.kernel.specs.Dialogue.{Trade, analysis, first, first_answered, kind_wanted, objects_at}
-use Rattle.kernel.specs.Marks.{Mark, HasAnalysed, HasFirst, moment}
+use Rattle.kernel.specs.Dialogue.{Trade, restrictions, verification, analysis, first, first_answered, kind_wanted, objects_at}
+use Rattle.kernel.specs.Marks.{Mark, HasRead, HasRestricted, HasAnalysed, HasFirst, moment}
 use Rattle.kernel.specs.Reply.{Reply}
 use Rattle.kernel.specs.Stages.{TradingStands, Begins, generating}
 use Rattle.kernel.specs.declared.stage.Trading.TheVariants as trading
@@ -31,3 +32,11 @@ first_unfilled trade marks asked log rest t t2 begins none kept =
     trading_stopped t t2 trade step.First marks log (generated 0x8C asked false (list_data 0x8C trade.card (objects_at trade marks)))
         (λ ac. first_answered trade ac (HasFirst ac ∷ marks) ac.kind) (Dol (record { 0 = 0x8C })) rest kept
         (record { passed = begins.passed; tied = begins.tied }) (λ later. rw none refl)
+
+-- verification begins behind the restrictions
+pub traded : (trade : Trade) → (bits : ℕ) → (log : List Logged) → (rest : List Reply → Standing Mark) → (t2 : Table) → ((later : List Reply) → rest later ≡ restrictions trade log later) → bits ≡ restricted trade.card trade.deal.settings trade.row trade.deal.purchase → t2.moment ≡ moment (HasRestricted bits ∷ HasRead trade.card ∷ []) → Begins t2 (HasRestricted bits ∷ HasRead trade.card ∷ []) rest (verification trade (HasRestricted bits ∷ HasRead trade.card ∷ []) log)
+unfolding restrictions
+traded trade bits log rest t2 passed is tied = record {
+  passed = λ later. passed later ∙ rw is refl;
+  tied = tied;
+}

@@ -3,3 +3,5 @@ pub mod Left
 pub mod Putting
 pub mod Following
 pub mod Analysis
+pub mod Taking
+pub mod NextOf
