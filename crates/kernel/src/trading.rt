@@ -73,7 +73,7 @@ fn begin_verify<'s>(
     requires deal { IsDeal (deal_of table.old) }
     requires room { HasRoom table.old 8 }
     ensures stands { (marks : List Mark) (rest : List Reply → Standing Mark)
-        → Begins table.old marks rest (verification (record { deal = deal_of table.old; row = row.now; card = card.now }) marks log.now)
+        → Begins table.old card.now marks rest (verification (record { deal = deal_of table.old; row = row.now; card = card.now }) marks log.now)
         → TradingStands table.new (record { deal = deal_of table.old; row = row.now; card = card.now }) result log.now rest }
     ensures same { deal_of table.new ≡ deal_of table.old }
     ensures room { HasRoom table.new (scripts_left table.new.reply.scripts result) }
@@ -95,7 +95,7 @@ fn verify_next<'s>(
     requires deal { IsDeal (deal_of table.old) }
     requires room { HasRoom table.old 8 }
     ensures stands { (marks : List Mark) (course : List (List ℕ) → Progress Verified) (rest : List Reply → Standing Mark)
-        → Begins table.old marks rest (card_step (cut_off marks) step.Verify step.Verify marks course
+        → Begins table.old card.now marks rest (card_step (cut_off marks) step.Verify step.Verify marks course
             (λ verified. risk (record { deal = deal_of table.old; row = row.now; card = card.now }) (HasVerified verified ∷ marks)) log.now)
         → VerifyLeads course [] next.entry
         → TradingStands table.new (record { deal = deal_of table.old; row = row.now; card = card.now }) result log.now rest }
@@ -151,7 +151,7 @@ fn begin_risk<'s>(
     requires deal { IsDeal (deal_of table.old) }
     requires room { HasRoom table.old 8 }
     ensures stands { (marks : List Mark) (rest : List Reply → Standing Mark)
-        → Begins table.old marks rest (risk (record { deal = deal_of table.old; row = row.now; card = card.now }) marks log.now)
+        → Begins table.old card.now marks rest (risk (record { deal = deal_of table.old; row = row.now; card = card.now }) marks log.now)
         → TradingStands table.new (record { deal = deal_of table.old; row = row.now; card = card.now }) result log.now rest }
     ensures same { deal_of table.new ≡ deal_of table.old }
     ensures room { HasRoom table.new (scripts_left table.new.reply.scripts result) }
@@ -170,7 +170,7 @@ fn judge_next<'s>(
     requires deal { IsDeal (deal_of table.old) }
     requires room { HasRoom table.old 8 }
     ensures stands { (marks : List Mark) (log : List Logged) (course : List (List ℕ) → Progress Judged) (rest : List Reply → Standing Mark)
-        → Begins table.old marks rest (card_step (cut_off marks) step.Risk step.Risk marks course
+        → Begins table.old card.now marks rest (card_step (cut_off marks) step.Risk step.Risk marks course
             (λ judged. analysis (record { deal = deal_of table.old; row = row.now; card = card.now }) (HasJudged judged ∷ marks)) log)
         → JudgeLeads course [] next
         → TradingStands table.new (record { deal = deal_of table.old; row = row.now; card = card.now }) result log rest }
@@ -216,7 +216,7 @@ fn analyse<'s>(table: &mut Table<'s>, card: &CardData, row: &AidRow) -> Trading<
     requires deal { IsDeal (deal_of table.old) }
     requires room { HasRoom table.old 8 }
     ensures stands { (marks : List Mark) (log : List Logged) (rest : List Reply → Standing Mark)
-        → Begins table.old marks rest (analysis (record { deal = deal_of table.old; row = row.now; card = card.now }) marks log)
+        → Begins table.old card.now marks rest (analysis (record { deal = deal_of table.old; row = row.now; card = card.now }) marks log)
         → TradingStands table.new (record { deal = deal_of table.old; row = row.now; card = card.now }) result log rest }
     ensures same { deal_of table.new ≡ deal_of table.old }
     ensures room { HasRoom table.new (scripts_left table.new.reply.scripts result) }
@@ -246,7 +246,7 @@ fn begin_first<'s>(
     requires deal { IsDeal (deal_of table.old) }
     requires room { HasRoom table.old 8 }
     ensures stands { (marks : List Mark) (log : List Logged) (rest : List Reply → Standing Mark)
-        → Begins table.old marks rest (first (record { deal = deal_of table.old; row = row.now; card = card.now }) asked marks log)
+        → Begins table.old card.now marks rest (first (record { deal = deal_of table.old; row = row.now; card = card.now }) asked marks log)
         → TradingStands table.new (record { deal = deal_of table.old; row = row.now; card = card.now }) result log rest }
     ensures same { deal_of table.new ≡ deal_of table.old }
     ensures room { HasRoom table.new (scripts_left table.new.reply.scripts result) }
