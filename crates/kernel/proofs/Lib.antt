@@ -5,3 +5,4 @@ pub mod Following
 pub mod Analysis
 pub mod Taking
 pub mod NextOf
+pub mod Showing
