@@ -61,3 +61,8 @@ stopped left cut step marks course next cause is log (CardSaid answer now ∷ re
 stopped left cut step marks course next cause is log (CardGone ∷ replies) = rw (is []) refl
 stopped left cut step marks course next cause is log (HostSaid reply ∷ replies) = rw (is []) refl
 stopped left cut step marks course next cause is log (HostSilent ∷ replies) = rw (is []) refl
+
+-- behind the card's answer the step goes on with what it makes of the answers behind that
+pub taken : {M A : Type 0} → (left : Step → (List (List ℕ) → Progress A) → Standing M) → (cut step : Step) → (marks : List M) → (course : List (List ℕ) → Progress A) → (next : A → Rest M) → (log : List Logged) → (command : List ℕ) → course [] ≡ Wants command → (answer : List ℕ) → (now : List Logged) → (replies : List Reply) → card_step left cut step marks course next log (CardSaid answer now ∷ replies) ≡ card_step left step step marks (λ later. course (answer ∷ later)) next now replies
+unfolding card_step
+taken left cut step marks course next log command is answer now replies = rw is refl

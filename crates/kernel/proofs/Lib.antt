@@ -3,3 +3,4 @@ pub mod Left
 pub mod Putting
 pub mod Following
 pub mod Analysis
+pub mod Taking

@@ -7,3 +7,4 @@ pub mod Dialogue
 pub mod Ended
 pub mod Table
 pub mod Stages
+pub mod Fits
