@@ -4,3 +4,4 @@ pub mod Putting
 pub mod Following
 pub mod Analysis
 pub mod Taking
+pub mod Opened
