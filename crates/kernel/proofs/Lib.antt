@@ -6,3 +6,4 @@ pub mod Analysis
 pub mod Taking
 pub mod NextOf
 pub mod Showing
+pub mod Opened

@@ -7,4 +7,5 @@ pub mod Dialogue
 pub mod Ended
 pub mod Table
 pub mod Stages
+pub mod Fits
 pub mod Kernel

@@ -4,6 +4,7 @@
 
 pub mod kernel;
 mod moment;
+mod opening;
 mod scripts;
 mod stage;
 mod table;
