@@ -1,14 +1,13 @@
 -- A kernel and the replies that it has taken.
 use Rattle.std.specs.Prelude.{◌≡◌, ⊤, ℕ, ◌+◌, ◌-◌, ◌^◌, min, List, [], ◌++◌, length, Option, Some, None, IsSome}
-use Rattle.app_select.specs.Leading.{HasRoom as HasCandidateRoom}
 use Rattle.emv_dict.specs.Settings.{IsAidRow}
 use Rattle.emv_dict.specs.declared.ending.Ending.{Ending}
 use Rattle.emv_dict.specs.declared.purchase.Logged.{Logged}
 use Rattle.env_map.specs.Entries.{Entries}
 use Rattle.object_lists.specs.CardRead.{ReadCard}
-use Rattle.read_records.specs.Checked.{HasOptions}
 use Rattle.kernel.specs.Course.{Standing}
 use Rattle.kernel.specs.Dialogue.{dialogue}
+use Rattle.kernel.specs.Fits.{OpeningFits}
 use Rattle.kernel.specs.Marks.{Mark}
 use Rattle.kernel.specs.Reply.{Reply, Deed, ToCard, ToHost, Over}
 use Rattle.kernel.specs.Stages.{OpeningStands, TradingStands, HasRoom, scripts_left}
@@ -84,13 +83,7 @@ bytes_by t next.ToCard = t.command.items
 bytes_by t next.ToHost = t.message.items
 bytes_by t next.Ended = []
 
--- what a stage rests on
-abbrev pub OpeningFits : Table → Entries → Opening → Type 0
-OpeningFits t objects (opening.Select s) = HasCandidateRoom s.search t.candidates × (objects ≡ [])
-OpeningFits t objects (opening.Initiate s) = IsAidRow s.choice.row × (objects ≡ [])
-OpeningFits t objects (opening.Read s) = IsAidRow s.row.now × HasOptions objects
-OpeningFits t objects (opening.Over ending) = ⊤
-
+-- what a stage rests on once the card is read
 pub record TradingFits (t : Table) (held : Option ReadCard) (at : AtTrading) : Type 0 where
   pub row : IsAidRow at.row.now
   pub card : IsSome held

@@ -9,3 +9,4 @@ pub mod Table
 pub mod Stages
 pub mod Fits
 pub mod Kernel
+pub mod Tally

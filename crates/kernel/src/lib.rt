@@ -8,5 +8,6 @@ mod opening;
 mod scripts;
 mod stage;
 mod table;
+pub mod tally;
 mod terminal;
 mod trading;
