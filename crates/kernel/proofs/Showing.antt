@@ -86,7 +86,7 @@ pub record ShownAt (k : KernelData) (s : Stage) (standing : Standing Mark) : Typ
   pub is : standing ≡ stands marks (stage_deed k.table s)
   pub read : latest card_of None marks ≡ k.card
 
-pub stage_shows : (k : KernelData) → (s : Stage) → (log : List Logged) → (rest : List Reply → Standing Mark) → StageFits k s → StageGoes k s log rest → ShownAt k s (rest [])
+pub stage_shows : (k : KernelData) → (s : Stage) → (log : List Logged) → (rest : List Reply → Standing Mark) → StageFits k.table k.objects k.card s → StageGoes k.table k.objects k.card s log rest → ShownAt k s (rest [])
 stage_shows k (stage.Opening s) log rest fits goes = record {
   marks = [];
   is = opening_shows k.table k.objects s log rest goes;

@@ -89,26 +89,26 @@ pub record TradingFits (t : Table) (held : Option ReadCard) (at : AtTrading) : T
   pub card : IsSome held
   pub room : HasRoom t (scripts_left t.reply.scripts at.trading)
 
-abbrev pub StageFits : KernelData → Stage → Type 0
-StageFits k (stage.Opening s) = OpeningFits k.table k.objects s × (k.card ≡ None)
-StageFits k (stage.Trading at) = TradingFits k.table k.card at
+abbrev pub StageFits : Table → Entries → Option ReadCard → Stage → Type 0
+StageFits t objects held (stage.Opening s) = OpeningFits t objects s × (held ≡ None)
+StageFits t objects held (stage.Trading at) = TradingFits t held at
 
 pub record KernelFits (k : KernelData) : Type 0 where
   pub deal : IsDeal (deal_in k)
-  pub stage : StageFits k k.stage
+  pub stage : StageFits k.table k.objects k.card k.stage
 
 -- what is left of the dialogue is what the stage leaves
-pub record TradingGoes (k : KernelData) (at : AtTrading) (log : List Logged) (rest : List Reply → Standing Mark) : Type 0 where
+pub record TradingGoes (t : Table) (held : Option ReadCard) (at : AtTrading) (log : List Logged) (rest : List Reply → Standing Mark) : Type 0 where
   pub card : ReadCard
-  pub card_is : k.card ≡ Some card
-  pub stands : TradingStands k.table (record { deal = deal_in k; row = at.row.now; card = card }) at.trading log rest
+  pub card_is : held ≡ Some card
+  pub stands : TradingStands t (record { deal = deal_of t; row = at.row.now; card = card }) at.trading log rest
 
-abbrev pub StageGoes : KernelData → Stage → List Logged → (List Reply → Standing Mark) → Type 0
-StageGoes k (stage.Opening s) log rest = OpeningStands k.table k.objects s log rest
-StageGoes k (stage.Trading at) log rest = TradingGoes k at log rest
+abbrev pub StageGoes : Table → Entries → Option ReadCard → Stage → List Logged → (List Reply → Standing Mark) → Type 0
+StageGoes t objects held (stage.Opening s) log rest = OpeningStands t objects s log rest
+StageGoes t objects held (stage.Trading at) log rest = TradingGoes t held at log rest
 
 -- the kernel has taken these replies
 pub record KernelStands (k : KernelData) (replies : List Reply) : Type 0 where
   pub count : k.taken ≡ min (length replies) (2 ^ 64 - 1)
   pub log : List Logged
-  pub goes : StageGoes k k.stage log (λ later. dialogue (deal_in k) (replies ++ later))
+  pub goes : StageGoes k.table k.objects k.card k.stage log (λ later. dialogue (deal_in k) (replies ++ later))
