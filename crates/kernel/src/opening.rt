@@ -53,7 +53,8 @@ pub(crate) fn begin<'s>(table: &mut Table<'s>, objects: &Env) -> Opening<'s>
     ensures same { deal_of table.new ≡ deal_of table.old }
     ensures fits { OpeningFits table.new objects.now result }
 {
-    let search = Search::begin(table.settings, table.purchase.confirm);
+    let purchase = table.purchase;
+    let search = Search::begin(table.settings, purchase.confirm);
     ask_search(table, objects, false, search)
 }
 
