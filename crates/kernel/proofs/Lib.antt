@@ -4,4 +4,6 @@ pub mod Putting
 pub mod Following
 pub mod Analysis
 pub mod Taking
+pub mod NextOf
+pub mod Showing
 pub mod Opened

@@ -10,6 +10,7 @@ use Rattle.emv_dict.specs.declared.ending.Step.{Step}
 use Rattle.emv_dict.specs.declared.ending.Step.TheVariants as step
 use Rattle.emv_dict.specs.declared.purchase.Logged.{Logged}
 use Rattle.env_map.specs.Entries.{Entries}
+use Rattle.object_lists.specs.CardRead.{ReadCard}
 use Rattle.online_step.specs.Ac.{AcData, ac_of}
 use Rattle.online_step.specs.Authenticate.{verdict_of, after_verdict}
 use Rattle.online_step.specs.Generate.{after_ac}
@@ -20,7 +21,7 @@ use Rattle.script_run.specs.Ran.{rest_of as running_rest}
 use Rattle.kernel.specs.Course.{Standing, Rest, over, card_step, cut_off, host_step}
 use Rattle.kernel.specs.Dialogue.{Trade, initiation, granted, candidates_left, restrictions, risk, analysis, first_answered, replied, issuer_scripts, scripts_before, scripts_behind, decision, left_script}
 use Rattle.kernel.specs.Marks as mark
-use Rattle.kernel.specs.Marks.{Mark, moment}
+use Rattle.kernel.specs.Marks.{Mark, moment, latest, card_of}
 use Rattle.kernel.specs.Reply.{Reply}
 use Rattle.kernel.specs.Scripts.{templates}
 use Rattle.kernel.specs.Table.{deal_of}
@@ -87,12 +88,14 @@ pub record TradingStands (t : Table) (trade : Trade) (s : Trading) (log : List L
   pub marks : List Mark
   pub passed : (later : List Reply) → rest later ≡ trading_rest t trade marks s log later
   pub tied : t.moment ≡ moment marks
+  pub read : latest card_of None marks ≡ Some trade.card
   pub shows : TradingShows t s
 
--- a step begins here
-pub record Begins (t : Table) (marks : List Mark) (rest start : List Reply → Standing Mark) : Type 0 where
+-- a step begins here, with this card
+pub record Begins (t : Table) (card : ReadCard) (marks : List Mark) (rest start : List Reply → Standing Mark) : Type 0 where
   pub passed : (later : List Reply) → rest later ≡ start later
   pub tied : t.moment ≡ moment marks
+  pub read : latest card_of None marks ≡ Some card
 
 -- before the answer to the first command the card is gone at the power-up
 abbrev pub cut_of : AtSelect → Step

@@ -2,10 +2,12 @@
 //! the capture (EMV 4.3 Book 3 section 8).
 #![tactic(auto)]
 
+pub mod kernel;
 mod moment;
 mod opening;
 mod scripts;
 mod stage;
 mod table;
+pub mod tally;
 mod terminal;
 mod trading;

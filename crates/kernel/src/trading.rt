@@ -11,9 +11,10 @@ ghost use Rattle.emv_dict.specs.declared.ending.Step.TheVariants as step;
 ghost use Rattle.emv_dict.specs.declared.purchase.Logged.{Logged};
 ghost use Rattle.kernel.specs.Course.{Standing, card_step, cut_off};
 ghost use Rattle.kernel.specs.Dialogue.{Trade, restrictions, verification, risk, analysis, first, first_answered, unable_online, online};
-ghost use Rattle.kernel.specs.Marks.{Mark, HasVerified, HasJudged, HasFirst};
-ghost use Rattle.kernel.specs.Reply.{Reply};
+ghost use Rattle.kernel.specs.Marks.{Mark, HasVerified, HasJudged, HasRead, HasRestricted, moment};
+ghost use Rattle.kernel.specs.Reply.{Reply, CardSaid};
 ghost use Rattle.kernel.specs.Stages.{TradingStands, Begins, HasRoom, scripts_left};
+ghost use Rattle.kernel.specs.declared.stage.Trading.TheVariants as stage;
 ghost use Rattle.kernel.specs.Table.{IsDeal, deal_of};
 ghost use Rattle.risk_mgmt.specs.Judging.{NextLeads as JudgeLeads};
 ghost use Rattle.risk_mgmt.specs.declared.judged.Judged.{Judged};
@@ -29,13 +30,60 @@ use cvm_list::{VerifyNext, Verifying};
 use emv_dict::{AidRow, Cause, Ending, Kind, Logged, Settings, Step};
 use object_lists::CardData;
 use online_step::{fill_list, write_generate};
+use restrictions::restrict;
 use risk_mgmt::{JudgeNext, Judging};
 
 /// The object list of the first GENERATE AC (CDOL1).
 const FIRST_LIST: Tag = Tag(0x8c);
 
+/// The card is read: the processing restrictions, which ask it nothing, and then cardholder verification.
+#[tactic(auto, unfolding(crate::specs::Dialogue::restrictions))]
+pub(crate) fn begin_trading<'s>(
+    table: &mut Table<'s>,
+    card: &CardData,
+    row: &AidRow,
+    log: &[Logged],
+) -> Trading<'s>
+    requires row { IsAidRow row.now }
+    requires log { All (λ logged. logged.amount ≤ most_amount) log.now }
+    requires deal { IsDeal (deal_of table.old) }
+    requires moment { table.old.moment ≡ moment [] }
+    ensures stands { (rest : List Reply → Standing Mark)
+        → ((later : List Reply) → rest later ≡ restrictions (record { deal = deal_of table.old; row = row.now; card = card.now }) log.now later)
+        → TradingStands table.new (record { deal = deal_of table.old; row = row.now; card = card.now }) result log.now rest }
+    ensures same { deal_of table.new ≡ deal_of table.old }
+    ensures room { HasRoom table.new (scripts_left table.new.reply.scripts result) }
+{
+    let bits = restrict(card, table.settings, row, table.purchase);
+    table.moment.has_read();
+    table.moment.has_restricted(bits);
+    begin_verify(table, card, row, log)
+}
+
+/// Cardholder verification begins.
+#[tactic(auto, unfolding(crate::specs::Dialogue::verification))]
+fn begin_verify<'s>(
+    table: &mut Table<'s>,
+    card: &CardData,
+    row: &AidRow,
+    log: &[Logged],
+) -> Trading<'s>
+    requires row { IsAidRow row.now }
+    requires log { All (λ logged. logged.amount ≤ most_amount) log.now }
+    requires deal { IsDeal (deal_of table.old) }
+    requires room { HasRoom table.old 8 }
+    ensures stands { (marks : List Mark) (rest : List Reply → Standing Mark)
+        → Begins table.old card.now marks rest (verification (record { deal = deal_of table.old; row = row.now; card = card.now }) marks log.now)
+        → TradingStands table.new (record { deal = deal_of table.old; row = row.now; card = card.now }) result log.now rest }
+    ensures same { deal_of table.new ≡ deal_of table.old }
+    ensures room { HasRoom table.new (scripts_left table.new.reply.scripts result) }
+{
+    let next = Verifying::begin(card, table.settings, table.purchase);
+    verify_next(table, card, row, log, next)
+}
+
 /// How cardholder verification goes on.
-pub(crate) fn verify_next<'s>(
+fn verify_next<'s>(
     table: &mut Table<'s>,
     card: &CardData,
     row: &AidRow,
@@ -47,7 +95,7 @@ pub(crate) fn verify_next<'s>(
     requires deal { IsDeal (deal_of table.old) }
     requires room { HasRoom table.old 8 }
     ensures stands { (marks : List Mark) (course : List (List ℕ) → Progress Verified) (rest : List Reply → Standing Mark)
-        → Begins table.old marks rest (card_step (cut_off marks) step.Verify step.Verify marks course
+        → Begins table.old card.now marks rest (card_step (cut_off marks) step.Verify step.Verify marks course
             (λ verified. risk (record { deal = deal_of table.old; row = row.now; card = card.now }) (HasVerified verified ∷ marks)) log.now)
         → VerifyLeads course [] next.entry
         → TradingStands table.new (record { deal = deal_of table.old; row = row.now; card = card.now }) result log.now rest }
@@ -67,6 +115,29 @@ pub(crate) fn verify_next<'s>(
     }
 }
 
+/// The card's answer in cardholder verification.
+pub(crate) fn on_verify<'s>(
+    table: &mut Table<'s>,
+    card: &CardData,
+    row: &AidRow,
+    log: &[Logged],
+    verifying: Verifying<'s>,
+    reply: &[u8],
+) -> Trading<'s>
+    requires row { IsAidRow row.now }
+    requires log { All (λ logged. logged.amount ≤ most_amount) log.now }
+    requires deal { IsDeal (deal_of table.old) }
+    requires room { HasRoom table.old 8 }
+    ensures stands { (before : List Logged) (rest : List Reply → Standing Mark)
+        → TradingStands table.old (record { deal = deal_of table.old; row = row.now; card = card.now }) (stage.Verify verifying.entry) before rest
+        → TradingStands table.new (record { deal = deal_of table.old; row = row.now; card = card.now }) result log.now (λ later. rest (CardSaid reply.now log.now ∷ later)) }
+    ensures same { deal_of table.new ≡ deal_of table.old }
+    ensures room { HasRoom table.new (scripts_left table.new.reply.scripts result) }
+{
+    let next = verifying.take(reply);
+    verify_next(table, card, row, log, next)
+}
+
 /// Terminal risk management begins.
 #[tactic(auto, unfolding(crate::specs::Dialogue::risk))]
 fn begin_risk<'s>(
@@ -80,7 +151,7 @@ fn begin_risk<'s>(
     requires deal { IsDeal (deal_of table.old) }
     requires room { HasRoom table.old 8 }
     ensures stands { (marks : List Mark) (rest : List Reply → Standing Mark)
-        → Begins table.old marks rest (risk (record { deal = deal_of table.old; row = row.now; card = card.now }) marks log.now)
+        → Begins table.old card.now marks rest (risk (record { deal = deal_of table.old; row = row.now; card = card.now }) marks log.now)
         → TradingStands table.new (record { deal = deal_of table.old; row = row.now; card = card.now }) result log.now rest }
     ensures same { deal_of table.new ≡ deal_of table.old }
     ensures room { HasRoom table.new (scripts_left table.new.reply.scripts result) }
@@ -90,7 +161,7 @@ fn begin_risk<'s>(
 }
 
 /// How terminal risk management goes on.
-pub(crate) fn judge_next<'s>(
+fn judge_next<'s>(
     table: &mut Table<'s>,
     card: &CardData,
     row: &AidRow,
@@ -99,7 +170,7 @@ pub(crate) fn judge_next<'s>(
     requires deal { IsDeal (deal_of table.old) }
     requires room { HasRoom table.old 8 }
     ensures stands { (marks : List Mark) (log : List Logged) (course : List (List ℕ) → Progress Judged) (rest : List Reply → Standing Mark)
-        → Begins table.old marks rest (card_step (cut_off marks) step.Risk step.Risk marks course
+        → Begins table.old card.now marks rest (card_step (cut_off marks) step.Risk step.Risk marks course
             (λ judged. analysis (record { deal = deal_of table.old; row = row.now; card = card.now }) (HasJudged judged ∷ marks)) log)
         → JudgeLeads course [] next
         → TradingStands table.new (record { deal = deal_of table.old; row = row.now; card = card.now }) result log rest }
@@ -119,13 +190,33 @@ pub(crate) fn judge_next<'s>(
     }
 }
 
+/// The card's answer in terminal risk management.
+pub(crate) fn on_judge<'s>(
+    table: &mut Table<'s>,
+    card: &CardData,
+    row: &AidRow,
+    judging: Judging,
+    reply: &[u8],
+) -> Trading<'s>
+    requires deal { IsDeal (deal_of table.old) }
+    requires room { HasRoom table.old 8 }
+    ensures stands { (before now : List Logged) (rest : List Reply → Standing Mark)
+        → TradingStands table.old (record { deal = deal_of table.old; row = row.now; card = card.now }) (stage.Risk judging) before rest
+        → TradingStands table.new (record { deal = deal_of table.old; row = row.now; card = card.now }) result now (λ later. rest (CardSaid reply.now now ∷ later)) }
+    ensures same { deal_of table.new ≡ deal_of table.old }
+    ensures room { HasRoom table.new (scripts_left table.new.reply.scripts result) }
+{
+    let next = judging.take(reply);
+    judge_next(table, card, row, next)
+}
+
 /// Action analysis asks the card nothing.
 #[tactic(auto, unfolding(crate::specs::Dialogue::analysis))]
 fn analyse<'s>(table: &mut Table<'s>, card: &CardData, row: &AidRow) -> Trading<'s>
     requires deal { IsDeal (deal_of table.old) }
     requires room { HasRoom table.old 8 }
     ensures stands { (marks : List Mark) (log : List Logged) (rest : List Reply → Standing Mark)
-        → Begins table.old marks rest (analysis (record { deal = deal_of table.old; row = row.now; card = card.now }) marks log)
+        → Begins table.old card.now marks rest (analysis (record { deal = deal_of table.old; row = row.now; card = card.now }) marks log)
         → TradingStands table.new (record { deal = deal_of table.old; row = row.now; card = card.now }) result log rest }
     ensures same { deal_of table.new ≡ deal_of table.old }
     ensures room { HasRoom table.new (scripts_left table.new.reply.scripts result) }
@@ -155,7 +246,7 @@ fn begin_first<'s>(
     requires deal { IsDeal (deal_of table.old) }
     requires room { HasRoom table.old 8 }
     ensures stands { (marks : List Mark) (log : List Logged) (rest : List Reply → Standing Mark)
-        → Begins table.old marks rest (first (record { deal = deal_of table.old; row = row.now; card = card.now }) asked marks log)
+        → Begins table.old card.now marks rest (first (record { deal = deal_of table.old; row = row.now; card = card.now }) asked marks log)
         → TradingStands table.new (record { deal = deal_of table.old; row = row.now; card = card.now }) result log rest }
     ensures same { deal_of table.new ≡ deal_of table.old }
     ensures room { HasRoom table.new (scripts_left table.new.reply.scripts result) }

@@ -13,8 +13,8 @@ pub returns-in-Done-clause-stands : goal.returns-in-Done-clause-stands
 returns-in-Done-clause-stands c = λ marks course rest begins leads.
     let trade : Trade = record { deal = deal_of c.args.table.now; row = c.args.row.now; card = c.args.card.now } in
     c.begin_risk.ensures.stands (HasVerified c.in-Done.verified ∷ marks) rest
-        (begins_next c.args.table.now _ step.Verify marks _ c.args.log.now course (λ verified. risk trade (HasVerified verified ∷ marks)) c.in-Done.verified rest
-            (c.has_verified.ensures.marks marks begins.tied) begins (rw c.in-Done.is at leads))
+        (begins_next c.args.table.now _ c.args.card.now step.Verify marks _ c.args.log.now course (λ verified. risk trade (HasVerified verified ∷ marks)) c.in-Done.verified rest
+            (c.has_verified.ensures.marks marks begins.tied) refl begins (rw c.in-Done.is at leads))
 
 pub returns-in-Ended-clause-stands : goal.returns-in-Ended-clause-stands
 returns-in-Ended-clause-stands c = λ marks course rest begins leads.
