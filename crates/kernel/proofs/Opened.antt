@@ -1,5 +1,5 @@
 -- How the steps before the card is read follow one another.
-use Rattle.std.proofs.Common.{◌≡◌, refl, sym, ap, ◌∙◌, ℕ, List, [], ◌∷◌, ◌++◌, Bool}
+use Rattle.std.proofs.Common.{◌≡◌, refl, ◌∙◌, ℕ, List, [], ◌∷◌, ◌++◌}
 use Rattle.app_select.specs.Candidates.{CandidateData}
 use Rattle.app_select.specs.NextLeads.{SearchNextLeads}
 use Rattle.app_select.specs.Selecting.{SelectedData}

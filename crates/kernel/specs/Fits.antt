@@ -19,7 +19,6 @@ use Rattle.kernel.specs.Terminal.{Deal}
 use Rattle.kernel.specs.declared.opening.OpeningNext.{OpeningNext}
 use Rattle.kernel.specs.declared.opening.OpeningNext.TheVariants as next
 use Rattle.kernel.specs.declared.stage.AtSelect.{AtSelect}
-use Rattle.kernel.specs.declared.stage.AtInitiate.{AtInitiate}
 use Rattle.kernel.specs.declared.stage.AtRead.{AtRead}
 use Rattle.kernel.specs.declared.stage.Opening.{Opening}
 use Rattle.kernel.specs.declared.stage.Opening.TheVariants as opening

@@ -1,4 +1,4 @@
-use Rattle.std.proofs.Common.{◌≡◌, refl, sym, ap, ◌∙◌, [], ◌∷◌, ℕ, List, if◌then◌else◌}
+use Rattle.std.proofs.Common.{refl, sym, ◌∙◌, []}
 use Rattle.emv_dict.specs.declared.ending.Step.TheVariants as step
 use Rattle.kernel.specs.Table.{deal_of}
 use Rattle.std.proofs.Common.{Some, None}

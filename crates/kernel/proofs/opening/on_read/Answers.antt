@@ -1,8 +1,7 @@
-use Rattle.std.proofs.Common.{◌≡◌, refl, sym, ap, ◌∙◌, [], ◌∷◌, ℕ, List, if◌then◌else◌}
+use Rattle.std.proofs.Common.{refl, [], ◌∷◌}
 use Rattle.emv_dict.specs.declared.ending.Step.TheVariants as step
 use Rattle.kernel.specs.Table.{deal_of}
 use Rattle.kernel.specs.Dialogue.{restrictions}
-use Rattle.object_lists.specs.CardRead.{ReadCard}
 use Rattle.read_records.specs.DataRead.{reading}
 use Rattle.read_records.specs.Options.{Opened}
 use Rattle.kernel.proofs.Opened.{taken_on, course_shifted}

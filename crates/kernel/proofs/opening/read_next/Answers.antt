@@ -1,8 +1,7 @@
-use Rattle.std.proofs.Common.{◌≡◌, refl, sym, ap, ◌∙◌, [], ◌∷◌, ℕ, List, if◌then◌else◌}
 use Rattle.emv_dict.specs.declared.ending.Step.TheVariants as step
 use Rattle.kernel.specs.Table.{deal_of}
 use Rattle.kernel.specs.Dialogue.{restrictions}
-use Rattle.object_lists.specs.CardRead.{ReadCard, card_of}
+use Rattle.object_lists.specs.CardRead.{card_of}
 use Rattle.kernel.proofs.Opened.{done_on, stopped_on}
 use Rattle.kernel.proofs.opening.read_next.Goals as goal
 
