@@ -2,6 +2,7 @@
 //! the capture (EMV 4.3 Book 3 section 8).
 #![tactic(auto)]
 
+pub mod ended;
 pub mod kernel;
 mod moment;
 mod opening;
