@@ -7,3 +7,4 @@ pub mod Taking
 pub mod NextOf
 pub mod Showing
 pub mod Opened
+pub mod Finishing
