@@ -4,13 +4,15 @@ use Rattle.std.proofs.lemmas.List.{append-nil}
 use Rattle.std.specs.declared.option.Option.{Option}
 use Rattle.emv_dict.specs.declared.ending.Ending.{Ending}
 use Rattle.emv_dict.specs.declared.purchase.Logged.{Logged}
+use Rattle.env_map.specs.Entries.{Entries}
 use Rattle.object_lists.specs.CardRead.{ReadCard}
 use Rattle.kernel.specs.Course.{Standing, stands}
-use Rattle.kernel.specs.Dialogue.{dialogue}
+use Rattle.kernel.specs.Dialogue.{Trade, dialogue}
 use Rattle.kernel.specs.Ended.{EndData, end_with, end_by, end_of}
 use Rattle.kernel.specs.Kernel.{KernelData, KernelFits, StageFits, KernelStands, StageGoes, deal_in}
 use Rattle.kernel.specs.Marks.{Mark, MomentData, moment, latest, card_of}
 use Rattle.kernel.specs.Reply.{Reply, Deed, Over}
+use Rattle.kernel.specs.Stages.{OpeningStands, TradingStands}
 use Rattle.kernel.specs.Shown.{opening_over, trading_over, stage_over}
 use Rattle.kernel.specs.Terminal.{Deal}
 use Rattle.kernel.specs.declared.stage.Opening.{Opening}
@@ -71,3 +73,30 @@ pub kernel_ends : (k : KernelData) → (replies : List Reply) → (ending : Endi
 kernel_ends k replies ending fits is over =
     let at = stage_ends_at k k.stage is.log (λ later. dialogue (deal_in k) (replies ++ later)) ending fits.stage is.goes over in
     ends_with (deal_in k) (dialogue (deal_in k) replies) at.marks ending k.card k.table.moment (ap (λ (all : List Reply). dialogue (deal_in k) all) (sym (append-nil replies)) ∙ at.is) at.read at.tied
+
+-- a stage that is over takes nothing from further replies
+opening_stays : (t : Table) → (objects : Entries) → (s : Opening) → (log : List Logged) → (rest : List Reply → Standing Mark) → (ending : Ending) → OpeningStands t objects s log rest → opening_over s ≡ Some ending → (later : List Reply) → rest later ≡ rest []
+opening_stays t objects (opening.Select s) log rest ending stands over later = cc
+opening_stays t objects (opening.Initiate s) log rest ending stands over later = cc
+opening_stays t objects (opening.Read s) log rest ending stands over later = cc
+opening_stays t objects (opening.Over at) log rest ending stands over later = stands.passed later ∙ sym (stands.passed [])
+
+trading_stays : (t : Table) → (trade : Trade) → (s : Trading) → (log : List Logged) → (rest : List Reply → Standing Mark) → (ending : Ending) → TradingStands t trade s log rest → trading_over s ≡ Some ending → (later : List Reply) → rest later ≡ rest []
+trading_stays t trade (trading.Verify v) log rest ending stands over later = cc
+trading_stays t trade (trading.Risk j) log rest ending stands over later = cc
+trading_stays t trade (trading.First asked) log rest ending stands over later = cc
+trading_stays t trade trading.Online log rest ending stands over later = cc
+trading_stays t trade trading.Authenticate log rest ending stands over later = cc
+trading_stays t trade (trading.ScriptBefore s) log rest ending stands over later = cc
+trading_stays t trade (trading.Second s) log rest ending stands over later = cc
+trading_stays t trade (trading.ScriptBehind s at) log rest ending stands over later = cc
+trading_stays t trade (trading.Over at) log rest ending stands over later = stands.passed later ∙ sym (stands.passed [])
+
+stage_stays : (k : KernelData) → (s : Stage) → (log : List Logged) → (rest : List Reply → Standing Mark) → (ending : Ending) → StageGoes k.table k.objects k.card s log rest → stage_over s ≡ Some ending → (later : List Reply) → rest later ≡ rest []
+stage_stays k (stage.Opening s) log rest ending goes over later = opening_stays k.table k.objects s log rest ending goes over later
+stage_stays k (stage.Trading at) log rest ending goes over later = trading_stays k.table (record { deal = deal_in k; row = at.row.now; card = goes.card }) at.trading log rest ending goes.stands over later
+
+pub kernel_stays : (k : KernelData) → (replies more : List Reply) → (ending : Ending) → KernelStands k replies → stage_over k.stage ≡ Some ending → dialogue (deal_in k) (replies ++ more) ≡ dialogue (deal_in k) replies
+kernel_stays k replies more ending is over =
+    stage_stays k k.stage is.log (λ later. dialogue (deal_in k) (replies ++ later)) ending is.goes over more
+    ∙ ap (λ (all : List Reply). dialogue (deal_in k) all) (append-nil replies)

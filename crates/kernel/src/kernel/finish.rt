@@ -1,5 +1,5 @@
 //! The end of a kernel.
-ghost use Rattle.std.specs.Prelude.{◌≡◌, List, length, Some, option_map};
+ghost use Rattle.std.specs.Prelude.{◌≡◌, ◌++◌, List, length, Some, option_map};
 ghost use Rattle.kernel.specs.Dialogue.{dialogue};
 ghost use Rattle.kernel.specs.Ended.{end_of};
 ghost use Rattle.kernel.specs.Kernel.{KernelStands, deal_in, next_of};
@@ -19,6 +19,9 @@ impl<'s> Kernel<'s> {
         ensures end { (replies : List Reply) → KernelStands self.entry replies
             → option_map shown (end_of (deal_in self.entry) (dialogue (deal_in self.entry) replies)) ≡ Some result }
         ensures tally { (replies : List Reply) → KernelStands self.entry replies → tally.new ≡ raised tally.old result.ending (length replies) }
+        // Further replies change nothing.
+        ensures stays { (replies more : List Reply) → KernelStands self.entry replies
+            → dialogue (deal_in self.entry) (replies ++ more) ≡ dialogue (deal_in self.entry) replies }
     {
         let Kernel {
             table,
