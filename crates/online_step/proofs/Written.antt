@@ -1,9 +1,9 @@
 -- Answers as a card writes them are read.
-use Rattle.std.proofs.Common.{◌≡◌, ℕ, ◌+◌, ◌*◌, ◌≤◌, ◌==◌, ◌&&◌, nat_le, Bool, true, false, List, [], ◌∷◌, ◌++◌, length, take, drop, refl, ap, sym, ◌∙◌, arith, Option, Some, None, Result, Ok, Err, if◌then◌else◌, length-append, append-nil}
+use Rattle.std.proofs.Common.{◌≡◌, ℕ, ◌+◌, ◌≤◌, ◌==◌, ◌&&◌, nat_le, Bool, true, false, List, [], ◌∷◌, ◌++◌, length, take, drop, refl, ap, sym, ◌∙◌, arith, Option, Some, None, Result, Ok, Err, if◌then◌else◌, length-append, append-nil}
 use Rattle.std.proofs.lemmas.Bool.Decides.{nat_tests}
 use Rattle.std.proofs.Math.Seq.{take-append_seam, drop-append_seam}
 use Rattle.apdu_core.proofs.ReadAgain.{response_again}
-use Rattle.apdu_core.specs.Response.{ResponseData, response_bytes, response_of}
+use Rattle.apdu_core.specs.Response.{response_bytes}
 use Rattle.apdu_core.specs.Status.{no_error}
 use Rattle.auth_message.proofs.Sizes.{written_short}
 use Rattle.auth_message.proofs.Spelled.{placed, read_fields}
@@ -19,7 +19,7 @@ use Rattle.emv_dict.specs.Kinds.{kind_byte, kind_of}
 use Rattle.emv_dict.specs.declared.ending.Cause.{Cause}
 use Rattle.emv_dict.specs.declared.ending.Kind.{Kind}
 use Rattle.emv_dict.specs.declared.ending.Kind.TheVariants.{Aac, Tc, Arqc}
-use Rattle.online_step.specs.Ac.{AcData, AcObjects, ◌>>=◌, in_format_one, in_format_two, of_values, of_objects, by_format, objects_in, is_refused, of_kind, allowed, ac_said, ac_of}
+use Rattle.online_step.specs.Ac.{AcObjects, ◌>>=◌, in_format_one, in_format_two, of_values, of_objects, by_format, objects_in, is_refused, of_kind, allowed, ac_said, ac_of}
 use Rattle.online_step.specs.Laws.{Given, IsGiven, answer_one, answer_two, objects_of, read_of}
 
 objects_from : Given → AcObjects
