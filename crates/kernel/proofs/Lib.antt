@@ -5,3 +5,5 @@ pub mod Following
 pub mod Analysis
 pub mod Taking
 pub mod NextOf
+mod Deciding
+mod Requested

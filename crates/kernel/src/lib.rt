@@ -3,6 +3,7 @@
 #![tactic(auto)]
 
 mod moment;
+mod online;
 mod scripts;
 mod stage;
 mod table;
