@@ -7,3 +7,4 @@ pub mod Taking
 pub mod NextOf
 mod Deciding
 mod Requested
+mod Scripting

@@ -2,6 +2,7 @@
 //! the capture (EMV 4.3 Book 3 section 8).
 #![tactic(auto)]
 
+mod issuer_scripts;
 mod moment;
 mod online;
 mod scripts;
