@@ -52,12 +52,19 @@ impl<'a> Model for PresentFields<'a> {
       t9f10 = f.t9f10.now;
       t8a = f.t8a;
     } };
+
+    ghost use Rattle.std.specs.Prelude.{length, ◌≡◌, IfSome};
+
+    ghost invariant = { λ f. (length f.t9f1c ≡ 8) × IfSome f.t5f34 (λ v. length v ≡ 1)
+        × (length f.t9f02 ≡ 6) × (length f.t9f03 ≡ 6) × (length f.t9f1a ≡ 2) × (length f.t95 ≡ 5)
+        × (length f.t5f2a ≡ 2) × (length f.t9a ≡ 3) × (length f.t9c ≡ 1) × (length f.t9f37 ≡ 4)
+        × (length f.t82 ≡ 2) × (length f.t9f36 ≡ 2) × (length f.t9f26 ≡ 8) × (length f.t8a ≡ 2) };
 }
 
 /// Reads a presentment's fields.
 #[tactic(auto, unfolding(crate::specs::Messages::present_at))]
 pub fn read_present<'a>(fields: &mut Fields<'a>) -> Result<PresentFields<'a>, MessageFault>
-    ensures { MatchResult result (λ found. present_at fields.old ≡ Ok found) (λ fault. present_at fields.old ≡ Err fault) }
+    ensures { MatchResult result (λ found. present_at fields.old.left ≡ Ok found) (λ fault. present_at fields.old.left ≡ Err fault) }
 {
     let Named { t9f1c, pan, t5f34 } = read_named(fields)?;
     let Paid {

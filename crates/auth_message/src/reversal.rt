@@ -21,7 +21,7 @@ pub struct ReversalFields {
 /// Reads a reversal's fields.
 #[tactic(auto, unfolding(crate::specs::Messages::reversal_at))]
 pub fn read_reversal(fields: &mut Fields) -> Result<ReversalFields, MessageFault>
-    ensures { MatchResult result (λ found. reversal_at fields.old ≡ Ok found) (λ fault. reversal_at fields.old ≡ Err fault) }
+    ensures { MatchResult result (λ found. reversal_at fields.old.left ≡ Ok found) (λ fault. reversal_at fields.old.left ≡ Err fault) }
 {
     let Named { t9f1c, pan, t5f34 } = read_named(fields)?;
     let t9f36 = fields.fixed(0x9F36, false)?;
