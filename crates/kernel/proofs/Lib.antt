@@ -1,0 +1,9 @@
+pub mod Courses
+pub mod Left
+pub mod Putting
+pub mod Following
+pub mod Analysis
+pub mod Taking
+pub mod NextOf
+pub mod Showing
+pub mod Opened
