@@ -7,3 +7,5 @@ pub mod Taking
 pub mod NextOf
 pub mod Showing
 pub mod Opened
+mod Deciding
+mod Requested

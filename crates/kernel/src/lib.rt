@@ -5,6 +5,7 @@
 pub mod kernel;
 mod moment;
 mod opening;
+mod online;
 mod scripts;
 mod stage;
 mod table;
