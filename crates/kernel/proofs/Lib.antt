@@ -5,6 +5,8 @@ pub mod Following
 pub mod Analysis
 pub mod Taking
 pub mod NextOf
+pub mod Showing
+pub mod Opened
 mod Deciding
 mod Requested
 mod Scripting

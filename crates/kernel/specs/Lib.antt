@@ -8,3 +8,6 @@ pub mod Dialogue
 pub mod Ended
 pub mod Table
 pub mod Stages
+pub mod Fits
+pub mod Kernel
+pub mod Tally

@@ -3,10 +3,13 @@
 #![tactic(auto)]
 
 mod issuer_scripts;
+pub mod kernel;
 mod moment;
+mod opening;
 mod online;
 mod scripts;
 mod stage;
 mod table;
+pub mod tally;
 mod terminal;
 mod trading;

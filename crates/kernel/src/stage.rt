@@ -67,3 +67,17 @@ pub(crate) struct AtSecond {
     /// Whether the host's reply was read.
     pub online: bool,
 }
+
+/// All stages.
+#[derive(Drop)]
+pub(crate) enum Stage<'s> {
+    Opening(Opening<'s>),
+    Trading(AtTrading<'s>),
+}
+
+#[derive(Drop)]
+pub(crate) struct AtTrading<'s> {
+    /// The terminal's row of the application.
+    pub row: &'s AidRow,
+    pub trading: Trading<'s>,
+}

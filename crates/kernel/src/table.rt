@@ -1,5 +1,10 @@
 //! What lies on the terminal's table while a dialogue goes on: what was dealt, what is known, and the
 //! buffers that are lent to the steps.
+ghost use Rattle.std.specs.Prelude.{◌≡◌, []};
+ghost use Rattle.emv_dict.specs.Settings.{IsSettings};
+ghost use Rattle.kernel.specs.Marks.{moment};
+ghost use Rattle.kernel.specs.Table.{deal_of};
+
 use crate::moment::{IssuerData, Moment};
 use app_select::Candidates;
 use apdu_core::Out;
@@ -44,4 +49,38 @@ pub(crate) struct Table<'s> {
     pub reply: HostReply,
     pub command: Out,
     pub message: Message,
+}
+
+impl<'s> Table<'s> {
+    /// The table before the first command: nothing is known yet.
+    pub(crate) fn new(settings: &'s Settings, purchase: &'s Purchase) -> Table<'s>
+        requires { IsSettings settings.now }
+        ensures deal { deal_of result ≡ record { settings = settings.now; purchase = purchase.now } }
+        ensures candidates { result.candidates ≡ [] }
+        ensures moment { result.moment ≡ moment [] }
+    {
+        Table {
+            settings,
+            purchase,
+            candidates: Candidates::new(settings),
+            terminal: Env::new(),
+            moment: Moment::new(),
+            reply: HostReply::none(),
+            command: ArrayVec::new(),
+            message: ArrayVec::new(),
+        }
+    }
+}
+
+impl HostReply {
+    /// No reply.
+    fn none() -> HostReply
+        ensures { result.scripts ≡ [] }
+    {
+        HostReply {
+            code: [0; 2],
+            issuer_data: None,
+            scripts: ArrayVec::new(),
+        }
+    }
 }
