@@ -24,6 +24,8 @@ use object_lists::CardData;
 use std::marker::Model;
 use std::mem;
 
+mod finish;
+
 /// What a terminal waits for.
 #[derive(Clone, Copy, PartialEq, Eq, Debug)]
 pub enum Next {

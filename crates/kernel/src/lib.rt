@@ -3,6 +3,7 @@
 #![tactic(auto)]
 
 mod issuer_scripts;
+pub mod ended;
 pub mod kernel;
 mod moment;
 mod opening;
