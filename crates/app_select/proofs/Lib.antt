@@ -4,3 +4,4 @@ pub mod Turns
 pub mod Chains
 pub mod Order
 pub mod Names
+pub mod Lists

@@ -1,8 +1,18 @@
 //! What the definitions of the candidates say in other words.
-ghost use Rattle.std.specs.Prelude.{◌≡◌, ◌≤◌, ℕ, List, Option, filter};
-ghost use Rattle.std.specs.List.{list_any};
+ghost use Rattle.std.specs.Prelude.{◌≡◌, ◌≤◌, ◌<◌, ◌+◌, ℕ, List, Option, length, filter};
+ghost use Rattle.std.specs.List.{AllByRecursion, list_any};
 ghost use Rattle.app_select.specs.Candidates.{CandidateData, firsts, has_name, has_rank, ordered, rank_of};
+ghost use Rattle.app_select.specs.Listed.{listed};
 ghost use Rattle.app_select.specs.Laws.{HasDistinctNames, IsRising};
+ghost use Rattle.emv_dict.specs.declared.purchase.AidRow.{AidRow};
+
+/// The numbers that the list's answers get: no occurrence of an AID is the seventeenth, and no answer is
+/// lost.
+pub fn answers_are_numbered()
+    ensures occurrences { (rows : List AidRow) (answers : List (List ℕ)) → AllByRecursion (λ answer. answer.turn < 16) (listed rows 0 answers).answers }
+    ensures all { (rows : List AidRow) (answers : List (List ℕ))
+        → length (listed rows 0 answers).answers + length (listed rows 0 answers).rest ≡ length answers }
+{}
 
 /// Candidates stand in the order of their ranks, and those of one rank as they were found: none is lost,
 /// and none added.

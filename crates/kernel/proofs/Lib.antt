@@ -8,3 +8,6 @@ pub mod NextOf
 pub mod Showing
 pub mod Opened
 pub mod Finishing
+mod Deciding
+mod Requested
+mod Scripting

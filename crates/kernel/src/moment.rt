@@ -1,5 +1,5 @@
 //! What a terminal holds at a moment of the dialogue (EMV 4.3 Book 3 Annexes C5 and C6, Book 4 Annex A6).
-ghost use Rattle.std.specs.Prelude.{◌≡◌, ◌+◌, [], ◌∷◌, ◌<◌, ◌≤◌, ℕ, List, length, option_map, IfSome, not};
+ghost use Rattle.std.specs.Prelude.{◌≡◌, ◌+◌, [], ◌∷◌, ◌<◌, ◌≤◌, ℕ, List, length, option_map, IfSome, Some, not};
 ghost use Rattle.emv_dict.specs.Digits.{HasPinLength};
 ghost use Rattle.kernel.specs.Marks.{Mark, HasRead, HasRestricted, HasVerified, HasJudged, HasAnalysed, HasFirst, HasReply, WasUnable, HasAuthenticated, HasRunBefore, HasSecond, HasRunBehind, moment, offline_code as spec_offline, unable_code as spec_unable, is_whole as whole_test, bits_if, sound_pin as sound};
 ghost use Rattle.object_lists.specs.CardRead.{ReadCard};
@@ -98,6 +98,13 @@ impl Moment {
         self.pin.as_ref()
     }
 
+    /// The card's last cryptogram.
+    pub(crate) fn last(&self) -> Option<&Ac>
+        ensures { option_map (λ ac. ac.now) result ≡ self.now.last }
+    {
+        self.last.as_ref()
+    }
+
     /// The card is read: without offline data authentication.
     pub(crate) fn has_read(&mut self)
         ensures marks { (marks : List Mark) (card : ReadCard) → self.old ≡ moment marks → self.new ≡ moment (HasRead card ∷ marks) }
@@ -146,6 +153,7 @@ impl Moment {
 
     pub(crate) fn has_first(&mut self, ac: Ac)
         ensures marks { (marks : List Mark) → self.old ≡ moment marks → self.new ≡ moment (HasFirst ac ∷ marks) }
+        ensures last { self.new.last ≡ Some ac }
         ensures scripts { self.new.scripts ≡ self.old.scripts }
     {
         self.tsi = Tsi(self.tsi.0 | Tsi::CARD_RISK_MANAGEMENT.0);

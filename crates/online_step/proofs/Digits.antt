@@ -1,13 +1,13 @@
 -- Values of digits: those of a purchase and of a card have the forms that a message needs.
-use Rattle.std.proofs.Common.{◌≡◌, ℕ, zero, suc, ◌+◌, ◌/◌, ◌%◌, ◌<◌, ◌≤◌, ◌==◌, ◌&&◌, nat_le, Bool, true, false, List, [], ◌∷◌, length, IsTrue, IsSome, refl, ap, sym, ◌∙◌, arith, Option, Some, None, Result, Ok, Err, if◌then◌else◌, slice_index, unwrap_or, is_some}
+use Rattle.std.proofs.Common.{◌≡◌, ℕ, suc, ◌≤◌, ◌==◌, nat_le, Bool, true, false, List, [], ◌∷◌, length, IsTrue, IsSome, refl, ap, sym, arith, Option, Some, None, Result, Ok, Err, if◌then◌else◌}
 use Rattle.std.proofs.lemmas.Bool.Decides.{nat_tests}
-use Rattle.std.specs.List.{All, list_all}
-use Rattle.std.specs.Prelude.{IfSome, option_and_then}
+use Rattle.std.specs.List.{All}
+use Rattle.std.specs.Prelude.{option_and_then}
 use Rattle.std.specs.Result.{result_ok}
 use Rattle.auth_message.specs.Accepted.{AreDigits}
 use Rattle.ber_tlv.proofs.ReadAgain.{both}
 use Rattle.emv_dict.specs.Bcd.{has_digits}
-use Rattle.emv_dict.specs.Date.{date_of, is_date, read_date, year_of, number_of, is_month, is_day}
+use Rattle.emv_dict.specs.Date.{date_of, is_date}
 use Rattle.emv_dict.specs.Pan.{pan_of, HasPanLength, is_pan_length, before_filler, faultless_pan, stray_nibble}
 use Rattle.emv_dict.specs.Nibbles.{nibbles}
 use Rattle.emv_dict.specs.Settings.{is_code}

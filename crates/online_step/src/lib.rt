@@ -7,6 +7,7 @@ pub mod authenticate;
 pub mod captures;
 mod fields;
 pub mod generate;
+pub mod laws;
 mod objects;
 pub mod online;
 
@@ -14,6 +15,7 @@ pub use ac::{Ac, read_ac};
 pub use authenticate::{authenticate_command, read_verdict};
 pub use captures::{presentment, reversal};
 pub use generate::{fill_list, write_generate};
+pub use laws::answers_are_read_back;
 pub use online::request;
 
 #[cfg(test)]

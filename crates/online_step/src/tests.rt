@@ -340,10 +340,8 @@ fn requests_are_written(rt: HostRuntime) {
     };
     request(&card, &terminal, &settings, &ac, Some(&pin), &mut out);
     assert!(rt; out.starts_with(&[0xe1, 0x79]));
-    assert_eq!(rt;
-        &out.as_slice()[112..],
-        bytes("df11082f649716b1db47b5").as_slice()
-    );
+    assert_eq!(rt; out.len(), 123);
+    assert!(rt; out.ends_with(&bytes("df11082f649716b1db47b5")));
 }
 
 fn purchase(alloc: Global) -> Purchase

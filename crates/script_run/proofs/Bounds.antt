@@ -1,11 +1,11 @@
 -- The commands of a template: one behind another, how many there are, and how long one is.
-use Rattle.std.proofs.Common.{◌≡◌, ℕ, zero, suc, ◌+◌, ◌*◌, ◌≤◌, ◌<◌, ◌-◌, ◌==◌, Bool, true, false, List, [], ◌∷◌, length, filter, map, drop, refl, ap, sym, ◌∙◌, arith, Option, Some, None, is_some, not, option_map, Result, Ok, Err, Bor, slice_get, slice_index, if◌then◌else◌}
+use Rattle.std.proofs.Common.{◌≡◌, ℕ, zero, suc, ◌+◌, ◌*◌, ◌≤◌, ◌<◌, ◌==◌, Bool, true, false, List, [], ◌∷◌, length, filter, map, drop, refl, ap, sym, ◌∙◌, arith, Option, Some, None, is_some, not, option_map, Result, Ok, Err, Bor, slice_get, slice_index, if◌then◌else◌}
 use Rattle.std.proofs.lemmas.List.{length-map, drop-drop}
 use Rattle.std.proofs.lemmas.Bool.Decides.{nat_tests}
 use Rattle.std.proofs.lemmas.List.Filters.{length-filter_both}
 use Rattle.std.proofs.lemmas.Option.{slice_get_within}
 use Rattle.std.specs.Prelude.{MatchOption, IfSome}
-use Rattle.apdu_core.specs.Command.{command_of, tail_of, field_of}
+use Rattle.apdu_core.specs.Command.{command_of, tail_of}
 use Rattle.ber_tlv.specs.Item.{ItemData}
 use Rattle.ber_tlv.specs.Items.{Items}
 use Rattle.ber_tlv.specs.Left.{items_of}

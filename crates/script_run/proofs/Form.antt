@@ -1,13 +1,13 @@
 -- The script of a template, by its commands.
-use Rattle.std.proofs.Common.{◌≡◌, ℕ, ◌+◌, ◌*◌, ◌≤◌, ◌==◌, ◌&&◌, arith, Bool, true, false, List, [], ◌∷◌, filter, map, refl, ap, sym, ◌∙◌, Option, Some, None, option_map, Result, Ok, Err, IsOk, length, if◌then◌else◌}
+use Rattle.std.proofs.Common.{◌≡◌, ℕ, ◌==◌, ◌&&◌, arith, Bool, true, false, List, [], ◌∷◌, filter, map, refl, ap, sym, ◌∙◌, Option, Some, None, option_map, Result, Ok, Err, length, if◌then◌else◌}
 use Rattle.std.proofs.lemmas.Bool.Decides.{nat_tests}
 use Rattle.std.specs.List.{list_all}
 use Rattle.ber_tlv.specs.Item.{ItemData}
 use Rattle.ber_tlv.specs.Left.{items_of}
 use Rattle.ber_tlv.specs.declared.item.TlvFault.{TlvFault}
-use Rattle.emv_dict.specs.Progress.{Progress, Done, Leads}
-use Rattle.script_run.specs.Ran.{ran, no_script, script_ran, template_ran}
-use Rattle.script_run.specs.Script.{ScriptData, is_command, no_identifier, with_commands, script_in, script_read, script_of, commands_in, commands_of}
+use Rattle.emv_dict.specs.Progress.{Leads}
+use Rattle.script_run.specs.Ran.{ran, script_ran, template_ran}
+use Rattle.script_run.specs.Script.{ScriptData, is_command, no_identifier, with_commands, script_read, script_of, commands_in, commands_of}
 
 -- the script has these commands
 abbrev HasCommands : Option ScriptData → List (List ℕ) → Type 0

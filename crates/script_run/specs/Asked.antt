@@ -1,5 +1,5 @@
 -- A command that can be asked.
-use Rattle.std.specs.Prelude.{◌≡◌, true, ℕ, ◌<◌, List, ◌∷◌, length, drop, is_some, IsOk}
+use Rattle.std.specs.Prelude.{◌≡◌, true, ℕ, ◌<◌, List, ◌∷◌, drop, is_some, IsOk}
 use Rattle.apdu_core.specs.Command.{command_of}
 use Rattle.ber_tlv.specs.Left.{items_of}
 use Rattle.script_run.specs.Script.{commands_of}

@@ -1,5 +1,5 @@
 -- What the script does next with the later answers.
-use Rattle.std.specs.Prelude.{◌≡◌, ◌+◌, ⊤, ℕ, List, length}
+use Rattle.std.specs.Prelude.{◌≡◌, ⊤, ℕ, List, length}
 use Rattle.emv_dict.specs.Progress.{Progress, Done, Leads}
 use Rattle.script_run.specs.Ran.{rest_of}
 use Rattle.script_run.specs.declared.running.RunNext.{RunNext}

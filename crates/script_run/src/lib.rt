@@ -6,7 +6,7 @@ pub mod laws;
 pub mod running;
 mod template;
 
-pub use laws::commands_are_asked_in_turn;
+pub use laws::{commands_are_asked_in_turn, scripts_are_read_back};
 pub use running::{RunNext, Running};
 
 #[cfg(test)]

@@ -1,6 +1,7 @@
 //! A terminal's objects for the tests.
 ghost use Rattle.std.specs.Prelude.{◌≡◌, IsTrue, length};
 ghost use Rattle.auth_message.specs.Accepted.{AreDigits};
+ghost use Rattle.auth_message.specs.Field.{are_digits as all_digits};
 ghost use Rattle.online_step.specs.TerminalData.{object, HasTerminalData};
 
 use super::bytes;
@@ -64,7 +65,13 @@ fn is_numeric(env: &Env, tag: u32, count: usize) -> bool
     ensures digits { IsTrue result → AreDigits (object tag env.now) }
 {
     match env.get(Tag(tag)) {
-        Some(value) => value.len() == count && value.iter().all(|byte| has_digits(*byte)),
+        Some(value) => value.len() == count && are_digits(value),
         None => false,
     }
+}
+
+fn are_digits(value: &[u8]) -> bool
+    ensures { result ≡ all_digits value.now }
+{
+    value.iter().all(|byte| has_digits(*byte))
 }

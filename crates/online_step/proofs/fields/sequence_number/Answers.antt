@@ -1,4 +1,4 @@
-use Rattle.std.proofs.Common.{sym, ◌∙◌, arith}
+use Rattle.std.proofs.Common.{sym, arith}
 use Rattle.online_step.proofs.Digits.{two_digits-one, two_digits-value}
 use Rattle.online_step.proofs.fields.sequence_number.Goals as goal
 

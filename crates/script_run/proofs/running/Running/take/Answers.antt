@@ -1,4 +1,4 @@
-use Rattle.std.proofs.Common.{◌∷◌, sym, ap, ◌∙◌}
+use Rattle.std.proofs.Common.{sym, ◌∙◌}
 use Rattle.script_run.proofs.Bounds.{drop_behind}
 use Rattle.script_run.proofs.Stages.{went_on, gave_up}
 use Rattle.script_run.proofs.running.Running.take.Goals as goal

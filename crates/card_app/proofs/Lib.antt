@@ -1,0 +1,3 @@
+mod Allowing
+mod Comparing
+mod Continuing

@@ -1,0 +1,12 @@
+pub mod Answering
+pub mod Cryptograms
+pub mod Files
+pub mod Options
+pub mod Orders
+pub mod OwnLists
+pub mod Pin
+pub mod Replies
+pub mod SeenCard
+pub mod SeenReply
+pub mod Selection
+pub mod Session

@@ -1,0 +1,25 @@
+-- Which application SELECT finds (EMV 4.3 Book 1 section 11.3).
+use Rattle.std.specs.Prelude.{ℕ, ◌+◌, ◌==◌, nat_eq, if◌then◌else◌, List, [], ◌∷◌, drop, Option, Some, None}
+use Rattle.std.specs.List.{starts_with}
+use Rattle.card_files.specs.Views.{AppData}
+use Rattle.card_cryptogram.specs.Phases.{current}
+use Rattle.card_cryptogram.specs.declared.phase.Phase.{Phase}
+
+-- the first application whose name begins with these bytes, where the first one has this number
+unfoldable pub first_named : ℕ → List ℕ → List AppData → Option ℕ
+first_named number name [] = None
+first_named number name (app ∷ apps) =
+    if starts_with nat_eq app.name name then Some number else first_named (number + 1) name apps
+
+-- the number behind the selected application
+abbrev pub behind : Option ℕ → ℕ
+behind None = 0
+behind (Some app) = app + 1
+
+-- where SELECT begins to look: the next occurrence (P2 02) is behind the selected application
+abbrev pub looks_from : Phase → ℕ → ℕ
+looks_from phase p2 = if p2 == 2 then behind (current phase) else 0
+
+-- the application that SELECT with these data finds
+abbrev pub found : List AppData → Phase → ℕ → List ℕ → Option ℕ
+found image phase p2 name = first_named (looks_from phase p2) name (drop (looks_from phase p2) image)

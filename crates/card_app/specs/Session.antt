@@ -1,0 +1,97 @@
+-- How far a card has come in the session since its power-up, read off the commands and their answers.
+use Rattle.std.specs.Prelude.{ℕ, ◌==◌, ◌||◌, Bool, true, false, if◌then◌else◌, List, Option, Some, None, slice_get}
+use Rattle.std.specs.List.{fold}
+use Rattle.apdu_core.specs.Command.{CommandData, command_of}
+use Rattle.apdu_core.specs.Response.{ResponseData, response_of}
+use Rattle.card_cryptogram.specs.Bodies.{kind_in, cryptogram_in}
+use Rattle.card_cryptogram.specs.Fields.{first_given}
+use Rattle.card_files.specs.Views.{AppData}
+use Rattle.emv_dict.specs.declared.ending.Kind.{Kind}
+use Rattle.emv_dict.specs.declared.ending.Kind.TheVariants.{Aac, Tc, Arqc}
+use Rattle.card_app.specs.Selection.{found}
+use Rattle.card_app.specs.OwnLists.{cdol_of}
+use Rattle.card_cryptogram.specs.declared.phase.First.{First}
+use Rattle.card_cryptogram.specs.declared.phase.Phase.{Phase}
+use Rattle.card_cryptogram.specs.declared.phase.Phase.TheVariants.{Idle, Selected, Started, Online, Closed, Done}
+
+-- a command and its answer
+pub record Exchange : Type 0 where
+  pub command : List ℕ
+  pub answer : List ℕ
+
+-- SELECT gave file control information: also where the application is blocked
+abbrev pub is_shown : ℕ → Bool
+is_shown status = status == 0x9000 || status == 0x6283
+
+abbrev pub selected : Option ℕ → Phase → Phase
+selected (Some app) phase = Selected app
+selected None phase = phase
+
+abbrev pub started : Phase → Phase
+started (Selected app) = Started app
+started Idle = Idle
+started (Started app) = Started app
+started (Online app first sent) = Online app first sent
+started (Closed app) = Closed app
+started (Done app first) = Done app first
+
+-- a request to go online
+abbrev pub is_request : Option Kind → Bool
+is_request (Some Arqc) = true
+is_request (Some Tc) = false
+is_request (Some Aac) = false
+is_request None = false
+
+-- what of the first cryptogram the later commands refer to: what was given for it, at its places in the data of
+-- the command, and the cryptogram, at its place in the body of the answer
+abbrev pub first_in : AppData → List ℕ → List ℕ → First
+first_in a filled body = record { given = first_given (cdol_of a.cdol1) filled; cryptogram = cryptogram_in a.ac_format body }
+
+-- the first cryptogram was made: online behind a request, closed behind another kind
+abbrev pub begun : ℕ → AppData → List ℕ → List ℕ → Phase
+begun app a filled body = if is_request (kind_in a.ac_format body) then Online app (first_in a filled body) None else Closed app
+
+abbrev pub begun_of : ℕ → Option AppData → List ℕ → List ℕ → Phase
+begun_of app (Some a) filled body = begun app a filled body
+begun_of app None filled body = Started app
+
+-- a cryptogram was made for these data, and the body holds it
+abbrev pub with_cryptogram : List AppData → List ℕ → List ℕ → Phase → Phase
+with_cryptogram image filled body (Started app) = begun_of app (slice_get image app) filled body
+with_cryptogram image filled body (Online app first sent) = Done app first
+with_cryptogram image filled body Idle = Idle
+with_cryptogram image filled body (Selected app) = Selected app
+with_cryptogram image filled body (Closed app) = Closed app
+with_cryptogram image filled body (Done app first) = Done app first
+
+-- EXTERNAL AUTHENTICATE was sent, and the issuer authenticated or not
+abbrev pub authenticated : Bool → Phase → Phase
+authenticated right (Online app first sent) = Online app first (Some right)
+authenticated right Idle = Idle
+authenticated right (Selected app) = Selected app
+authenticated right (Started app) = Started app
+authenticated right (Closed app) = Closed app
+authenticated right (Done app first) = Done app first
+
+-- the phase behind a command with this body and status of its answer
+unfoldable pub next_phase : List AppData → Phase → CommandData → List ℕ → ℕ → Phase
+next_phase image phase c body status =
+    if c.ins == 0xA4 then (if is_shown status then selected (found image phase c.p2 c.body) phase else phase)
+    else if c.ins == 0xA8 then (if status == 0x9000 then started phase else phase)
+    else if c.ins == 0xAE then (if status == 0x9000 then with_cryptogram image c.body body phase else phase)
+    else if c.ins == 0x82 then
+    (if status == 0x9000 then authenticated true phase else if status == 0x6300 then authenticated false phase else phase)
+    else phase
+
+abbrev pub after_said : List AppData → Phase → Option CommandData → Option ResponseData → Phase
+after_said image phase (Some c) (Some r) = next_phase image phase c r.body r.status
+after_said image phase (Some c) None = phase
+after_said image phase None r = phase
+
+-- the phase behind one more command and its answer
+abbrev pub after : List AppData → Phase → Exchange → Phase
+after image phase x = after_said image phase (command_of x.command) (response_of x.answer)
+
+-- the phase behind all of a session
+unfoldable pub phase_of : List AppData → List Exchange → Phase
+phase_of image session = fold (after image) Idle session

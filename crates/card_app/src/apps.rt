@@ -1,0 +1,52 @@
+//! An application, its state and its object lists.
+ghost use Rattle.std.specs.Prelude.{◌≡◌, ◌<◌, ◌≤◌, length, slice_get, Some, IsTrue, is_some, option_map, if◌then◌else◌};
+ghost use Rattle.card_files.specs.Kept.{KeepsRules};
+ghost use Rattle.card_files.specs.Lists.{entries_within, most_cdol, is_optional_pdol};
+ghost use Rattle.card_app.specs.OwnLists as spec;
+
+use card_files::lists::{MOST_CDOL, MOST_PDOL, list_within};
+use card_files::{AppImage, Image};
+use card_state::{AppState, CardState};
+use object_lists::{Dol, total};
+
+/// The image of the application of this number.
+pub(crate) fn app_at(image: &Image, app: u8) -> &AppImage
+    requires { app < length image.now }
+    ensures found { slice_get image.now app ≡ Some result.now }
+    ensures rules { KeepsRules result.now }
+{
+    &image.apps()[usize::from(app)]
+}
+
+/// The state of the application of this number.
+pub(crate) fn state_at(state: &CardState, app: u8) -> &AppState
+    requires { app < length state.now.apps.items }
+    ensures { slice_get state.now.apps.items app ≡ Some result.now }
+{
+    &state.apps.as_slice()[usize::from(app)]
+}
+
+/// The entries of an object list of GENERATE AC, which an image has only where they can be read.
+pub(crate) fn cdol_of(bytes: &[u8]) -> Dol
+    requires { IsTrue (is_some (entries_within most_cdol bytes.now)) }
+    ensures { result ≡ spec.cdol_of bytes.now }
+{
+    match list_within(bytes, MOST_CDOL) {
+        Some(dol) => dol,
+        None => unreachable!(),
+    }
+}
+
+/// How many bytes of data the processing options object list wants; none where there is none.
+pub(crate) fn pdol_total(pdol: &Option<Vec<u8>>) -> usize
+    requires { IsTrue (is_optional_pdol (option_map (λ list. list.items) pdol.now)) }
+    ensures { result ≡ spec.pdol_total (option_map (λ list. list.items) pdol.now) }
+{
+    match pdol {
+        Some(bytes) => match list_within(bytes, MOST_PDOL) {
+            Some(dol) => total(&dol) as usize,
+            None => unreachable!(),
+        },
+        None => 0,
+    }
+}

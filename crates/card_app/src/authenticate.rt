@@ -1,0 +1,100 @@
+//! EXTERNAL AUTHENTICATE (EMV 4.3 Book 3 section 6.5.4).
+ghost use Rattle.std.specs.Prelude.{◌≡◌, ◌&&◌, [], length, Some, None, nat_le, if◌then◌else◌};
+ghost use Rattle.apdu_core.specs.Seen.{seen_command};
+ghost use Rattle.card_app.specs.SeenReply.{reply_data, Leads, LeadsFor, MayReply, MayFor, IsAt};
+ghost use Rattle.card_app.specs.Cryptograms as spec;
+ghost use Rattle.card_cryptogram.specs.declared.phase.Phase.TheVariants.{Online};
+
+use crate::apps::{app_at, state_at};
+use crate::reply::{Reply, refused};
+use apdu_core::Command;
+use apdu_core::status::{
+    AUTHENTICATION_FAILED, CONDITIONS_NOT_SATISFIED, NO_ERROR, WRONG_LENGTH, WRONG_PARAMETERS,
+};
+use card_cryptogram::{First, Phase, authenticates, has_issuer_auth};
+use card_files::{AppImage, Image};
+use card_state::{AppState, CardState, Decision};
+
+/// Whether the issuer authentication data has 8 to 16 bytes.
+fn is_size(size: usize) -> bool
+    ensures { result ≡ (nat_le 8 size && nat_le size 16) }
+{
+    8 <= size && size <= 16
+}
+
+/// The status of an issuer authentication.
+fn status_of(right: bool) -> u16
+    ensures { result ≡ (if right then 0x9000 else 0x6300) }
+{
+    if right {
+        NO_ERROR
+    } else {
+        AUTHENTICATION_FAILED
+    }
+}
+
+/// The decision whether the issuer is authenticated.
+#[tactic(auto, unfolding(crate::specs::Cryptograms::authenticate_for, crate::specs::Session::next_phase))]
+fn judge(app: &AppImage, state: &AppState, number: u8, first: First, command: &Command<'_>) -> Reply
+    requires ins { command.now.ins ≡ 0x82 }
+    ensures said { reply_data [] result ≡ spec.authenticate_for number first command.now.body.now app.now state.now }
+    ensures leads { LeadsFor number app.now (Online number first None) (seen_command command.now) [] result }
+    ensures may { MayFor number state.now result }
+{
+    let phase = Phase::Online {
+        app: number,
+        first,
+        sent: None,
+    };
+    if !has_issuer_auth(app.aip) {
+        return refused(phase, CONDITIONS_NOT_SATISFIED);
+    }
+    if !is_size(command.body.len()) {
+        return refused(phase, WRONG_LENGTH);
+    }
+    let right = authenticates(&app.ac_key, state.counter, first.cryptogram, command.body);
+    Reply::Decides {
+        app: number,
+        decision: Decision::Authenticated { right },
+        status: status_of(right),
+        phase: Phase::Online {
+            app: number,
+            first,
+            sent: Some(right),
+        },
+    }
+}
+
+/// EXTERNAL AUTHENTICATE, once in a transaction.
+#[tactic(auto, unfolding(crate::specs::Cryptograms::authenticate_row, crate::specs::Session::next_phase))]
+pub(crate) fn authenticate(
+    image: &Image,
+    state: &CardState,
+    phase: Phase,
+    command: &Command<'_>,
+) -> Reply
+    requires apps { length state.now.apps.items ≡ length image.now }
+    requires at { IsAt phase (length image.now) }
+    requires ins { command.now.ins ≡ 0x82 }
+    ensures said { reply_data [] result ≡ spec.authenticate_row image.now state.now phase (seen_command command.now) }
+    ensures leads { Leads image.now phase (Some (seen_command command.now)) [] result }
+    ensures may { MayReply state.now result }
+{
+    if command.p1 != 0x00 || command.p2 != 0x00 {
+        return refused(phase, WRONG_PARAMETERS);
+    }
+    match phase {
+        Phase::Online {
+            app,
+            first,
+            sent: None,
+        } => judge(
+            app_at(image, app),
+            state_at(state, app),
+            app,
+            first,
+            command,
+        ),
+        _ => refused(phase, CONDITIONS_NOT_SATISFIED),
+    }
+}

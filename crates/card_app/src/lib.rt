@@ -1,0 +1,21 @@
+//! A payment card: its commands and their answers (EMV 4.3 Book 1 section 11.3, Book 3 section 6.5),
+//! from the image of its applications and from pages that may lose their power in the middle of a
+//! write. Each decision of the card is one commit of the pages, and an answer comes out only behind the
+//! commits of its decisions.
+#![tactic(auto)]
+
+mod answering;
+mod apps;
+mod authenticate;
+mod card;
+mod files;
+mod generate;
+mod options;
+mod orders;
+mod reply;
+mod scripts;
+mod selection;
+mod verify;
+
+pub use card::{Card, personalise};
+pub use card_cryptogram::{First, Given, Phase};

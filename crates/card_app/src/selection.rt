@@ -1,0 +1,134 @@
+//! SELECT (EMV 4.3 Book 1 section 11.3).
+ghost use Rattle.std.specs.Prelude.{◌≡◌, ◌⊎◌, ◌+◌, ◌<◌, ◌≤◌, ◌==◌, ◌&&◌, ◌||◌, [], length, drop, Some, IfSome, if◌then◌else◌, not, nat_le};
+ghost use Rattle.std.specs.Option.{option_map};
+ghost use Rattle.apdu_core.specs.Seen.{seen_command};
+ghost use Rattle.card_app.specs.Files as files_spec;
+ghost use Rattle.card_app.specs.Replies.{shows, with_app};
+ghost use Rattle.card_app.specs.SeenReply.{reply_data, Leads, MayReply, IsAt};
+ghost use Rattle.card_app.specs.Selection as spec;
+
+use crate::apps::state_at;
+use crate::reply::{Reply, refused};
+use apdu_core::Command;
+use apdu_core::status::{
+    FILE_INVALIDATED, FILE_NOT_FOUND, FUNCTION_NOT_SUPPORTED, NO_ERROR, WRONG_LENGTH,
+    WRONG_PARAMETERS,
+};
+use card_cryptogram::{Body, Phase};
+use card_files::{AppImage, Image};
+use card_state::CardState;
+
+/// P2 of the first occurrence, and of the next one.
+const FIRST: u8 = 0x00;
+
+const NEXT: u8 = 0x02;
+
+/// The first application whose name begins with these bytes, where the first one has this number.
+#[tactic(auto, unfolding(crate::specs::Selection::first_named))]
+fn first_named(apps: &[AppImage], number: u8, name: &[u8]) -> Option<u8>
+    requires { number + length apps.now ≤ 4 }
+    ensures found { result ≡ spec.first_named number name.now apps.now }
+    ensures within { IfSome result (λ app. app < number + length apps.now) }
+{
+    match apps {
+        [] => None,
+        [first, rest @ ..] => {
+            if first.name.as_slice().starts_with(name) {
+                return Some(number);
+            }
+            first_named(rest, number + 1, name)
+        }
+    }
+}
+
+/// The number from which SELECT looks: for the next occurrence that behind the selected application.
+fn looks_from(phase: Phase, p2: u8, count: usize) -> u8
+    requires few { count ≤ 4 }
+    requires at { IsAt phase count }
+    ensures number { result ≡ spec.looks_from phase p2 }
+    ensures within { result ≤ count }
+{
+    if p2 != NEXT {
+        return 0;
+    }
+    match phase.current() {
+        Some(app) => app + 1,
+        None => 0,
+    }
+}
+
+/// The application that SELECT finds.
+fn find(image: &Image, phase: Phase, p2: u8, name: &[u8]) -> Option<u8>
+    requires { IsAt phase (length image.now) }
+    ensures found { result ≡ spec.found image.now phase p2 name.now }
+    ensures within { IfSome result (λ app. app < length image.now) }
+{
+    let apps = image.apps();
+    let number = looks_from(phase, p2, apps.len());
+    first_named(&apps[usize::from(number)..], number, name)
+}
+
+/// The file control information; a blocked application is shown with a warning.
+fn show(image: &Image, state: &CardState, app: u8, out: &mut Body) -> u16
+    requires app { app < length image.now }
+    requires apps { length state.now.apps.items ≡ length image.now }
+    ensures said { shows out.new.items result ≡ with_app image.now state.now app files_spec.shown_for }
+    ensures shown { (result ≡ 0x9000) ⊎ (result ≡ 0x6283) }
+{
+    image.fci(app, out);
+    if state_at(state, app).blocked {
+        FILE_INVALIDATED
+    } else {
+        NO_ERROR
+    }
+}
+
+/// Whether P1 P2 ask for an application by its name, the first or the next occurrence.
+fn is_by_name(p1: u8, p2: u8) -> bool
+    ensures { result ≡ ((p1 == 4) && ((p2 == 0) || (p2 == 2))) }
+{
+    p1 == 0x04 && (p2 == FIRST || p2 == NEXT)
+}
+
+/// Whether so many bytes may be the name or its beginning.
+fn is_name_size(size: usize) -> bool
+    ensures { result ≡ (nat_le 1 size && nat_le size 16) }
+{
+    1 <= size && size <= 16
+}
+
+/// SELECT: the first application whose name begins with the data, or the next one behind the selected
+/// one.
+#[tactic(auto, unfolding(crate::specs::Files::select_row, crate::specs::Session::next_phase))]
+pub(crate) fn select(
+    image: &Image,
+    state: &CardState,
+    phase: Phase,
+    command: &Command<'_>,
+    out: &mut Body,
+) -> Reply
+    requires empty { out.old.items ≡ [] }
+    requires apps { length state.now.apps.items ≡ length image.now }
+    requires at { IsAt phase (length image.now) }
+    requires ins { command.now.ins ≡ 0xA4 }
+    ensures said { reply_data out.new.items result ≡ files_spec.select_row image.now state.now phase (seen_command command.now) }
+    ensures leads { Leads image.now phase (Some (seen_command command.now)) out.new.items result }
+    ensures may { MayReply state.now result }
+{
+    if !is_by_name(command.p1, command.p2) {
+        return refused(phase, WRONG_PARAMETERS);
+    }
+    if !is_name_size(command.body.len()) {
+        return refused(phase, WRONG_LENGTH);
+    }
+    if state.blocked {
+        return refused(phase, FUNCTION_NOT_SUPPORTED);
+    }
+    match find(image, phase, command.p2, command.body) {
+        Some(app) => Reply::Plain {
+            status: show(image, state, app, out),
+            phase: Phase::Selected { app },
+        },
+        None => refused(phase, FILE_NOT_FOUND),
+    }
+}

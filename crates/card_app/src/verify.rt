@@ -1,0 +1,84 @@
+//! VERIFY (EMV 4.3 Book 3 section 6.5.12).
+ghost use Rattle.std.specs.Prelude.{◌≡◌, ◌<◌, [], length, Some};
+ghost use Rattle.apdu_core.specs.Seen.{seen_command};
+ghost use Rattle.card_app.specs.SeenReply.{reply_data, Leads, LeadsFor, MayReply, MayFor, IsAt};
+ghost use Rattle.card_app.specs.Answering.{verify_row};
+ghost use Rattle.card_app.specs.Pin as spec;
+ghost use Rattle.card_cryptogram.specs.declared.phase.Phase.TheVariants.{Started};
+
+use crate::apps::{app_at, state_at};
+use crate::reply::{Comparison, Reply, refused};
+use apdu_core::Command;
+use apdu_core::status::{
+    AUTHENTICATION_BLOCKED, CONDITIONS_NOT_SATISFIED, DATA_NOT_FOUND, WRONG_LENGTH,
+    WRONG_PARAMETERS,
+};
+use card_cryptogram::Phase;
+use card_files::{AppImage, Image};
+use card_state::{AppState, CardState};
+
+/// P2 of a plain PIN block.
+const PLAIN: u8 = 0x80;
+
+/// Whether the application has a PIN: its block isn't eight zero bytes.
+fn has_pin(state: &AppState) -> bool
+    ensures { result ≡ spec.has_pin state.now }
+{
+    state.pin != [0; 8]
+}
+
+/// Eight bytes as a block.
+fn block_of(bytes: &[u8]) -> [u8; 8]
+    requires { length bytes.now ≡ 8 }
+    ensures { result ≡ bytes.now }
+{
+    let mut block = [0; 8];
+    block.copy_from_slice(bytes);
+    block
+}
+
+/// The comparison that the application's PIN wants.
+#[tactic(auto, unfolding(crate::specs::Pin::verify_of, crate::specs::Session::next_phase))]
+fn compare_with(app: &AppImage, state: &AppState, number: u8, command: &Command<'_>) -> Reply
+    requires ins { command.now.ins ≡ 0x20 }
+    ensures said { reply_data [] result ≡ spec.verify_of number command.now.body.now app.now state.now }
+    ensures leads { LeadsFor number app.now (Started number) (seen_command command.now) [] result }
+    ensures may { MayFor number state.now result }
+{
+    let phase = Phase::Started { app: number };
+    if command.body.len() != 8 {
+        return refused(phase, WRONG_LENGTH);
+    }
+    if !has_pin(state) {
+        return refused(phase, DATA_NOT_FOUND);
+    }
+    if state.tries == 0 {
+        return refused(phase, AUTHENTICATION_BLOCKED);
+    }
+    Reply::Compares(Comparison {
+        app: number,
+        block: block_of(command.body),
+        pin: state.pin,
+        limit: app.tries,
+        tries: state.tries,
+    })
+}
+
+/// VERIFY with a plain PIN block.
+#[tactic(auto, unfolding(crate::specs::Answering::verify_row, crate::specs::Session::next_phase))]
+pub(crate) fn verify(image: &Image, state: &CardState, phase: Phase, command: &Command<'_>) -> Reply
+    requires apps { length state.now.apps.items ≡ length image.now }
+    requires at { IsAt phase (length image.now) }
+    requires ins { command.now.ins ≡ 0x20 }
+    ensures said { reply_data [] result ≡ verify_row image.now state.now phase (seen_command command.now) }
+    ensures leads { Leads image.now phase (Some (seen_command command.now)) [] result }
+    ensures may { MayReply state.now result }
+{
+    if command.p1 != 0x00 || command.p2 != PLAIN {
+        return refused(phase, WRONG_PARAMETERS);
+    }
+    let Phase::Started { app } = phase else {
+        return refused(phase, CONDITIONS_NOT_SATISFIED);
+    };
+    compare_with(app_at(image, app), state_at(state, app), app, command)
+}

@@ -1,0 +1,6 @@
+pub mod Fields
+pub mod Bodies
+pub mod Scripts
+pub mod Asked
+pub mod Orders
+pub mod Phases

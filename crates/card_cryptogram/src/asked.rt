@@ -1,0 +1,60 @@
+//! What GENERATE AC asks for, and the phase behind its answer.
+ghost use Rattle.std.specs.Prelude.{◌≡◌, ◌==◌, length, Some, None, IsTrue, if◌then◌else◌};
+ghost use Rattle.object_lists.specs.DolEntries.{total_of};
+ghost use Rattle.card_cryptogram.specs.Asked as spec;
+ghost use Rattle.card_cryptogram.specs.declared.phase.Phase.TheVariants.{Online, Closed};
+
+use crate::phase::{First, Phase};
+use emv_dict::Kind;
+use object_lists::{Dol, total};
+
+/// The kind that P1 asks for with its two high bits, the others and P2 zero.
+pub fn kind_asked(p1: u8, p2: u8) -> Option<Kind>
+    ensures { result ≡ spec.kind_asked p1 p2 }
+{
+    if p2 == 0 && p1 % 64 == 0 {
+        Kind::of(p1)
+    } else {
+        None
+    }
+}
+
+/// Whether the profile has issuer authentication: bit 3 of its first byte (EMV 4.3 Book 3 Annex C1).
+pub fn has_issuer_auth(aip: [u8; 2]) -> bool
+    ensures { result ≡ spec.has_issuer_auth aip }
+{
+    aip[0] / 4 % 2 == 1
+}
+
+/// Whether the data has the length that the list wants.
+pub fn is_of_list(dol: &Dol, filled: &[u8]) -> bool
+    ensures exact { result ≡ (length filled.now == total_of dol.now) }
+    ensures whole { IsTrue result → length filled.now ≡ total_of dol.now }
+{
+    filled.len() == total(dol) as usize
+}
+
+/// The phase behind a first cryptogram.
+pub fn phase_behind(app: u8, kind: Kind, first: First) -> Phase
+    ensures { result ≡ (if spec.is_online kind then Online app first None else Closed app) }
+{
+    match kind {
+        Kind::Arqc => Phase::Online {
+            app,
+            first,
+            sent: None,
+        },
+        Kind::Tc => Phase::Closed { app },
+        Kind::Aac => Phase::Closed { app },
+    }
+}
+
+/// Whether EXTERNAL AUTHENTICATE was right.
+pub fn is_right(sent: Option<bool>) -> bool
+    ensures { result ≡ spec.is_right sent }
+{
+    match sent {
+        Some(right) => right,
+        None => false,
+    }
+}

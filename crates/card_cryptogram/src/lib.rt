@@ -1,0 +1,18 @@
+//! What a card's transaction is made of beside its image: the phase that it has come to, its
+//! cryptograms over the data of an object list, and the orders and codes that its issuer sends under
+//! session keys (EMV 4.3 Book 2 sections 8 and 9, Book 3 section 6.5).
+#![tactic(auto)]
+
+mod asked;
+mod bodies;
+mod fields;
+mod orders;
+mod phase;
+mod scripts;
+
+pub use asked::{has_issuer_auth, is_of_list, is_right, kind_asked, phase_behind};
+pub use bodies::{Body, cryptogram, issuer_data, put, write_body};
+pub use fields::{Given, code_given, first_given, given_from};
+pub use orders::{Order, limit_order, limit_to, pin_order, plain_order, size_of};
+pub use phase::{First, Phase};
+pub use scripts::{authenticates, block_in, has_code};

@@ -1,0 +1,3 @@
+mod PowerUps
+mod Stands
+pub mod Steps

@@ -1,0 +1,115 @@
+-- What pages stand for behind a cut release, and behind a power-up.
+use Rattle.std.proofs.Common.{◌≡◌, ℕ, ◌+◌, ◌*◌, ◌<◌, ◌≤◌, Bool, true, false, ◌==◌, nat_le, List, [], ◌∷◌, ◌++◌, length, get_or, slice_get, slice_set, Option, Some, None, option_map, refl, ap, sym, subst, ◌∙◌, arith, append-nil}
+use Rattle.std.specs.Prelude.{if◌then◌else◌}
+use Rattle.std.proofs.lemmas.Bool.Decides.{nat_tests}
+use Rattle.std.proofs.lemmas.List.{length-set}
+use Rattle.std.proofs.lemmas.Option.{slice_get-get_or}
+use Rattle.card_state.specs.Decisions.{Decided}
+use Rattle.card_state.specs.Encoding.{encoding, IsCardState}
+use Rattle.card_state.specs.Totals.{totals}
+use Rattle.card_state.specs.declared.state.AppState.{AppState}
+use Rattle.card_state.specs.declared.state.CardState.{CardState}
+use Rattle.emv_ports.specs.Cut.{is_named, is_among, release_cut}
+use Rattle.emv_ports.specs.Causes.{one_more}
+use Rattle.emv_ports.specs.Memory.{Memory, next, next_release_cut}
+use Rattle.torn_store.specs.Store.{IsGone}
+use Rattle.torn_store.proofs.Causes.{release_cut_named}
+use Rattle.emv_ports.specs.declared.tear.Cut.TheVariants.{Spared, CutBefore}
+use Rattle.emv_ports.specs.declared.tear.Tear.{Tear}
+use Rattle.emv_ports.specs.declared.tear.TearAt.{TearAt}
+use Rattle.emv_ports.specs.declared.tear.TearAt.TheVariants.{Before, Within, Release}
+use Rattle.torn_store.specs.Layout.{recover, changed, commit_writes}
+use Rattle.torn_store.specs.Recovery.{Holds}
+use Rattle.torn_store.proofs.Outcomes.{has_second}
+use Rattle.torn_store.proofs.Stored.{holds_among}
+use Rattle.card_pages.specs.SeenKept.{KeptOn, CutAt}
+use Rattle.card_pages.specs.Cuts.{Cut, commit_of, cut_of, behind_one, left_at, left_of, kept_by, pending_by}
+use Rattle.card_pages.specs.Pages.{Cells, StandsFor, StandsBetween, MayStand}
+
+-- one element changed
+pub same_count : (old new : List AppState) (app : ℕ) (behind : AppState → AppState) → app < length old
+    → ((s : AppState) → slice_get old app ≡ Some s → new ≡ slice_set old app (behind s)) → length new ≡ length old
+same_count [] new app behind inside at = absurd (omega arith)
+same_count (s ∷ ss) new app behind inside at =
+    let here : AppState = get_or (s ∷ ss) app s in
+    ap (λ (xs : List AppState). length xs) (at here (slice_get-get_or (s ∷ ss) app s inside)) ∙ length-set (s ∷ ss) app (behind here)
+
+-- a commit writes
+pub some_writes : (old new : List ℕ) (writes : ℕ) → writes ≡ commit_writes old new → 1 ≤ writes
+some_writes old new writes is = let n = length (changed old new) in let is' : writes ≡ 2 * n + 3 = is in omega arith
+
+module _ (cells : Cells) (opening : CardState) (ds : List Decided) (d : Decided) where
+  abbrev alone : Cut
+  alone = record { before = []; cut = d }
+
+  -- pages that hold the state with a decision stand between that without it and that with it
+  with_it_between : IsCardState (totals opening ds) → IsCardState (totals opening (ds ++ d ∷ []))
+      → Holds recover cells (encoding (totals opening (ds ++ d ∷ []))) → StandsBetween cells opening (ds ++ []) d
+  with_it_between fits fits_with holds =
+      let one = encoding (totals opening ds) in
+      let other = encoding (totals opening (ds ++ d ∷ [])) in
+      let there : StandsBetween cells opening ds d =
+      record { fits = fits; fits_with = fits_with; between = holds_among cells other (one ∷ other ∷ []) holds (has_second one other) } in
+      subst (λ (kept : List Decided). StandsBetween cells opening kept d) (sym (append-nil ds)) there
+
+  -- a place that is none of these writes is not the first one
+  not_first : (planned writes : ℕ) → 1 ≤ writes → nat_le planned writes ≡ false → (planned == 1) ≡ false
+  not_first planned writes some above = grind (arith, nat_tests)
+
+  -- a release that is cut behind some writes leaves a decision that is kept or pending
+  pub at_release : (at : TearAt) (writes : ℕ) → 1 ≤ writes → is_among at writes ≡ false
+      → IsCardState (totals opening ds) → IsCardState (totals opening (ds ++ d ∷ []))
+      → Holds recover cells (encoding (totals opening (ds ++ d ∷ [])))
+      → MayStand cells opening (kept_by (left_at at) ds alone) (pending_by (left_at at) alone)
+  at_release Release writes some above fits fits_with holds =
+      subst (λ (kept : List Decided). StandsFor cells opening (kept ++ d ∷ [])) (sym (append-nil ds)) (record { fits = fits_with; holds = holds })
+  at_release (Within planned) writes some above fits fits_with holds = with_it_between fits fits_with holds
+  at_release (Before planned) writes some above fits fits_with holds =
+      rw (not_first planned writes some above) (with_it_between fits fits_with holds)
+
+  named : (here : Bool) (at : TearAt) (writes : ℕ) → (if here then (if is_among at writes then Spared else CutBefore) else Spared) ≡ CutBefore
+      → is_among at writes ≡ false
+  named true at writes is = by_test (is_among at writes) is
+    where
+      by_test : (among : Bool) → (if among then Spared else CutBefore) ≡ CutBefore → among ≡ false
+      by_test true is = cc
+      by_test false is = refl
+  named false at writes is = cc
+
+  pub cut_release : (plan : Option Tear) (commit writes : ℕ) → release_cut plan commit writes ≡ CutBefore → 1 ≤ writes
+      → IsCardState (totals opening ds) → IsCardState (totals opening (ds ++ d ∷ []))
+      → Holds recover cells (encoding (totals opening (ds ++ d ∷ [])))
+      → MayStand cells opening (kept_by (left_of plan) ds alone) (pending_by (left_of plan) alone)
+  cut_release None commit writes is some fits fits_with holds = cc
+  cut_release (Some tear) commit writes is some fits fits_with holds =
+      at_release tear.at writes some (named (tear.commit == commit) tear.at writes is) fits fits_with holds
+
+  module _ (memory lost : Memory) (made : ℕ) where
+    -- the commit behind so many decisions has the next number
+    next_commit : next (commit_of made) ≡ commit_of (made + 1)
+    next_commit = omega arith
+
+    -- the release of a decision's commit is cut
+    pub released : (old : Memory) → KeptOn (record { memory = old; state = totals opening ds }) opening ds old.plan made
+        → memory.plan ≡ old.plan → memory.commit ≡ next old.commit → memory.losses ≡ old.losses → 1 ≤ memory.writes
+        → next_release_cut memory ≡ CutBefore → IsGone memory lost → cells ≡ lost.cells
+        → IsCardState (totals opening (ds ++ d ∷ [])) → Holds recover cells (encoding (totals opening (ds ++ d ∷ [])))
+        → CutAt old lost opening ds (d ∷ []) old.plan made alone
+    unfolding cut_of
+    released old on same_plan commit losses some is gone same fits_with holds =
+        let named : is_named old.plan (commit_of (made + 1)) ≡ true =
+        ap (λ n. is_named old.plan n) (sym next_commit)
+        ∙ ap (λ n. is_named old.plan (next n)) (sym on.commit_is)
+        ∙ ap (λ n. is_named old.plan n) (sym commit)
+        ∙ ap (λ (p : Option Tear). is_named p memory.commit) (sym same_plan)
+        ∙ release_cut_named memory.plan memory.commit memory.writes is in
+        record {
+          cut = ap (λ b. if b then Some alone else option_map (behind_one d) None) named;
+          left = record {
+            gone = record { off = gone.off; plan = gone.plan; losses = gone.losses ∙ ap one_more losses };
+            stands =
+                subst (λ (cs : Cells). MayStand cs opening (kept_by (left_of old.plan) ds alone) (pending_by (left_of old.plan) alone)) same
+                (subst (λ (p : Option Tear). MayStand cells opening (kept_by (left_of p) ds alone) (pending_by (left_of p) alone)) same_plan
+                (cut_release memory.plan memory.commit memory.writes is some on.stands.fits fits_with holds));
+          };
+        }

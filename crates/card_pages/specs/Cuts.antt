@@ -1,0 +1,52 @@
+-- Which of a card's decisions a planned tear cuts, and what is left of them.
+use Rattle.std.specs.Prelude.{ℕ, ◌+◌, ◌==◌, min, if◌then◌else◌, List, [], ◌∷◌, ◌++◌, Option, Some, None, option_map}
+use Rattle.card_state.specs.Decisions.{Decided}
+use Rattle.emv_ports.specs.Cut.{is_named}
+use Rattle.emv_ports.specs.declared.tear.Tear.{Tear}
+use Rattle.emv_ports.specs.declared.tear.TearAt.{TearAt}
+use Rattle.emv_ports.specs.declared.tear.TearAt.TheVariants.{Before, Within, Release}
+
+-- the number of the commit of a decision, the first one since power-up being 1; numbers stop at 255
+abbrev pub commit_of : ℕ → ℕ
+commit_of decision = min decision 255
+
+-- the decisions before the cut one, and the cut one
+pub record Cut : Type 0 where
+  pub before : List Decided
+  pub cut : Decided
+
+abbrev pub behind_one : Decided → Cut → Cut
+behind_one d at = record { before = d ∷ at.before; cut = at.cut }
+
+-- the first of these decisions whose commit the plan names, where so many were made since power-up before them
+unfoldable pub cut_of : Option Tear → ℕ → List Decided → Option Cut
+cut_of plan made [] = None
+cut_of plan made (d ∷ ds) =
+    if is_named plan (commit_of (made + 1)) then Some (record { before = []; cut = d }) else option_map (behind_one d) (cut_of plan (made + 1) ds)
+
+-- what becomes of a cut decision: dropped where the first write was cut before it began, kept where the release
+-- was cut, and pending at every other place
+pub data Left : Type 0 where
+  Dropped : Left
+  Joined : Left
+  Pending : Left
+
+abbrev pub left_at : TearAt → Left
+left_at (Before number) = if number == 1 then Dropped else Pending
+left_at (Within number) = Pending
+left_at Release = Joined
+
+abbrev pub left_of : Option Tear → Left
+left_of None = Pending
+left_of (Some tear) = left_at tear.at
+
+-- the decisions that are kept, and the pending one
+abbrev pub kept_by : Left → List Decided → Cut → List Decided
+kept_by Dropped ds at = ds ++ at.before
+kept_by Joined ds at = (ds ++ at.before) ++ at.cut ∷ []
+kept_by Pending ds at = ds ++ at.before
+
+abbrev pub pending_by : Left → Cut → Option Decided
+pending_by Dropped at = None
+pending_by Joined at = None
+pending_by Pending at = Some at.cut
