@@ -8,7 +8,7 @@ use Rattle.env_map.specs.Entries.{Entries}
 use Rattle.object_lists.specs.CardRead.{ReadCard}
 use Rattle.kernel.specs.Course.{Standing, stands}
 use Rattle.kernel.specs.Dialogue.{Trade, dialogue}
-use Rattle.kernel.specs.Ended.{EndData, end_with, end_by, end_of}
+use Rattle.kernel.specs.Ended.{end_with, end_of}
 use Rattle.kernel.specs.Kernel.{KernelData, KernelFits, StageFits, KernelStands, StageGoes, deal_in}
 use Rattle.kernel.specs.Marks.{Mark, MomentData, moment, latest, card_of}
 use Rattle.kernel.specs.Reply.{Reply, Deed, Over}
@@ -59,7 +59,7 @@ stage_ends_at k (stage.Opening s) log rest ending fits goes over = record {
 stage_ends_at k (stage.Trading at) log rest ending fits goes over = record {
   marks = goes.stands.marks;
   is = trading_shows k.table (record { deal = deal_in k; row = at.row.now; card = goes.card }) at.trading log rest goes.stands
-    ∙ ap (λ (deed : Deed). stands goes.stands.marks deed) (trading_ends k.table at.trading ending over);
+      ∙ ap (λ (deed : Deed). stands goes.stands.marks deed) (trading_ends k.table at.trading ending over);
   read = goes.stands.read ∙ sym goes.card_is;
   tied = goes.stands.tied;
 }

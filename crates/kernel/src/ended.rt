@@ -94,7 +94,8 @@ pub(crate) fn ending_of(stage: &Stage<'_>) -> Ending
 {
     match stage {
         Stage::Opening(Opening::Over(ending)) => *ending,
-        Stage::Opening(Opening::Select(_) | Opening::Initiate(_) | Opening::Read(_)) => unreachable!(),
+        Stage::Opening(Opening::Select(_) | Opening::Initiate(_) | Opening::Read(_)) =>
+            unreachable!(),
         Stage::Trading(at) => trading_ending(&at.trading),
     }
 }
@@ -211,7 +212,15 @@ fn presented(
     };
     let tvr = results_behind(card, moment.tvr_when_first, moment.tvr_when_second);
     let mut message = Message::new();
-    presentment(card, settings, purchase, tvr, ac, code_or_zeros(moment.code), &mut message);
+    presentment(
+        card,
+        settings,
+        purchase,
+        tvr,
+        ac,
+        code_or_zeros(moment.code),
+        &mut message,
+    );
     Some(Capture { message })
 }
 
@@ -233,7 +242,14 @@ fn reversed(
         return None;
     };
     let mut message = Message::new();
-    reversal(card, settings, purchase, counter, code_or_zeros(moment.code), &mut message);
+    reversal(
+        card,
+        settings,
+        purchase,
+        counter,
+        code_or_zeros(moment.code),
+        &mut message,
+    );
     Some(Capture { message })
 }
 

@@ -13,7 +13,7 @@ unfolding initiation
 returns-in-Err-clause-stands c = λ log rest passed.
     let deal = deal_of c.args.table.now in record {
       passed = stopped_on step.Initiate step.Initiate (initiating c.args.choice.pdol (terminal_objects deal c.args.choice.row (moment []))) (granted deal c.args.choice.row (candidates_left deal c.args.table.now.candidates)) log rest passed c.in-Err.cause
-        (rw (c.put_terminal.ensures, c.row.ensures.row, c.requires.moment, c.pdol.ensures) at c.in-Err.ensures);
+          (rw (c.put_terminal.ensures, c.row.ensures.row, c.requires.moment, c.pdol.ensures) at c.in-Err.ensures);
       tied = c.requires.moment;
       shows = tt;
     }

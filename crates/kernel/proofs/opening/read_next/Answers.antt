@@ -14,7 +14,7 @@ returns-in-Done-clause-stands c = λ log course rest passed leads.
 
 pub returns-in-Ended-clause-stands : goal.returns-in-Ended-clause-stands
 returns-in-Ended-clause-stands c = λ log course rest passed leads. record {
-      passed = stopped_on step.Read step.Read course (λ card. restrictions (record { deal = deal_of c.args.table.now; row = c.args.row.now; card = card })) log rest passed c.in-Ended.cause (rw c.in-Ended.is at leads);
-      tied = c.requires.moment;
-      shows = tt;
-    }
+  passed = stopped_on step.Read step.Read course (λ card. restrictions (record { deal = deal_of c.args.table.now; row = c.args.row.now; card = card })) log rest passed c.in-Ended.cause (rw c.in-Ended.is at leads);
+  tied = c.requires.moment;
+  shows = tt;
+}

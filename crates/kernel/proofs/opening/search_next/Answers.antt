@@ -15,7 +15,7 @@ returns-in-Chosen-clause-stands c = λ log course rest passed leads.
 
 pub returns-in-Ended-clause-stands : goal.returns-in-Ended-clause-stands
 returns-in-Ended-clause-stands c = λ log course rest passed leads. record {
-      passed = stopped_on step.Select step.Select course (selected_then (deal_of c.args.table.now)) log rest passed c.in-Ended.cause (rw c.in-Ended.is at leads);
-      tied = c.requires.moment;
-      shows = tt;
-    }
+  passed = stopped_on step.Select step.Select course (selected_then (deal_of c.args.table.now)) log rest passed c.in-Ended.cause (rw c.in-Ended.is at leads);
+  tied = c.requires.moment;
+  shows = tt;
+}

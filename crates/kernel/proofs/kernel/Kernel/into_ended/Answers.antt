@@ -1,4 +1,4 @@
-use Rattle.std.proofs.Common.{◌≡◌, sym, ap, ◌∙◌, Some, option_map}
+use Rattle.std.proofs.Common.{sym, ap, ◌∙◌, Some, option_map}
 use Rattle.std.specs.declared.option.Option.{Option}
 use Rattle.kernel.specs.Ended.{EndData}
 use Rattle.kernel.specs.Kernel.{KernelData}
@@ -12,8 +12,8 @@ returns-clause-end c = λ replies is.
     let k : KernelData = record { table = i.table; objects = i.objects; card = i.card; stage = i.stage; taken = i.taken } in
     rw (← c.self.view_is)
     (ap (λ (end : Option EndData). option_map shown end)
-        (kernel_ends k replies c.ending_of-ending.result c.self.invariant (rw (← c.self.view_is) at is) c.ending_of-ending.ensures)
-        ∙ ap (λ (end : EndedData). let some : Option EndedData = Some end in some) (sym c.end_record.ensures))
+    (kernel_ends k replies c.ending_of-ending.result c.self.invariant (rw (← c.self.view_is) at is) c.ending_of-ending.ensures)
+    ∙ ap (λ (end : EndedData). let some : Option EndedData = Some end in some) (sym c.end_record.ensures))
 
 pub returns-clause-stays : goal.returns-clause-stays
 returns-clause-stays c = λ replies more is.
