@@ -3,9 +3,14 @@
 #![tactic(auto)]
 
 pub mod account;
+pub mod code;
+pub mod host;
 pub mod keys;
+mod script;
 
 pub use account::Account;
+pub use code::Code;
+pub use host::Host;
 pub use keys::HostKeys;
 pub use script_words::{Ordered, Script, Word};
 
