@@ -1,5 +1,5 @@
 -- Cardholder verification of a card (EMV 4.3 Book 3 section 10.5).
-use Rattle.std.specs.Prelude.{ℕ, ◌+◌, ◌==◌, Bool, true, false, if◌then◌else◌, List, [], ◌∷◌, length, bit_and, drop, filter, slice_index, nat_le, Option, Some, None}
+use Rattle.std.specs.Prelude.{ℕ, ◌+◌, ◌==◌, Bool, true, false, if◌then◌else◌, List, [], ◌∷◌, length, bit_and, drop, filter, slice_index, Option, Some, None}
 use Rattle.std.specs.Int.{from_be_bytes, w32}
 use Rattle.std.specs.Str.{bytes_eq}
 use Rattle.emv_dict.specs.Flags.{tvr_bit}
@@ -22,10 +22,6 @@ is_same_currency (Some currency) purchase = bytes_eq currency purchase.currency
 abbrev pub amount_at : List ℕ → ℕ → ℕ
 amount_at list place = from_be_bytes w32 (
     slice_index list place ∷ slice_index list (place + 1) ∷ slice_index list (place + 2) ∷ slice_index list (place + 3) ∷ [])
-
--- so many bytes as an answer of a card has room for
-abbrev pub is_short : List ℕ → Bool
-is_short list = nat_le (length list) 255
 
 -- X and Y are the list's first and second four bytes
 unfoldable pub situation : List ℕ → Option (List ℕ) → SettingsData → PurchaseData → Situation

@@ -1,15 +1,12 @@
-ghost use Rattle.std.specs.Prelude.{IfOk, IsTrue};
+ghost use Rattle.std.specs.Prelude.{IfOk};
 ghost use Rattle.std.specs.List.{All};
 ghost use Rattle.emv_dict.specs.Digits.{HasPinLength};
-ghost use Rattle.object_lists.specs.Forms.{HasIfThere};
-ghost use Rattle.cvm_list.specs.Begun.{is_short as short_list};
 
 mod card;
 
 use super::*;
 use apdu_core::Out;
 use arrayvec::ArrayVec;
-use ber_tlv::Tag;
 use card::card_with;
 use emv_dict::{Cause, Digits, Purchase, Settings};
 use object_lists::CardData;
@@ -59,9 +56,7 @@ fn purchase(
 }
 
 /// A card that asks for verification, with amounts in dollars and these rules behind X and Y.
-fn ruled_card(rt: &impl Abort, x: u16, y: u16, rules: &[u8]) -> CardData
-    ensures { HasIfThere 0x8E short_list result.entries }
-{
+fn ruled_card(rt: &impl Abort, x: u16, y: u16, rules: &[u8]) -> CardData {
     let [x_high, x_low] = x.to_be_bytes();
     let [y_high, y_low] = y.to_be_bytes();
     let mut list: ArrayVec<u8, 255> = ArrayVec::new();
@@ -72,18 +67,7 @@ fn ruled_card(rt: &impl Abort, x: u16, y: u16, rules: &[u8]) -> CardData
         (0x9f42, &[0x08, 0x40]),
         (0x8e, list.as_slice()),
     ];
-    let card = card_with(rt, &objects);
-    assert!(rt; is_short(&card));
-    card
-}
-
-fn is_short(card: &CardData) -> bool
-    ensures { IsTrue result → HasIfThere 0x8E short_list card.now.entries }
-{
-    match card.value(Tag(0x8e)) {
-        Some(list) => list.len() <= 255,
-        None => true,
-    }
+    card_with(rt, &objects)
 }
 
 /// A terminal's type and the second byte of its capabilities, the transaction type, X, Y, the rules,

@@ -2,7 +2,6 @@ ghost use Rattle.std.specs.Prelude.{◌≡◌, ◌+◌, ◌≤◌, ◌<◌, ◌�
 ghost use Rattle.std.specs.List.{All};
 ghost use Rattle.emv_dict.specs.Digits.{HasPinLength};
 ghost use Rattle.emv_dict.specs.Progress.{Progress, Leads, Wants};
-ghost use Rattle.object_lists.specs.Forms.{HasIfThere};
 ghost use Rattle.cvm_list.specs.Begun as spec;
 ghost use Rattle.cvm_list.specs.Cvm.{course, nothing_found as found_before, verdict};
 ghost use Rattle.cvm_list.specs.Laws.{AsksForNone, IsPassedOver};
@@ -64,12 +63,10 @@ pub enum VerifyNext<'s> {
 }
 
 impl<'s> Verifying<'s> {
-    /// Begins cardholder verification of a purchase with this card. No answer of a card has room for
-    /// a list of more than 255 bytes.
+    /// Begins cardholder verification of a purchase with this card.
     #[tactic(auto, unfolding(crate::specs::Begun::cvm))]
     pub fn begin(card: &CardData, settings: &Settings, purchase: &'s Purchase) -> VerifyNext<'s>
         requires pins { All HasPinLength purchase.now.pins }
-        requires short { HasIfThere 0x8E spec.is_short card.now.entries }
         ensures leads { NextLeads (spec.cvm card.now settings.now purchase.now) [] result }
         // A card that asks for no verification sets no bit.
         ensures passed_over { AsksForNone card.now → IsPassedOver result }

@@ -27,9 +27,9 @@ is_two_digits value = length value == 1 && has_digits (slice_index value 0)
 abbrev pub is_object_list : List ℕ → Bool
 is_object_list value = nat_le (length value) 255 && is_ok (dol_of value)
 
--- two amounts of four bytes each, and rules of two bytes each
+-- two amounts of four bytes each, and rules of two bytes each; no answer of a card has room for one above 255 bytes
 abbrev pub is_verification_list : List ℕ → Bool
-is_verification_list value = nat_le 8 (length value) && length value % 2 == 0
+is_verification_list value = nat_le 8 (length value) && (nat_le (length value) 255 && length value % 2 == 0)
 
 -- so many bytes
 abbrev pub has_count : ℕ → List ℕ → Bool

@@ -1,7 +1,7 @@
 //! The objects that a terminal tries once the records are read (EMV 4.3 Book 3 section 7.2, Annex A).
 ghost use Rattle.std.specs.Prelude.{◌≡◌, ◌↔◌, None, map, option_map};
 ghost use Rattle.env_map.specs.Entries.{Entries};
-ghost use Rattle.object_lists.specs.Forms.{HasForms, is_day as day_test, is_code_value as code_test, is_two_digits as digits_test, is_object_list as list_test};
+ghost use Rattle.object_lists.specs.Forms.{HasForms, is_day as day_test, is_code_value as code_test, is_two_digits as digits_test, is_object_list as list_test, is_verification_list as verification_test};
 ghost use Rattle.read_records.specs.Checked.{HasOptions, objects_fault, first_wrong, missing_from, form_of, passes_if_there, wrong_cause};
 ghost use Rattle.read_records.specs.Checked as spec;
 ghost use Rattle.read_records.specs.SeenRow.{seen_row};
@@ -124,9 +124,16 @@ fn passes(check: Check, value: &[u8]) -> bool
         Check::Code => is_country_or_currency(value),
         Check::TwoDigits => is_two_digits(value),
         Check::ObjectList => is_object_list(value),
-        Check::VerificationList => value.len() >= 8 && value.len() % 2 == 0,
+        Check::VerificationList => is_verification_list(value),
         Check::Bytes(count) => value.len() == usize::from(count),
     }
+}
+
+fn is_verification_list(value: &[u8]) -> bool
+    ensures { result ≡ verification_test value.now }
+{
+    let count = value.len();
+    count >= 8 && (count <= 255 && count % 2 == 0)
 }
 
 fn is_day(value: &[u8]) -> bool

@@ -93,7 +93,7 @@ fn is_ruled(env: &Env) -> bool
     ensures { IsTrue result → HasIfThere 0x8E is_verification_list env.now }
 {
     match env.get(Tag(0x8e)) {
-        Some(value) => value.len() >= 8 && value.len() % 2 == 0,
+        Some(value) => value.len() >= 8 && (value.len() <= 255 && value.len() % 2 == 0),
         None => true,
     }
 }
