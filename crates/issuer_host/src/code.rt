@@ -1,5 +1,5 @@
 ghost use Rattle.std.specs.Prelude.{◌≡◌};
-ghost use Rattle.issuer_host.specs.Code.{code_bytes};
+ghost use Rattle.issuer_host.specs.Code.{code_bytes, is_approved};
 
 /// The host's decision, an Authorisation Response Code (8A). The codes but 00 are this project's own
 /// choice among those of ISO 8583.
@@ -31,6 +31,16 @@ impl Code {
             Code::NoFunds => *b"51",
             Code::Expired => *b"54",
             Code::WrongPin => *b"55",
+        }
+    }
+
+    /// Whether the code is 00.
+    pub fn is_approved(self) -> bool
+        ensures { result ≡ is_approved self }
+    {
+        match self {
+            Code::Approved => true,
+            _ => false,
         }
     }
 }

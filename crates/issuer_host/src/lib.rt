@@ -6,6 +6,8 @@ pub mod account;
 pub mod code;
 pub mod host;
 pub mod keys;
+mod keeping;
+mod records;
 mod script;
 
 pub use account::Account;
