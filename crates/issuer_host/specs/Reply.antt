@@ -48,9 +48,13 @@ present_key f = key_of f.pan f.t5f34 f.t9f36
 abbrev pub reversal_key : ReversalFields → Key
 reversal_key f = key_of f.pan f.t5f34 f.t9f36
 
+-- the card's session key of a transaction for cryptograms
+abbrev pub session_of : List ℕ → Key → List ℕ
+session_of issuer key = session_ac_of (master_key_of issuer key.pan key.sequence) key.counter
+
 -- the cryptogram of a transaction's fields under the card's keys
 abbrev pub cryptogram_of : List ℕ → Key → AcFields → List ℕ → List ℕ
-cryptogram_of issuer key fields iad = ac_of (session_ac_of (master_key_of issuer key.pan key.sequence) key.counter) fields iad
+cryptogram_of issuer key fields iad = ac_of (session_of issuer key) fields iad
 
 abbrev pub request_ac_fields : RequestData → AcFields
 request_ac_fields f = record {
@@ -141,9 +145,9 @@ is_served pan books = list_any (λ kept. kept.online && bytes_eq pan kept.key.pa
 
 abbrev pub script_keys : HostKeys → RequestData → ScriptKeys
 script_keys keys f = record {
-  mac = session_script_of (master_key_of keys.mac f.pan (sequence_of f.t5f34)) f.t9f26;
-  enc = session_script_of (master_key_of keys.enc f.pan (sequence_of f.t5f34)) f.t9f26;
-  counter = from_be_bytes w16 f.t9f36;
+  mac = session_script_of (master_key_of keys.mac (request_key f).pan (request_key f).sequence) f.t9f26;
+  enc = session_script_of (master_key_of keys.enc (request_key f).pan (request_key f).sequence) f.t9f26;
+  counter = (request_key f).counter;
   cryptogram = f.t9f26;
 }
 
@@ -153,7 +157,7 @@ scripts_for keys account books f = (if is_served account.pan books then [] else 
 
 abbrev pub response_of : HostKeys → RequestData → Code → List ℕ
 response_of keys f code =
-    arpc_of (session_ac_of (master_key_of keys.ac f.pan (sequence_of f.t5f34)) (from_be_bytes w16 f.t9f36)) f.t9f26 (code_bytes code)
+    arpc_of (session_of keys.ac (request_key f)) f.t9f26 (code_bytes code)
 
 -- the reply to a genuine request with this decision
 abbrev pub online_reply : HostKeys → AccountData → Books → RequestData → Code → Said

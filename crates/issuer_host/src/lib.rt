@@ -4,10 +4,12 @@
 
 pub mod account;
 pub mod code;
+mod decision;
 pub mod host;
 pub mod keys;
 mod keeping;
 mod records;
+mod reply;
 mod script;
 
 pub use account::Account;

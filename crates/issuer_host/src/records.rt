@@ -1,5 +1,5 @@
 //! The messages that the host keeps, and the ledger that goes with them.
-ghost use Rattle.std.specs.Prelude.{◌≡◌, ◌≤◌, ◌-ℤ◌, ◌≤ℤ◌, pos, [], ◌∷◌, ◌++◌, None, Some, IsTrue, IsSome, IfOk, IfErr, OnOk, OnErr, option_map, true, false};
+ghost use Rattle.std.specs.Prelude.{◌≡◌, ◌≤◌, ◌-ℤ◌, ◌≤ℤ◌, pos, [], ◌∷◌, ◌++◌, None, Some, IsTrue, IsSome, IfOk, IfErr, OnOk, OnErr, option_map, true, false, not, int_lt};
 ghost use Rattle.std.specs.List.{All};
 ghost use Rattle.emv_dict.specs.Settings.{most_amount};
 ghost use Rattle.host_ledger.specs.Accounts.{RefusesAccounts, opening_of, balance_of, Keeps};
@@ -7,11 +7,14 @@ ghost use Rattle.host_ledger.specs.Entries.{entry_at};
 ghost use Rattle.host_ledger.specs.Refusals.{hold_refusal, settle_refusal};
 ghost use Rattle.host_ledger.specs.declared.entry.EntryState.TheVariants.{Held, Booked, Released};
 ghost use Rattle.issuer_host.specs.Balance.{taken, is_booked, is_released};
-ghost use Rattle.issuer_host.specs.Books.{no_books, kept_at};
+ghost use Rattle.host_ledger.specs.declared.key.Key.{Key};
+ghost use Rattle.issuer_host.specs.Books.{no_books, kept_at, was_approved};
+ghost use Rattle.issuer_host.specs.Reply.{is_closed};
 ghost use Rattle.issuer_host.specs.Code.{is_approved};
 ghost use Rattle.issuer_host.specs.Keeping.{kept_message};
 ghost use Rattle.issuer_host.specs.Records.{is_open, balance_left};
 
+use crate::account::Account;
 use crate::keeping::{Keeping, KeptMessage};
 use emv_dict::Digits;
 use host_ledger::{Key, Ledger, LedgerFault};
@@ -83,6 +86,38 @@ impl Records {
         ensures { option_map (λ kept. kept_message key.now kept.now) result ≡ kept_at key.now self.now.books.reversals }
     {
         self.reversals.get(key)
+    }
+
+    /// Whether a presentment of the transaction was approved.
+    pub fn is_booked(&self, key: &Key) -> bool
+        ensures { result ≡ is_booked self.now.books key.now }
+    {
+        was_approved(self.presentment(key))
+    }
+
+    /// Whether a reversal of the transaction was approved.
+    pub fn is_released(&self, key: &Key) -> bool
+        ensures { result ≡ is_released self.now.books key.now }
+    {
+        was_approved(self.reversal(key))
+    }
+
+    /// Whether a reversal or a presentment of the transaction was kept.
+    pub fn is_closed(&self, key: &Key) -> bool
+        ensures { result ≡ is_closed self.now.books key.now }
+    {
+        self.reversal(key).is_some() || self.presentment(key).is_some()
+    }
+
+    /// Whether the account's balance covers an amount.
+    pub fn covers(&self, account: &Account, amount: u64) -> bool
+        requires { balance_left self.now account.now.pan ≡ Some (pos account.now.balance -ℤ pos (taken account.now.pan self.now.books)) }
+        ensures { result ≡ not (int_lt (pos account.now.balance -ℤ pos (taken account.now.pan self.now.books)) (pos amount)) }
+    {
+        match self.balance(&account.pan) {
+            Some(balance) => balance >= i128::from(amount),
+            None => unreachable!(),
+        }
     }
 
     /// Keeps the first request of a transaction. An approved one holds its amount.
@@ -194,5 +229,15 @@ fn release(ledger: &mut Ledger, key: &Key, amount: u64) -> Result<(), AllocError
         Ok(()) => Ok(()),
         Err(LedgerFault::OutOfMemory) => Err(AllocError),
         Err(_) => unreachable!(),
+    }
+}
+
+/// Whether a message was kept with code 00.
+fn was_approved(kept: Option<&KeptMessage>) -> bool
+    ensures { (key : Key) → result ≡ was_approved (option_map (λ k. kept_message key k.now) kept.entry) }
+{
+    match kept {
+        Some(kept) => kept.code.is_approved(),
+        None => false,
     }
 }
