@@ -1,7 +1,8 @@
-ghost use Rattle.std.specs.Prelude.{◌≡◌, ◌≤◌, ◌==◌, ◌||◌, None, take, length, option_map, Ok, Err, MatchResult, IfSome, IfOk, slice_range};
+ghost use Rattle.std.specs.Prelude.{◌≡◌, ◌≤◌, ◌==◌, ◌||◌, None, take, length, option_map, Ok, Err, MatchResult, IfSome, IfOk, slice_range, true};
 ghost use Rattle.ber_tlv.specs.Item.{item_at};
 ghost use Rattle.ber_tlv.specs.Left.{items_behind, fault_of};
 ghost use Rattle.ber_tlv.specs.Seen.{then_rest, seen};
+ghost use Rattle.auth_message.specs.Accepted.{AreDigits};
 ghost use Rattle.auth_message.specs.Fields.{given, behind, wanted as wanted_at, fixed_at, some_at, pan_at, fixed_if_there, ended};
 ghost use Rattle.auth_message.specs.Reply.{auth_at, scripts_at, templates, behind_templates};
 ghost use Rattle.auth_message.specs.Script.{next_script, behind_script, end_of_few};
@@ -99,6 +100,7 @@ impl<'a> Fields<'a> {
         numeric: bool,
     ) -> Result<[u8; N], MessageFault>
         ensures value { MatchResult result (λ v. fixed_at N numeric tag self.old.left ≡ Ok (v, self.new.left)) (λ fault. fixed_at N numeric tag self.old.left ≡ Err fault) }
+        ensures digits { IfOk result (λ v. numeric ≡ true → AreDigits v) }
         ensures bytes { self.new.bytes ≡ self.old.bytes }
     {
         let value = self.wanted(tag)?;
