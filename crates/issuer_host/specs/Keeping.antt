@@ -10,7 +10,7 @@ kept_message key kept = record {
   message = kept.message.items;
   code = kept.code;
   online = kept.online;
-  reply = kept.reply.items;
+  reply = kept.reply;
 }
 
 abbrev pub kept_entry : Key × KeptMessage → Kept

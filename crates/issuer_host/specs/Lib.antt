@@ -3,6 +3,7 @@ pub mod Balance
 pub mod Books
 pub mod Code
 pub mod History
+pub mod Holds
 pub mod Keeping
 pub mod Records
 pub mod Reply

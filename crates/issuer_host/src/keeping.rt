@@ -1,13 +1,53 @@
 //! The messages of one kind that the host keeps, by their transactions.
-ghost use Rattle.std.specs.Prelude.{◌≡◌, [], ◌∷◌, ◌++◌, List, None, option_map, IfOk, OnOk, OnErr};
+ghost use Rattle.std.specs.Prelude.{◌≡◌, [], ◌∷◌, ◌++◌, List, None, option_map, IfOk, OnOk, OnErr, if◌then◌else◌};
 ghost use Rattle.issuer_host.specs.Books.{Kept, kept_at};
+ghost use Rattle.std.specs.Str.{bytes_eq};
 ghost use Rattle.issuer_host.specs.Keeping.{kept_message};
+ghost use Rattle.issuer_host.specs.Reply.{said_bytes, plain as plain_said};
+ghost use Rattle.issuer_host.specs.declared.code.Code.TheVariants.{Declined};
 
 use crate::code::Code;
+use crate::reply::{Answered, plain};
+use auth_message::Message;
+use ber_tlv::append;
 use host_ledger::Key;
 use indexmap::IndexMap;
 use std::alloc::{AllocError, Global};
 use std::marker::Model;
+
+/// The bytes of a reply.
+#[derive(Drop)]
+pub struct ReplyBytes {
+    bytes: Vec<u8>,
+}
+
+impl Model for ReplyBytes {
+    ghost use Rattle.std.specs.Prelude.{List, ℕ, ◌≤◌, length};
+
+    ghost Value = { List ℕ };
+
+    ghost view = { λ r. r.bytes.items };
+
+    ghost invariant = { λ r. length r.bytes.items ≤ 2048 };
+}
+
+impl ReplyBytes {
+    /// A copy of a reply's bytes.
+    fn new(alloc: Global, reply: &Message) -> Result<ReplyBytes, AllocError>
+        ensures { IfOk result (λ bytes. bytes ≡ reply.now.items) }
+    {
+        let bytes = copied(alloc, reply.as_slice())?;
+        Ok(ReplyBytes { bytes })
+    }
+
+    /// Writes the bytes, in place of what `out` holds.
+    fn write(&self, out: &mut Message)
+        ensures { out.new.items ≡ self.now }
+    {
+        out.clear();
+        append(out, &self.bytes);
+    }
+}
 
 /// A message that was kept, with its reply.
 #[derive(Drop)]
@@ -18,7 +58,7 @@ pub struct KeptMessage {
     pub code: Code,
     /// Whether the reply carries issuer authentication data.
     pub online: bool,
-    pub reply: Vec<u8>,
+    pub reply: ReplyBytes,
 }
 
 /// The kept messages of one kind. Contracts see the list of them in the order in which they came.
@@ -72,4 +112,49 @@ impl Keeping {
     {
         let _last = self.table.pop();
     }
+}
+
+/// A message with what was answered to it, as it is kept.
+pub fn kept(
+    alloc: Global,
+    amount: u64,
+    message: &[u8],
+    answered: Answered,
+    reply: &Message,
+) -> Result<KeptMessage, AllocError>
+    ensures amount { IfOk result (λ kept. kept.amount ≡ amount) }
+    ensures message { IfOk result (λ kept. kept.message.items ≡ message.now) }
+    ensures code { IfOk result (λ kept. kept.code ≡ answered.code) }
+    ensures online { IfOk result (λ kept. kept.online ≡ answered.online) }
+    ensures reply { IfOk result (λ kept. kept.reply ≡ reply.now.items) }
+{
+    let message = copied(alloc, message)?;
+    let reply = ReplyBytes::new(alloc, reply)?;
+    Ok(KeptMessage {
+        amount,
+        message,
+        code: answered.code,
+        online: answered.online,
+        reply,
+    })
+}
+
+/// Writes the kept reply again where the message has the same bytes, else 05.
+pub fn again(kept: &KeptMessage, message: &[u8], out: &mut Message)
+    ensures { out.new.items ≡ (if bytes_eq kept.now.message.items message.now then kept.now.reply else said_bytes (plain_said Declined)) }
+{
+    if kept.message.as_slice() == message {
+        kept.reply.write(out);
+    } else {
+        plain(Code::Declined, out);
+    }
+}
+
+/// The bytes once more.
+fn copied(alloc: Global, bytes: &[u8]) -> Result<Vec<u8>, AllocError>
+    ensures { IfOk result (λ copy. copy.items ≡ bytes.now) }
+{
+    let mut copy = Vec::with_capacity(alloc, bytes.len())?;
+    copy.extend_from_slice(bytes)?;
+    Ok(copy)
 }

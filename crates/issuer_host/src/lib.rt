@@ -3,6 +3,8 @@
 #![tactic(auto)]
 
 pub mod account;
+mod accounts;
+mod answering;
 pub mod code;
 mod decision;
 pub mod host;

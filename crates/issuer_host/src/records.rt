@@ -1,8 +1,8 @@
 //! The messages that the host keeps, and the ledger that goes with them.
-ghost use Rattle.std.specs.Prelude.{◌≡◌, ◌≤◌, ◌-ℤ◌, ◌≤ℤ◌, pos, [], ◌∷◌, ◌++◌, None, Some, IsTrue, IsSome, IfOk, IfErr, OnOk, OnErr, option_map, true, false, not, int_lt};
+ghost use Rattle.std.specs.Prelude.{◌≡◌, ◌≤◌, ◌-ℤ◌, ◌≤ℤ◌, pos, [], ◌∷◌, ◌++◌, None, Some, IsTrue, IsSome, IfOk, IfErr, OnOk, OnErr, option_map, true, false, not, int_lt, length};
 ghost use Rattle.std.specs.List.{All};
 ghost use Rattle.emv_dict.specs.Settings.{most_amount};
-ghost use Rattle.host_ledger.specs.Accounts.{RefusesAccounts, opening_of, balance_of, Keeps};
+ghost use Rattle.host_ledger.specs.Accounts.{RefusesAccounts, AreDistinctBelow, opening_of, balance_of, Keeps};
 ghost use Rattle.host_ledger.specs.Entries.{entry_at};
 ghost use Rattle.host_ledger.specs.Refusals.{hold_refusal, settle_refusal};
 ghost use Rattle.host_ledger.specs.declared.entry.EntryState.TheVariants.{Held, Booked, Released};
@@ -49,6 +49,7 @@ impl Records {
     pub fn new(alloc: Global, accounts: Vec<(Digits, u64)>) -> Result<Records, LedgerFault>
         requires { All (λ account. account.1 ≤ most_amount) accounts.items }
         ensures ok { IfOk result (λ records. records ≡ record { accounts = accounts.items; books = no_books }) }
+        ensures distinct { OnOk result (AreDistinctBelow accounts.items (length accounts.items)) }
         ensures refused { IfErr result (RefusesAccounts accounts.items) }
     {
         let ledger = Ledger::new(alloc, accounts)?;
@@ -147,7 +148,7 @@ impl Records {
     pub fn keep_presentment(&mut self, key: &Key, kept: KeptMessage) -> Result<(), AllocError>
         requires new { kept_at key.now self.old.books.presentments ≡ None }
         requires small { kept.amount ≤ most_amount }
-        requires known { IsSome (balance_left self.old key.now.pan) }
+        requires known { is_approved kept.code ≡ true → IsSome (balance_left self.old key.now.pan) }
         requires booked { is_approved kept.code ≡ true → is_released self.old.books key.now ≡ false }
         ensures ok { OnOk result (self.new ≡ record { accounts = self.old.accounts; books = record self.old.books { presentments = self.old.books.presentments ++ kept_message key.now kept ∷ [] } }) }
         ensures err { OnErr result (self.new ≡ self.old) }
@@ -170,7 +171,7 @@ impl Records {
     pub fn keep_reversal(&mut self, key: &Key, kept: KeptMessage) -> Result<(), AllocError>
         requires new { kept_at key.now self.old.books.reversals ≡ None }
         requires small { kept.amount ≤ most_amount }
-        requires known { IsSome (balance_left self.old key.now.pan) }
+        requires known { is_approved kept.code ≡ true → IsSome (balance_left self.old key.now.pan) }
         requires released { is_approved kept.code ≡ true → is_booked self.old.books key.now ≡ false }
         ensures ok { OnOk result (self.new ≡ record { accounts = self.old.accounts; books = record self.old.books { reversals = self.old.books.reversals ++ kept_message key.now kept ∷ [] } }) }
         ensures err { OnErr result (self.new ≡ self.old) }
