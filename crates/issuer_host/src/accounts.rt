@@ -70,8 +70,8 @@ pub fn flag_at(flags: &[bool], place: Option<usize>) -> bool
 }
 
 /// Sets the flag at a place.
-pub fn set_flag(flags: &mut [bool], place: Option<usize>)
-    ensures { flags.new ≡ with_flag flags.old place }
+pub fn set_flag(flags: &mut Vec<bool>, place: Option<usize>)
+    ensures { flags.new.items ≡ with_flag flags.old.items place }
 {
     if let Some(place) = place {
         if place < flags.len() {

@@ -85,7 +85,6 @@ impl<'a> Host<'a> {
     /// is answered 05 and not kept. A message of the kind and transaction of one that was kept gets the kept
     /// reply again where its bytes are the same, which takes no memory, and else 05. After `AllocError` the
     /// host is as before.
-    #[tactic(none)]
     pub fn answer(&mut self, message: &[u8], out: &mut Message) -> Result<(), AllocError>
         requires { length message.now ≤ 2048 }
         // The reply is that of the whole list of messages so far, whatever list it was.

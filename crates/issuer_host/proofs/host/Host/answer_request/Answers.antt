@@ -8,6 +8,7 @@ use Rattle.issuer_host.specs.Balance.{account_of, is_booked, is_released}
 use Rattle.issuer_host.specs.Books.{Kept, Books, kept_at}
 use Rattle.issuer_host.specs.Code.{is_approved}
 use Rattle.issuer_host.specs.History.{HostData, with_first}
+use Rattle.issuer_host.specs.Holds.{Holds, place_in, with_flag}
 use Rattle.issuer_host.specs.Keeping.{kept_message}
 use Rattle.issuer_host.specs.Records.{RecordsData, balance_left}
 use Rattle.issuer_host.specs.Reply.{request_key, request_reply, new_request, kept_with, again_or, said_bytes}
@@ -101,16 +102,31 @@ returns-else-answered-clause-books c =
     ∙ ap (λ r. let b : Books = record { requests = with_first r (new_request s.keys s.accounts s.books c.args.message.now f) s.books.requests; presentments = s.books.presentments; reversals = s.books.reversals } in b) (sym none_is)
 
 pub keep_request-requires-clause-held : goal.keep_request-requires-clause-held
-keep_request-requires-clause-held c = λ approved. ?
-
-pub invariant_of-self-then-answered : goal.invariant_of-self-then-answered
-invariant_of-self-then-answered c = ?
-
-pub invariant_of-self-else-answered : goal.invariant_of-self-else-answered
-invariant_of-self-else-answered c = ?
-
-pub invariant_of-self : goal.invariant_of-self
-invariant_of-self c = ?
+keep_request-requires-clause-held c = λ approved.
+    let amount : c.in_ok-kept.kept.amount ≡ number_in c.args.fields.now.t9f02 = c.in_ok-kept.ensures.amount ∙ c.amount.ensures.value ∙ ap (λ (d : RequestData). number_in d.t9f02) c.fields.view_is in
+    rw amount (c.reply_to_request-answered.ensures.held (ap is_approved (sym c.in_ok-kept.ensures.code) ∙ approved))
 
 pub reply_to_request-answered-requires-clause-holds : goal.reply_to_request-answered-requires-clause-holds
-reply_to_request-answered-requires-clause-holds c = ?
+reply_to_request-answered-requires-clause-holds c = subst (Holds c.self.inside.accounts.now c.self.inside.records) (sym c.deref.ensures.value) c.self.invariant
+
+pub invariant_of-self : goal.invariant_of-self
+invariant_of-self c = subst (λ r. Holds c.self.inside.accounts.now r c.self.inside.served.items) (sym c.in_err-keep_request.ensures.err) c.self.invariant
+
+pub invariant_of-self-else-answered : goal.invariant_of-self-else-answered
+invariant_of-self-else-answered c =
+    let i = c.self.inside in
+    let new : Kept = kept_message c.request_key-key.result c.in_ok-kept.kept in
+    subst (λ r. Holds i.accounts.now r i.served.items) (sym c.in_ok-keep_request.ensures.ok)
+    (holds_plain i.accounts.now i.records i.served.items new c.self.invariant (c.in_ok-kept.ensures.online ∙ c.if-answered.false))
+
+pub invariant_of-self-then-answered : goal.invariant_of-self-then-answered
+invariant_of-self-then-answered c =
+    let i = c.self.inside in
+    let f = c.args.fields.now in
+    let new : Kept = kept_message c.request_key-key.result c.in_ok-kept.kept in
+    let known = online_known i.keys (account_of f.pan i.accounts.now) i.records.books f (sym c.reply_to_request-answered.ensures.online ∙ c.if-answered.true) in
+    let account : account_of new.key.pan i.accounts.now ≡ Some known.0 = ap (λ (k : Key). account_of k.pan i.accounts.now) c.request_key-key.ensures ∙ known.1 in
+    let flags : c.set_flag.new.flags.items ≡ with_flag i.served.items (place_in new.key.pan i.accounts.now) = c.set_flag.ensures ∙ ap (with_flag i.served.items) c.place_of-place.ensures in
+    subst (Holds i.accounts.now c.keep_request.new.self) (sym flags)
+    (subst (λ r. Holds i.accounts.now r (with_flag i.served.items (place_in new.key.pan i.accounts.now))) (sym c.in_ok-keep_request.ensures.ok)
+    (holds_online i.accounts.now i.records i.served.items new known.0 c.self.invariant (c.in_ok-kept.ensures.online ∙ c.if-answered.true) account))
