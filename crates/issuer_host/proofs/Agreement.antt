@@ -1,5 +1,5 @@
 -- The ledger agrees with the kept messages after one more is kept.
-use Rattle.std.proofs.Common.{◌≡◌, ℕ, ◌+◌, Bool, true, false, cond, not, ◌&&◌, ◌||◌, if◌then◌else◌, List, [], ◌∷◌, ◌++◌, Option, Some, None, refl, sym, ap, subst, ◌∙◌, arith}
+use Rattle.std.proofs.Common.{◌≡◌, ℕ, ◌+◌, Bool, true, false, cond, not, ◌&&◌, ◌||◌, List, [], ◌∷◌, ◌++◌, Option, Some, None, refl, sym, ap, subst, ◌∙◌, arith}
 use Rattle.std.specs.Prelude.{◌≢◌, option_map}
 use Rattle.std.specs.Option.{is_some}
 use Rattle.std.specs.Str.{bytes_eq}
@@ -8,15 +8,14 @@ use Rattle.host_ledger.specs.Accounts.{LedgerData, Keeps}
 use Rattle.host_ledger.specs.Entries.{entry_at, taken_at, taken_from}
 use Rattle.host_ledger.specs.Key.{same_key}
 use Rattle.host_ledger.specs.declared.entry.Entry.{Entry}
-use Rattle.host_ledger.specs.declared.entry.EntryState.{EntryState}
 use Rattle.host_ledger.specs.declared.entry.EntryState.TheVariants.{Held, Booked, Released}
 use Rattle.host_ledger.specs.declared.key.Key.{Key}
 use Rattle.host_ledger.proofs.Keys.{same, own_key, same_pan, own_pan}
-use Rattle.issuer_host.specs.Balance.{is_booked, is_released, booked_amount, held_amount, of_pan, taken}
+use Rattle.issuer_host.specs.Balance.{is_booked, is_released, booked_amount, held_amount, taken}
 use Rattle.issuer_host.specs.Books.{Kept, Books, kept_at, was_approved}
 use Rattle.issuer_host.specs.Code.{is_approved}
 use Rattle.issuer_host.specs.Records.{is_untouched, state_of, amount_or_zero, amount_of, AreOnce, EntryIs, Agrees}
-use Rattle.issuer_host.proofs.Totals.{total, total_is, total_last, total_same, total_split, total_own, total_foreign, weight, own, of_found, last_or_found, kept_last, kept_other, kept_own, not_same, other_way, once_last, found_key}
+use Rattle.issuer_host.proofs.Totals.{total, total_is, total_last, total_same, total_split, total_own, total_foreign, weight, own, of_found, last_or_found, kept_last, kept_other, kept_own, other_way, once_last, found_key}
 
 -- what is taken, by sums that go down the lists
 taken_is : (pan : List ℕ) (books : Books) → taken pan books ≡ total booked_amount pan books.presentments + total (held_amount books) pan books.requests
@@ -209,8 +208,14 @@ presentment_declined books new entries declined agrees =
     let none : booked_amount new ≡ 0 = rw declined refl in
     same_agree books after entries agrees
     (λ key. let last = declined_last key books.presentments new declined in (rw last.0 refl, rw (last.0, last.1) refl))
-    (λ pan. omega (arith, taken_is pan books, taken_is pan after, total_last booked_amount pan books.presentments new, no_weight booked_amount pan new none,
-    total_same (held_amount after) (held_amount books) pan books.requests (λ kept. let last = declined_last kept.key books.presentments new declined in rw last.0 refl)))
+    (λ pan. omega (
+      arith,
+      taken_is pan books,
+      taken_is pan after,
+      total_last booked_amount pan books.presentments new,
+      no_weight booked_amount pan new none,
+      total_same (held_amount after) (held_amount books) pan books.requests (λ kept. let last = declined_last kept.key books.presentments new declined in rw last.0 refl),
+    ))
     agrees.once
 
 -- an approved reversal
@@ -252,8 +257,12 @@ reversal_declined books new entries declined agrees =
     let after = with_reversal books new in
     same_agree books after entries agrees
     (λ key. let last = declined_last key books.reversals new declined in (rw last.0 refl, rw last.0 refl))
-    (λ pan. omega (arith, taken_is pan books, taken_is pan after,
-    total_same (held_amount after) (held_amount books) pan books.requests (λ kept. let last = declined_last kept.key books.reversals new declined in rw last.0 refl)))
+    (λ pan. omega (
+      arith,
+      taken_is pan books,
+      taken_is pan after,
+      total_same (held_amount after) (held_amount books) pan books.requests (λ kept. let last = declined_last kept.key books.reversals new declined in rw last.0 refl),
+    ))
     agrees.once
 
 both_true : (a b : Bool) → (a && b) ≡ true → (a ≡ true) × (b ≡ true)

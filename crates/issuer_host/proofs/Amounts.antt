@@ -1,5 +1,5 @@
 -- Twelve decimal digits are at most the greatest amount.
-use Rattle.std.proofs.Common.{◌≡◌, ℕ, ◌+◌, ◌*◌, ◌/◌, ◌%◌, ◌≤◌, Bool, true, false, ◌&&◌, List, [], ◌∷◌, length, get_or, arith}
+use Rattle.std.proofs.Common.{◌≡◌, ℕ, ◌+◌, ◌*◌, ◌/◌, ◌%◌, ◌≤◌, true, List, [], ◌∷◌, length, arith}
 use Rattle.std.proofs.lemmas.Bool.Decides.{nat_tests}
 use Rattle.emv_dict.specs.Bcd.{has_digits, number_of, number_in}
 use Rattle.emv_dict.specs.Nibbles.{nibbles, is_decimal}

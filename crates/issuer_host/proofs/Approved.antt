@@ -1,5 +1,5 @@
 -- What an approved message says of its account and its transaction.
-use Rattle.std.proofs.Common.{◌≡◌, ℕ, Bool, true, false, not, ◌&&◌, ◌||◌, if◌then◌else◌, Option, Some, None, refl, sym, ap, ◌∙◌, ℤ, pos, ◌-ℤ◌}
+use Rattle.std.proofs.Common.{◌≡◌, ℕ, Bool, true, false, not, ◌||◌, if◌then◌else◌, Option, Some, None, refl, ℤ, pos, ◌-ℤ◌}
 use Rattle.std.specs.Prelude.{int_lt, IsSome}
 use Rattle.std.specs.Option.{is_some}
 use Rattle.std.specs.Str.{bytes_eq}
@@ -8,15 +8,14 @@ use Rattle.emv_dict.specs.Date.{is_earlier}
 use Rattle.auth_message.specs.Data.{RequestData, PresentData}
 use Rattle.auth_message.specs.declared.reversal.ReversalFields.{ReversalFields}
 use Rattle.host_ledger.specs.declared.key.Key.{Key}
-use Rattle.issuer_host.specs.declared.code.Code.{Code}
-use Rattle.issuer_host.specs.declared.code.Code.TheVariants.{Approved, Declined, UnknownAccount, NoFunds, Expired, WrongPin}
+use Rattle.issuer_host.specs.declared.code.Code.TheVariants.{Approved, Declined, NoFunds, Expired, WrongPin}
 use Rattle.issuer_host.specs.declared.keys.HostKeys.{HostKeys}
 use Rattle.issuer_host.specs.Account.{AccountData}
 use Rattle.issuer_host.specs.Balance.{is_booked, is_released, taken}
-use Rattle.issuer_host.specs.Books.{Kept, Books, kept_at}
+use Rattle.issuer_host.specs.Books.{Books, kept_at}
 use Rattle.issuer_host.specs.Code.{is_approved}
-use Rattle.issuer_host.specs.Records.{RecordsData, balance_left, is_untouched, covers, is_open}
-use Rattle.issuer_host.specs.Reply.{request_key, present_key, reversal_key, request_is_genuine, present_is_genuine, day_of, pin_is_wrong, is_closed, request_code, present_code, reversal_code, plain, online_reply, request_reply, present_reply, reversal_reply}
+use Rattle.issuer_host.specs.Records.{RecordsData, balance_left, is_open}
+use Rattle.issuer_host.specs.Reply.{request_key, present_key, reversal_key, request_is_genuine, present_is_genuine, day_of, pin_is_wrong, is_closed, request_code, present_code, plain, online_reply, request_reply, present_reply, reversal_reply}
 
 chain : (a b c d e f : Bool) → is_approved (if a then Declined else if b then Declined else if c then Declined else if d then Expired else if e then WrongPin else if f then NoFunds else Approved) ≡ true → (c ≡ false) × (f ≡ false)
 chain true b c d e f is = cc

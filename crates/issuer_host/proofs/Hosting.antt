@@ -1,9 +1,9 @@
 -- What a host knows of an account, and what it keeps true as it keeps a message.
-use Rattle.std.proofs.Common.{◌≡◌, ℕ, Bool, true, false, cond, ◌&&◌, ◌||◌, not, List, [], ◌∷◌, ◌++◌, map, length, Option, Some, None, refl, sym, ap, subst, ◌∙◌, arith, ◌<◌, get_or, ◌-ℤ◌, pos, ℤ, length-set, zero, suc, ◌⊎◌, inl, inr, Bor, IfSome}
+use Rattle.std.proofs.Common.{◌≡◌, ℕ, Bool, true, false, ◌&&◌, ◌||◌, List, [], ◌∷◌, ◌++◌, map, length, Option, Some, None, refl, sym, ap, subst, ◌∙◌, arith, ◌<◌, ◌-ℤ◌, pos, ℤ, length-set, zero, suc, ◌⊎◌, inl, inr, Bor, IfSome}
 use Rattle.std.proofs.Math.ListN.{set}
 use Rattle.std.proofs.lemmas.Bool.{false_from_ne_true, cases_eq}
 use Rattle.std.specs.Prelude.{◌≢◌, option_map, slice_get, replicate}
-use Rattle.std.specs.List.{list_any, All}
+use Rattle.std.specs.List.{All}
 use Rattle.std.specs.Str.{bytes_eq}
 use Rattle.std.proofs.lemmas.List.{length-replicate, length-map}
 use Rattle.std.proofs.lemmas.List.Elements.{recursion_from_All}
@@ -12,7 +12,7 @@ use Rattle.host_ledger.specs.Accounts.{opening_of, AreDistinctBelow, IsRepeat}
 use Rattle.host_ledger.proofs.Keys.{same_pan, own_pan}
 use Rattle.issuer_host.specs.Account.{AccountData, IsAccount}
 use Rattle.issuer_host.specs.Balance.{account_of, balance_in, taken}
-use Rattle.issuer_host.specs.Books.{Kept, Books, no_books}
+use Rattle.issuer_host.specs.Books.{Kept, no_books}
 use Rattle.issuer_host.specs.Holds.{Holds, place_in, account_in, flag_at, or_false, with_flag, opening}
 use Rattle.issuer_host.specs.Records.{RecordsData, balance_left}
 use Rattle.issuer_host.specs.Reply.{is_served}

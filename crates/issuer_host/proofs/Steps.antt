@@ -1,5 +1,5 @@
 -- The step of one new message.
-use Rattle.std.proofs.Common.{◌≡◌, ℕ, Bool, true, false, List, [], ◌∷◌, ◌++◌, Option, Some, None, Result, Ok, Err, Bor, refl, sym, ap, subst, ◌∙◌}
+use Rattle.std.proofs.Common.{◌≡◌, ℕ, Bool, true, List, Option, Some, None, Result, Ok, Err, Bor, refl, sym, ap, subst, ◌∙◌}
 use Rattle.std.specs.Prelude.{option_map, OnOk, OnErr}
 use Rattle.std.specs.Option.{is_some}
 use Rattle.auth_message.specs.Data.{RequestData}
@@ -11,8 +11,7 @@ use Rattle.issuer_host.specs.Books.{Kept, Books}
 use Rattle.issuer_host.specs.Holds.{Holds}
 use Rattle.issuer_host.specs.Keeping.{kept_message}
 use Rattle.issuer_host.specs.Records.{RecordsData}
-use Rattle.issuer_host.specs.Reply.{Said, kept_with, said_bytes, request_is_genuine, request_code, online_reply, plain, request_reply}
-use Rattle.issuer_host.specs.declared.code.Code.TheVariants.{Declined}
+use Rattle.issuer_host.specs.Reply.{Said, kept_with, said_bytes, request_reply}
 
 pub got_some : (key : Key) (r : Option (Bor KeptMessage)) (b : Bor KeptMessage) (found : Option Kept) → option_map (λ k. kept_message key k.now) r ≡ found → r ≡ Some b → found ≡ Some (kept_message key b.now)
 got_some key r b found is some = sym is ∙ ap (option_map (λ k. kept_message key k.now)) some

@@ -66,7 +66,6 @@ own_none f key pan (kept ∷ others) none = by (own_none f key pan others) (same
         elim (bytes_eq pan kept.key.pan) as (λ c. cond c 0 0 + total (own f key) pan others ≡ 0) [ true ↦ omega arith | false ↦ omega arith ]
 
 pub total_own : (f : Kept → ℕ) (key : Key) (messages : List Kept) → AreOnce messages → total (own f key) key.pan messages ≡ of_found f (kept_at key messages)
-
 total_own f key [] once = refl
 total_own f key (kept ∷ others) once = by (total_own f key others once.1) (same_key key kept.key) refl
   where

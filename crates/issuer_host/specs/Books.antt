@@ -1,5 +1,5 @@
 -- The messages that a host has kept: the first of each kind and transaction, with its reply (own).
-use Rattle.std.specs.Prelude.{ℕ, Bool, true, false, if◌then◌else◌, List, [], ◌∷◌, Option, Some, None}
+use Rattle.std.specs.Prelude.{ℕ, Bool, false, if◌then◌else◌, List, [], ◌∷◌, Option, Some, None}
 use Rattle.host_ledger.specs.declared.key.Key.{Key}
 use Rattle.host_ledger.specs.Key.{same_key}
 use Rattle.issuer_host.specs.declared.code.Code.{Code}

@@ -1,5 +1,5 @@
 -- The kept messages beside the ledger of what they take.
-use Rattle.std.specs.Prelude.{◌≡◌, ℕ, ◌+◌, ℤ, pos, ◌-ℤ◌, int_lt, Bool, true, false, not, ◌&&◌, ◌||◌, if◌then◌else◌, List, [], ◌∷◌, Option, Some, None, option_map}
+use Rattle.std.specs.Prelude.{◌≡◌, ℕ, ℤ, pos, ◌-ℤ◌, int_lt, Bool, false, not, ◌&&◌, ◌||◌, if◌then◌else◌, List, [], ◌∷◌, Option, Some, None, option_map}
 use Rattle.std.specs.Option.{is_some}
 use Rattle.host_ledger.specs.Accounts.{opening_of}
 use Rattle.host_ledger.specs.Entries.{entry_at, taken_at, taken_from}

@@ -1,6 +1,6 @@
 -- The scripts that a reply carries, made from their words for one transaction (EMV 4.3 Book 3 sections 6.5
 -- and 10.10, Book 2 section 9).
-use Rattle.std.specs.Prelude.{ℕ, ◌+◌, ◌-◌, Bool, true, false, List, [], ◌∷◌, ◌++◌, length, map, take, drop, flat_map, Option, Some, None}
+use Rattle.std.specs.Prelude.{ℕ, ◌+◌, Bool, true, false, List, [], ◌∷◌, ◌++◌, length, flat_map, Option, Some, None}
 use Rattle.ber_tlv.specs.Written.{written}
 use Rattle.triple_des.specs.Bits.{xor_bytes}
 use Rattle.triple_des.specs.TripleDes.{tdes}

@@ -118,7 +118,11 @@ fn day(bytes: [u8; 3]) -> Date
     let [year, month, day] = bytes;
     let digits = u16::from(two_digit_number(year));
     Date {
-        year: if digits < 50 { 2000 + digits } else { 1900 + digits },
+        year: if digits < 50 {
+            2000 + digits
+        } else {
+            1900 + digits
+        },
         month: two_digit_number(month),
         day: two_digit_number(day),
     }

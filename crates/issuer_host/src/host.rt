@@ -23,9 +23,7 @@ use crate::keeping::{again, kept};
 use crate::keys::HostKeys;
 use crate::records::Records;
 use crate::reply::plain;
-use auth_message::{
-    Incoming, Message, PresentFields, RequestFields, ReversalFields, read_message,
-};
+use auth_message::{Incoming, Message, PresentFields, RequestFields, ReversalFields, read_message};
 use emv_dict::{Digits, amount_of};
 use host_ledger::LedgerFault;
 use std::alloc::{AllocError, Global};
@@ -176,8 +174,14 @@ impl<'a> Host<'a> {
             again(kept, message, out);
             return Ok(());
         }
-        let answered =
-            reply_to_presentment(&self.keys, self.accounts, &self.records, &key, fields, out);
+        let answered = reply_to_presentment(
+            &self.keys,
+            self.accounts,
+            &self.records,
+            &key,
+            fields,
+            out,
+        );
         let kept = kept(self.alloc, amount(fields.t9f02), message, answered, out)?;
         self.records.keep_presentment(&key, kept)
     }

@@ -38,7 +38,7 @@ impl Model for Records {
 
     ghost view = { λ r. record {
       accounts = r.ledger.accounts;
-      books = record { requests = r.requests; presentments = r.presentments; reversals = r.reversals }
+      books = record { requests = r.requests; presentments = r.presentments; reversals = r.reversals };
     } };
 
     ghost invariant = { λ r. Agrees (record { requests = r.requests; presentments = r.presentments; reversals = r.reversals }) r.ledger.entries };

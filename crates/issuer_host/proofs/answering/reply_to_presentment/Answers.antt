@@ -1,17 +1,10 @@
-use Rattle.std.proofs.Common.{◌≡◌, Some, true, sym, ap, ◌∙◌, pos, ◌-ℤ◌}
+use Rattle.std.proofs.Common.{◌≡◌, ap, ◌∙◌}
 use Rattle.std.specs.Prelude.{option_map}
-use Rattle.std.specs.Option.{is_some}
-use Rattle.emv_dict.specs.Bcd.{number_in}
 use Rattle.auth_message.specs.Data.{PresentData}
-use Rattle.host_ledger.specs.declared.key.Key.{Key}
-use Rattle.issuer_host.specs.Balance.{account_of, taken}
-use Rattle.issuer_host.specs.Code.{is_approved}
-use Rattle.issuer_host.specs.Holds.{place_in, account_in, flag_at}
-use Rattle.issuer_host.specs.Records.{balance_left}
-use Rattle.issuer_host.specs.Reply.{present_reply, said_bytes, is_served, is_closed}
-use Rattle.issuer_host.proofs.Approved.{request_open, open_where}
-use Rattle.issuer_host.proofs.Hosting.{known_balance, flag_known, seen_some}
-use Rattle.issuer_host.proofs.Places.{account_found, has_pan}
+use Rattle.issuer_host.specs.Balance.{account_of}
+use Rattle.issuer_host.specs.Holds.{place_in, account_in}
+use Rattle.issuer_host.specs.Reply.{present_reply, said_bytes}
+use Rattle.issuer_host.proofs.Places.{account_found}
 use Rattle.issuer_host.proofs.answering.reply_to_presentment.Goals as goal
 
 pub returns-clause-bytes : goal.returns-clause-bytes

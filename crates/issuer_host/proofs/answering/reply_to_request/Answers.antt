@@ -1,4 +1,4 @@
-use Rattle.std.proofs.Common.{◌≡◌, Some, true, sym, ap, ◌∙◌, pos, ◌-ℤ◌}
+use Rattle.std.proofs.Common.{◌≡◌, Some, sym, ap, ◌∙◌, pos, ◌-ℤ◌}
 use Rattle.std.specs.Prelude.{option_map}
 use Rattle.std.specs.Option.{is_some}
 use Rattle.emv_dict.specs.Bcd.{number_in}

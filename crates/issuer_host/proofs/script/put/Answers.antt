@@ -1,4 +1,4 @@
-use Rattle.std.proofs.Common.{◌≡◌, ◌++◌, ◌+◌, length, List, ℕ, arith, length-append, ap}
+use Rattle.std.proofs.Common.{◌≡◌, ◌++◌, length, List, ℕ, arith, length-append, ap}
 use Rattle.ber_tlv.specs.Written.{written}
 use Rattle.issuer_host.proofs.Sizes.{written_size}
 use Rattle.issuer_host.proofs.script.put.Goals as goal

@@ -1,4 +1,4 @@
-use Rattle.std.proofs.Common.{◌≡◌, ◌+◌, ◌≤◌, ◌++◌, take, length}
+use Rattle.std.proofs.Common.{◌≡◌, ◌+◌, ◌++◌, take, length}
 use Rattle.std.specs.Prelude.{sum_by, flat_map}
 use Rattle.script_words.specs.MadeLength.{made_length}
 use Rattle.issuer_host.specs.Scripts.{script_bytes}

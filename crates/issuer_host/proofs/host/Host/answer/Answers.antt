@@ -1,5 +1,4 @@
-use Rattle.std.proofs.Common.{◌≡◌, ℕ, List, [], ◌∷◌, ◌++◌, Ok, Err, refl, sym, ap, ◌∙◌}
-use Rattle.auth_message.specs.Accepted.{HasAmount}
+use Rattle.std.proofs.Common.{◌≡◌, ℕ, List, Ok, refl, ap, ◌∙◌}
 use Rattle.auth_message.specs.Message.{message_of}
 use Rattle.auth_message.specs.declared.message.Incoming.{Incoming}
 use Rattle.issuer_host.specs.History.{HostStands}

@@ -1,21 +1,19 @@
-use Rattle.std.proofs.Common.{◌≡◌, [], ◌∷◌, ◌++◌, Some, None, true, sym, ap, subst, ◌∙◌, refl}
+use Rattle.std.proofs.Common.{◌≡◌, [], ◌∷◌, ◌++◌, Some, sym, ap, subst, ◌∙◌}
 use Rattle.std.specs.Prelude.{option_map}
 use Rattle.emv_dict.specs.Bcd.{number_in}
 use Rattle.auth_message.specs.Accepted.{AreDigits}
-use Rattle.auth_message.specs.Data.{RequestData, PresentData}
+use Rattle.auth_message.specs.Data.{RequestData}
 use Rattle.host_ledger.specs.declared.key.Key.{Key}
-use Rattle.issuer_host.specs.Balance.{account_of, is_booked, is_released}
+use Rattle.issuer_host.specs.Balance.{account_of}
 use Rattle.issuer_host.specs.Books.{Kept, Books, kept_at}
 use Rattle.issuer_host.specs.Code.{is_approved}
 use Rattle.issuer_host.specs.History.{HostData, with_first}
 use Rattle.issuer_host.specs.Holds.{Holds, place_in, with_flag}
 use Rattle.issuer_host.specs.Keeping.{kept_message}
-use Rattle.issuer_host.specs.Records.{RecordsData, balance_left}
+use Rattle.issuer_host.specs.Records.{RecordsData}
 use Rattle.issuer_host.specs.Reply.{request_key, request_reply, new_request, kept_with, again_or, said_bytes}
-use Rattle.issuer_host.proofs.Approved.{present_open, reversal_open, some_where}
-use Rattle.issuer_host.proofs.Hosting.{known_balance, holds_plain, holds_online}
-use Rattle.issuer_host.proofs.Places.{has_pan}
-use Rattle.issuer_host.proofs.Steps.{got_some, got_none, kept_made, on_ok, on_ok_map, holds_after, holds_others, online_known}
+use Rattle.issuer_host.proofs.Hosting.{holds_plain, holds_online}
+use Rattle.issuer_host.proofs.Steps.{got_some, got_none, kept_made, online_known}
 use Rattle.issuer_host.proofs.host.Host.answer_request.Goals as goal
 
 pub returns-in-Some-clause-reply : goal.returns-in-Some-clause-reply

@@ -1,4 +1,4 @@
-use Rattle.std.proofs.Common.{◌≡◌, sym, ap, ◌∙◌}
+use Rattle.std.proofs.Common.{ap, ◌∙◌}
 use Rattle.issuer_host.specs.Balance.{balance_in}
 use Rattle.issuer_host.specs.History.{HostData}
 use Rattle.issuer_host.proofs.Hosting.{balance_is}

@@ -1,5 +1,4 @@
-use Rattle.std.proofs.Common.{◌≡◌, ◌<◌, ℕ, List, length, map, ap, ◌∙◌, subst, sym, arith}
-use Rattle.host_ledger.specs.Accounts.{AreDistinctBelow, IsRepeat}
+use Rattle.std.proofs.Common.{◌≡◌, map, ap, ◌∙◌}
 use Rattle.issuer_host.specs.Books.{no_books}
 use Rattle.issuer_host.specs.Holds.{opening}
 use Rattle.issuer_host.specs.Records.{RecordsData}

@@ -1,4 +1,4 @@
-use Rattle.std.proofs.Common.{map, refl, sym, ap, ◌∙◌, [], ◌∷◌, ◌++◌}
+use Rattle.std.proofs.Common.{map, refl, ap, ◌∙◌, [], ◌∷◌, ◌++◌}
 use Rattle.issuer_host.specs.Books.{kept_at}
 use Rattle.issuer_host.specs.Keeping.{kept_message, kept_entry}
 use Rattle.issuer_host.proofs.Tables.{message_kept}

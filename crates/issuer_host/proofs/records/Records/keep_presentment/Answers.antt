@@ -1,10 +1,10 @@
-use Rattle.std.proofs.Common.{◌≡◌, true, false, ◌&&◌, [], ◌∷◌, ◌++◌, None, sym, ap, subst, ◌∙◌}
-use Rattle.issuer_host.specs.Balance.{is_booked, is_released}
+use Rattle.std.proofs.Common.{◌≡◌, true, false, [], ◌∷◌, ◌++◌, None, sym, ap, subst, ◌∙◌}
+use Rattle.issuer_host.specs.Balance.{is_released}
 use Rattle.issuer_host.specs.Books.{Kept, Books, kept_at}
 use Rattle.issuer_host.specs.Code.{is_approved}
 use Rattle.issuer_host.specs.Keeping.{kept_message}
-use Rattle.issuer_host.specs.Records.{RecordsData, Agrees, is_untouched, covers, balance_left}
-use Rattle.issuer_host.proofs.Agreement.{presentment_agrees, presentment_declined, open_untouched}
+use Rattle.issuer_host.specs.Records.{RecordsData, Agrees}
+use Rattle.issuer_host.proofs.Agreement.{presentment_agrees, presentment_declined}
 use Rattle.issuer_host.proofs.records.Records.keep_presentment.Goals as goal
 
 pub invariant_of-self-then-not-approved : goal.invariant_of-self-then-not-approved

@@ -1,5 +1,4 @@
 use Rattle.std.proofs.Common.{◌≡◌, true, false, ◌&&◌, [], ◌∷◌, ◌++◌, None, sym, ap, subst, ◌∙◌}
-use Rattle.issuer_host.specs.Balance.{is_booked, is_released}
 use Rattle.issuer_host.specs.Books.{Kept, Books, kept_at}
 use Rattle.issuer_host.specs.Code.{is_approved}
 use Rattle.issuer_host.specs.Keeping.{kept_message}
