@@ -1,5 +1,5 @@
 -- The items of a message's value, from the step that gave its outer item.
-use Rattle.std.proofs.Common.{◌≡◌, ℕ, ◌+◌, ◌-◌, true, false, List, [], ◌∷◌, length, take, Option, Some, None, Result, Ok, Err, refl, sym, ap, subst, ◌∙◌, inl, inr, arith}
+use Rattle.std.proofs.Common.{◌≡◌, ℕ, ◌+◌, ◌-◌, true, false, List, [], ◌∷◌, length, take, Option, Some, None, Result, Ok, Err, refl, sym, ap, subst, ◌∙◌, inl, inr, zero, suc, IfSome}
 use Rattle.std.specs.Prelude.{nat_le, slice_range, ◌==◌}
 use Rattle.std.specs.List.{list_any}
 use Rattle.ber_tlv.specs.Item.{ItemData, item_at, tag_at, length_at, value_at}
@@ -7,8 +7,9 @@ use Rattle.ber_tlv.specs.Items.{NextItem}
 use Rattle.ber_tlv.specs.Left.{items_behind, items_of, fault_of, then_left}
 use Rattle.ber_tlv.specs.Place.{place_of}
 use Rattle.ber_tlv.specs.declared.item.TlvFault.{TlvFault}
+use Rattle.ber_tlv.specs.declared.item.Item.{Item}
+use Rattle.ber_tlv.specs.Seen.{seen}
 use Rattle.ber_tlv.proofs.ItemBounds.{step-ok, chosen-ok}
-use Rattle.auth_message.specs.declared.fault.MessageFault.{MessageFault}
 use Rattle.auth_message.specs.declared.fault.MessageFault.TheVariants.{Coding}
 use Rattle.auth_message.specs.Outer.{held, items_within, outer_of, outer_among, outer_within}
 
@@ -22,7 +23,7 @@ value_start bytes start tag place count item next e =
       | inr cut ↦ cc
     ]
 
-start_of : (bytes : List ℕ) (start : ℕ) (item : ItemData) (next : ℕ) → item_at bytes start ≡ Ok (item, next) → item.start ≡ start
+pub start_of : (bytes : List ℕ) (start : ℕ) (item : ItemData) (next : ℕ) → item_at bytes start ≡ Ok (item, next) → item.start ≡ start
 unfolding item_at
 start_of bytes start item next stands =
     let tag = step-ok (tag_at bytes start) _ _ stands in
@@ -39,9 +40,9 @@ pub record First (bytes : List ℕ) (item : ItemData) (next : ℕ) : Type 0 wher
   pub left : then_left item (items_behind bytes next) ≡ items_of bytes
 
 pub first_is : (b b2 bytes : List ℕ) (p : ℕ) (item : ItemData) (next : ℕ) → b ≡ bytes → p ≡ 0 → b2 ≡ b → NextItem b p item next → then_left item (items_behind b2 next) ≡ items_behind b p → First bytes item next
-first_is b b2 bytes p item next same zero same2 step left = record {
-  step = subst (λ x. NextItem bytes x item next) zero (subst (λ x. NextItem x p item next) same step);
-  left = ap (λ x. then_left item (items_behind x next)) (sym (same2 ∙ same)) ∙ left ∙ ap (λ x. items_behind x p) same ∙ ap (items_behind bytes) zero;
+first_is b b2 bytes p item next same first same2 step left = record {
+  step = subst (λ x. NextItem bytes x item next) first (subst (λ x. NextItem x p item next) same step);
+  left = ap (λ x. then_left item (items_behind x next)) (sym (same2 ∙ same)) ∙ left ∙ ap (λ x. items_behind x p) same ∙ ap (items_behind bytes) first;
 }
 
 -- the items of its value
@@ -96,3 +97,25 @@ pub alone_item : (known bytes : List ℕ) (item : ItemData) (next : ℕ) (items 
     → items_behind (take next bytes) (next - length item.value) ≡ Ok items → list_any (λ tag. tag == item.tag) known ≡ true → outer_of known bytes ≡ Ok (item.tag, items)
 alone_item known bytes item next items first end inside is_known =
     found_first known bytes item next [] (Ok items) first (sym end) inside ∙ rw is_known refl
+
+-- the item of a step stands at its own start
+pub stands_at : (bytes again : List ℕ) (place : ℕ) (item : ItemData) (next : ℕ) → again ≡ bytes → NextItem bytes place item next → item_at again item.start ≡ Ok (item, next)
+stands_at bytes again place item next same step =
+    ap (λ b. item_at b item.start) same ∙ ap (item_at bytes) (start_of bytes step.start item next step.stands) ∙ step.stands
+
+-- the same where there is an item
+pub some_stands : (found : Option Item) (bytes again : List ℕ) (place next : ℕ) → again ≡ bytes → IfSome found (λ item. NextItem bytes place (seen item) next)
+    → IfSome found (λ item. item_at again item.start ≡ Ok (seen item, next))
+some_stands None bytes again place next same step = tt
+some_stands (Some item) bytes again place next same step = stands_at bytes again place (seen item) next same step
+
+take_self : (count : ℕ) (bytes : List ℕ) → take count bytes ≡ take (length (take count bytes)) bytes
+take_self zero bytes = refl
+take_self (suc count) [] = refl
+take_self (suc count) (byte ∷ bytes) = ap (λ b. byte ∷ b) (take_self count bytes)
+
+-- so many first bytes are as many as there are
+pub front_of : (whole bytes again : List ℕ) (count : ℕ) → bytes ≡ take count again → again ≡ whole → bytes ≡ take (length bytes) whole
+front_of whole bytes again count cut same =
+    let first : bytes ≡ take count whole = cut ∙ ap (take count) same in
+    first ∙ take_self count whole ∙ ap (λ (b : List ℕ). take (length b) whole) (sym first)

@@ -1,9 +1,8 @@
 -- What the value of a field may be (own).
-use Rattle.std.specs.Prelude.{ℕ, Bool, not, ◌&&◌, ◌||◌, ◌==◌, nat_le, if◌then◌else◌, List, length, Option, Some, None, Result, Ok, Err}
+use Rattle.std.specs.Prelude.{ℕ, Bool, not, ◌&&◌, ◌||◌, ◌==◌, nat_le, if◌then◌else◌, List, length, Result, Ok, Err}
 use Rattle.std.specs.List.{list_all}
 use Rattle.ber_tlv.specs.declared.tag.Tag.{Tag}
 use Rattle.emv_dict.specs.Bcd.{has_digits}
-use Rattle.emv_dict.specs.Pan.{pan_of}
 use Rattle.emv_dict.specs.declared.pan.PanFault.{PanFault}
 use Rattle.auth_message.specs.declared.fault.MessageFault.{MessageFault}
 use Rattle.auth_message.specs.declared.fault.MessageFault.TheVariants.{Missing, Value}

@@ -1,5 +1,5 @@
 -- The fields that several messages share, in their order (own).
-use Rattle.std.specs.Prelude.{ℕ, true, false, List, Result, Ok}
+use Rattle.std.specs.Prelude.{true, false, List, Result, Ok}
 use Rattle.ber_tlv.specs.Item.{ItemData}
 use Rattle.auth_message.specs.declared.fault.MessageFault.{MessageFault}
 use Rattle.auth_message.specs.declared.groups.Named.{Named}

@@ -1,3 +1,4 @@
+pub mod Accepted
 pub mod Data
 pub mod Field
 pub mod Fields
@@ -6,3 +7,6 @@ pub mod Left
 pub mod Message
 pub mod Messages
 pub mod Outer
+pub mod Reply
+pub mod Script
+pub mod Spelling

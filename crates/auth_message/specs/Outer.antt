@@ -1,5 +1,5 @@
 -- The one item that a message is, and the items of its value (own).
-use Rattle.std.specs.Prelude.{ℕ, Bool, ◌-◌, ◌==◌, if◌then◌else◌, List, [], ◌∷◌, length, take, Result, Ok, Err}
+use Rattle.std.specs.Prelude.{ℕ, ◌-◌, ◌==◌, if◌then◌else◌, List, [], ◌∷◌, length, take, Result, Ok, Err}
 use Rattle.std.specs.List.{list_any}
 use Rattle.ber_tlv.specs.Item.{ItemData, item_at}
 use Rattle.ber_tlv.specs.Left.{items_behind, items_of}

@@ -10,11 +10,18 @@ mod groups;
 pub mod message;
 mod outer;
 pub mod presentment;
+pub mod reply;
 pub mod request;
 pub mod reversal;
+pub mod write;
 
 pub use fault::MessageFault;
 pub use message::{Incoming, read_message};
 pub use presentment::PresentFields;
+pub use reply::{Reply, read_reply};
 pub use request::RequestFields;
 pub use reversal::ReversalFields;
+pub use write::{Message, write_presentment, write_reply, write_request, write_reversal};
+
+#[cfg(test)]
+mod tests;

@@ -1,4 +1,4 @@
-ghost use Rattle.std.specs.Prelude.{◌≡◌, ◌≤◌, ◌==◌, length, MatchResult, Ok, Err};
+ghost use Rattle.std.specs.Prelude.{◌≡◌, ◌≤◌, ◌==◌, length, MatchResult, IfOk, Ok, Err};
 ghost use Rattle.std.specs.List.{list_any};
 ghost use Rattle.ber_tlv.specs.Left.{items_behind, fault_of};
 ghost use Rattle.auth_message.specs.Outer.{outer_of};
@@ -9,8 +9,9 @@ use ber_tlv::{Cursor, TlvFault, first_fault};
 
 /// The tag of a message and its fields, where it is one of the known tags.
 pub fn open<'a>(bytes: &'a [u8], known: &[u32]) -> Result<(u32, Fields<'a>), MessageFault>
-    ensures { MatchResult result (λ found. outer_of known.now bytes.now ≡ Ok (found.0, found.1))
+    ensures value { MatchResult result (λ found. outer_of known.now bytes.now ≡ Ok (found.0, found.1.left))
         (λ fault. outer_of known.now bytes.now ≡ Err fault) }
+    ensures bytes { IfOk result (λ found. found.1.bytes ≡ bytes.now) }
 {
     if let Some(fault) = first_fault(bytes) {
         return Err(MessageFault::Coding(fault.place()));
@@ -30,7 +31,7 @@ pub fn open<'a>(bytes: &'a [u8], known: &[u32]) -> Result<(u32, Fields<'a>), Mes
     }
     match cursor.next() {
         Ok(Some(other)) => Err(MessageFault::Coding(other.start)),
-        Ok(None) => Ok((item.tag.0, Fields::new(inside))),
+        Ok(None) => Ok((item.tag.0, Fields::new(bytes, inside))),
         Err(_) => unreachable!(),
     }
 }

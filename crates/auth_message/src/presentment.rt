@@ -1,4 +1,5 @@
-ghost use Rattle.std.specs.Prelude.{◌≡◌, MatchResult, Ok, Err};
+ghost use Rattle.std.specs.Prelude.{◌≡◌, MatchResult, IfOk, Ok, Err};
+ghost use Rattle.auth_message.specs.Accepted.{AreDigits};
 ghost use Rattle.auth_message.specs.Messages.{present_at};
 
 use crate::fault::MessageFault;
@@ -52,12 +53,20 @@ impl<'a> Model for PresentFields<'a> {
       t9f10 = f.t9f10.now;
       t8a = f.t8a;
     } };
+
+    ghost use Rattle.std.specs.Prelude.{length, ◌≡◌, IfSome};
+
+    ghost invariant = { λ f. (length f.t9f1c ≡ 8) × IfSome f.t5f34 (λ v. length v ≡ 1)
+        × (length f.t9f02 ≡ 6) × (length f.t9f03 ≡ 6) × (length f.t9f1a ≡ 2) × (length f.t95 ≡ 5)
+        × (length f.t5f2a ≡ 2) × (length f.t9a ≡ 3) × (length f.t9c ≡ 1) × (length f.t9f37 ≡ 4)
+        × (length f.t82 ≡ 2) × (length f.t9f36 ≡ 2) × (length f.t9f26 ≡ 8) × (length f.t8a ≡ 2) };
 }
 
 /// Reads a presentment's fields.
 #[tactic(auto, unfolding(crate::specs::Messages::present_at))]
 pub fn read_present<'a>(fields: &mut Fields<'a>) -> Result<PresentFields<'a>, MessageFault>
-    ensures { MatchResult result (λ found. present_at fields.old ≡ Ok found) (λ fault. present_at fields.old ≡ Err fault) }
+    ensures value { MatchResult result (λ found. present_at fields.old.left ≡ Ok found) (λ fault. present_at fields.old.left ≡ Err fault) }
+    ensures digits { IfOk result (λ found. AreDigits found.t9f02) }
 {
     let Named { t9f1c, pan, t5f34 } = read_named(fields)?;
     let Paid {

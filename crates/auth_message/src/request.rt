@@ -1,4 +1,5 @@
-ghost use Rattle.std.specs.Prelude.{◌≡◌, MatchResult, Ok, Err};
+ghost use Rattle.std.specs.Prelude.{◌≡◌, MatchResult, IfOk, Ok, Err};
+ghost use Rattle.auth_message.specs.Accepted.{AreDigits};
 ghost use Rattle.auth_message.specs.Messages.{request_at};
 
 use crate::fault::MessageFault;
@@ -54,12 +55,20 @@ impl<'a> Model for RequestFields<'a> {
       t9f10 = f.t9f10.now;
       tdf11 = f.tdf11;
     } };
+
+    ghost use Rattle.std.specs.Prelude.{length, ◌≡◌, IfSome};
+
+    ghost invariant = { λ f. (length f.t9f1c ≡ 8) × IfSome f.t5f34 (λ v. length v ≡ 1) × (length f.t5f24 ≡ 3)
+        × (length f.t9f02 ≡ 6) × (length f.t9f03 ≡ 6) × (length f.t9f1a ≡ 2) × (length f.t95 ≡ 5)
+        × (length f.t5f2a ≡ 2) × (length f.t9a ≡ 3) × (length f.t9c ≡ 1) × (length f.t9f37 ≡ 4)
+        × (length f.t82 ≡ 2) × (length f.t9f36 ≡ 2) × (length f.t9f26 ≡ 8) × IfSome f.tdf11 (λ v. length v ≡ 8) };
 }
 
 /// Reads a request's fields.
 #[tactic(auto, unfolding(crate::specs::Messages::request_at))]
 pub fn read_request<'a>(fields: &mut Fields<'a>) -> Result<RequestFields<'a>, MessageFault>
-    ensures { MatchResult result (λ found. request_at fields.old ≡ Ok found) (λ fault. request_at fields.old ≡ Err fault) }
+    ensures value { MatchResult result (λ found. request_at fields.old.left ≡ Ok found) (λ fault. request_at fields.old.left ≡ Err fault) }
+    ensures digits { IfOk result (λ found. AreDigits found.t9f02) }
 {
     let Named { t9f1c, pan, t5f34 } = read_named(fields)?;
     let t5f24 = fields.fixed(0x5F24, true)?;

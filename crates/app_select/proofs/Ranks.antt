@@ -1,0 +1,151 @@
+-- The candidates by name, by confirmation and by rank.
+use Rattle.std.proofs.Common.{◌≡◌, ℕ, zero, suc, ◌+◌, ◌-◌, ◌≤◌, ◌<◌, ◌&&◌, ◌||◌, not, Bool, true, false, List, [], ◌∷◌, ◌++◌, length, take, drop, get_or, refl, sym, ap, ◌∙◌, arith, if◌then◌else◌, append_assoc, append-nil, length-append}
+use Rattle.std.specs.List.{filter, list_any}
+use Rattle.std.specs.Str.{bytes_eq}
+use Rattle.std.proofs.lemmas.Bool.Decides.{nat_tests}
+use Rattle.std.proofs.lemmas.List.{map-append, take_more, drop_more, drop_all, length-map}
+use Rattle.app_select.specs.Candidates.{CandidateData, has_name, firsts_behind, firsts, is_allowed, rank_of, has_rank, by_rank, ordered, allowed, candidates}
+use Rattle.app_select.specs.SeenCandidate.{seen_candidate, seen_all, is_ranked}
+use Rattle.app_select.specs.declared.candidates.Candidate.{Candidate}
+
+pub any_seen : (name : List ℕ) (found : List Candidate) → list_any (λ other. bytes_eq other.name name) found ≡ list_any (has_name name) (seen_all found)
+any_seen name [] = refl
+any_seen name (candidate ∷ found) = ap (λ (b : Bool). bytes_eq candidate.name name || b) (any_seen name found)
+
+-- those of a rank among the candidates that are allowed
+abbrev pub ranked : Bool → ℕ → List CandidateData → List CandidateData
+ranked confirm rank found = filter (has_rank rank) (filter (is_allowed confirm) found)
+
+by_tests : (confirm : Bool) (rank : ℕ) (candidate : CandidateData) (rest : List CandidateData) (at_rank is_free is_named : Bool)
+    → has_rank rank candidate ≡ at_rank → is_allowed confirm candidate ≡ is_free
+    → ranked confirm rank (if is_named then rest else candidate ∷ rest)
+    ≡ (if at_rank && (is_free && not is_named) then candidate ∷ [] else []) ++ ranked confirm rank rest
+by_tests confirm rank candidate rest true true true p q = refl
+by_tests confirm rank candidate rest true false true p q = refl
+by_tests confirm rank candidate rest false true true p q = refl
+by_tests confirm rank candidate rest false false true p q = refl
+by_tests confirm rank candidate rest true true false p q = rw q (rw p refl)
+by_tests confirm rank candidate rest true false false p q = rw q refl
+by_tests confirm rank candidate rest false true false p q = rw q (rw p refl)
+by_tests confirm rank candidate rest false false false p q = rw q refl
+
+-- what is still to be pushed from a place on
+abbrev pub ranked_from : Bool → ℕ → List Candidate → ℕ → List CandidateData
+ranked_from confirm rank found place = ranked confirm rank (firsts_behind (seen_all (take place found)) (seen_all (drop place found)))
+
+pub ranked_step : (confirm : Bool) (rank : ℕ) (found : List Candidate) (place : ℕ) (candidate : Candidate) → place < length found → candidate ≡ get_or found place candidate
+    → ranked_from confirm rank found place
+    ≡ (if is_ranked confirm rank (seen_all (take place found)) (seen_candidate candidate) then seen_candidate candidate ∷ [] else []) ++ ranked_from confirm rank found (place + 1)
+ranked_step confirm rank found place candidate inside is =
+    let front = seen_all (take place found) in
+    let this = seen_candidate candidate in
+    let rest : drop place found ≡ candidate ∷ drop (place + 1) found = drop_more found place candidate inside ∙ ap (λ (c : Candidate). c ∷ drop (place + 1) found) (sym is) in
+    let more : take (place + 1) found ≡ take place found ++ candidate ∷ [] = take_more found place candidate inside ∙ ap (λ (c : Candidate). take place found ++ c ∷ []) (sym is) in
+    let seen : seen_all (take (place + 1) found) ≡ front ++ this ∷ [] = ap seen_all more ∙ map-append seen_candidate (take place found) (candidate ∷ []) in
+    rw (rest, seen)
+    (by_tests confirm rank this (firsts_behind (front ++ this ∷ []) (seen_all (drop (place + 1) found))) (has_rank rank this) (is_allowed confirm this) (list_any (has_name this.name) front) refl refl)
+
+-- no candidate of a rank that is over
+passed : (rank ranks : ℕ) (candidate : CandidateData) (rest : List CandidateData) → rank_of candidate.priority < rank → by_rank rank ranks (candidate ∷ rest) ≡ by_rank rank ranks rest
+passed rank zero candidate rest below = refl
+passed rank (suc ranks) candidate rest below =
+    let over : has_rank rank candidate ≡ false = grind (arith, nat_tests) in
+    let next : rank_of candidate.priority < rank + 1 = omega arith in
+    rw (over, passed (rank + 1) ranks candidate rest next) refl
+
+one_more_by : (rank ranks : ℕ) (candidate : CandidateData) (rest : List CandidateData) (test : Bool) → has_rank rank candidate ≡ test
+    → length (by_rank (rank + 1) ranks (candidate ∷ rest)) ≤ suc (length (by_rank (rank + 1) ranks rest))
+    → length (by_rank rank (suc ranks) (candidate ∷ rest)) ≤ suc (length (by_rank rank (suc ranks) rest))
+one_more_by rank ranks candidate rest true is more =
+    let here : rank_of candidate.priority < rank + 1 = grind (arith, nat_tests) in
+    rw (is, passed (rank + 1) ranks candidate rest here) (omega arith)
+one_more_by rank ranks candidate rest false is more =
+    rw is (simp length-append (omega (arith, more)))
+
+one_more : (rank ranks : ℕ) (candidate : CandidateData) (rest : List CandidateData) → length (by_rank rank ranks (candidate ∷ rest)) ≤ suc (length (by_rank rank ranks rest))
+one_more rank zero candidate rest = omega arith
+one_more rank (suc ranks) candidate rest = one_more_by rank ranks candidate rest (has_rank rank candidate) refl (one_more (rank + 1) ranks candidate rest)
+
+by_rank-none : (rank ranks : ℕ) → by_rank rank ranks [] ≡ []
+by_rank-none rank zero = refl
+by_rank-none rank (suc ranks) = by_rank-none (rank + 1) ranks
+
+by_rank-few : (rank ranks : ℕ) (found : List CandidateData) → length (by_rank rank ranks found) ≤ length found
+by_rank-few rank ranks [] = rw (by_rank-none rank ranks) (omega arith)
+by_rank-few rank ranks (candidate ∷ found) =
+    let more = one_more rank ranks candidate found in
+    let rest = by_rank-few rank ranks found in
+    omega (arith, more, rest)
+
+filter-few : (test : CandidateData → Bool) (found : List CandidateData) → length (filter test found) ≤ length found
+filter-few test [] = omega arith
+filter-few test (candidate ∷ found) =
+    let rest = filter-few test found in
+    elim (test candidate) as (λ b. length (if b then candidate ∷ filter test found else filter test found) ≤ suc (length found)) [ true ↦ omega (arith, rest) | false ↦ omega (arith, rest) ]
+
+firsts_behind-few : (earlier found : List CandidateData) → length (firsts_behind earlier found) ≤ length found
+firsts_behind-few earlier [] = omega arith
+firsts_behind-few earlier (candidate ∷ found) =
+    let rest = firsts_behind-few (earlier ++ candidate ∷ []) found in
+    let later = firsts_behind (earlier ++ candidate ∷ []) found in
+    elim (list_any (has_name candidate.name) earlier) as (λ b. length (if b then later else candidate ∷ later) ≤ suc (length found)) [ true ↦ omega (arith, rest) | false ↦ omega (arith, rest) ]
+
+pub ordered-few : (confirm : Bool) (found : List CandidateData) → length (ordered (allowed confirm found)) ≤ length found
+ordered-few confirm found =
+    let a = by_rank-few 1 16 (allowed confirm found) in
+    let b = filter-few (is_allowed confirm) (firsts found) in
+    let c = firsts_behind-few [] found in
+    omega (arith, a, b, c)
+
+pub ranked_end : (confirm : Bool) (rank : ℕ) (found : List Candidate) (place : ℕ) → length found ≤ place → ranked_from confirm rank found place ≡ []
+ranked_end confirm rank found place over = rw (drop_all place found over) refl
+
+-- one more is pushed
+pub push_step : (front this rest before all : List CandidateData) → front ++ before ≡ all → before ≡ this ++ rest → (front ++ this) ++ rest ≡ all
+push_step front this rest before all is next = append_assoc front this rest ∙ ap (λ (xs : List CandidateData). front ++ xs) (sym next) ∙ is
+
+pub room_at : (list initial : List Candidate) (all before rest : List CandidateData) (candidate : CandidateData) → seen_all list ++ before ≡ seen_all initial ++ all
+    → before ≡ candidate ∷ rest → length initial + length all ≤ 256 → length list < 256
+room_at list initial all before rest candidate is next few =
+    let same = ap (λ (xs : List CandidateData). length (seen_all list ++ xs)) (sym next) ∙ ap length is in
+    let one : length (seen_all list ++ candidate ∷ rest) ≡ length list + suc (length rest) = length-append (seen_all list) (candidate ∷ rest) ∙ ap (λ (n : ℕ). n + suc (length rest)) (length-map list seen_candidate) in
+    let two : length (seen_all initial ++ all) ≡ length initial + length all = length-append (seen_all initial) all ∙ ap (λ (n : ℕ). n + length all) (length-map initial seen_candidate) in
+    omega (arith, same, one, two)
+
+pub rank_step : (rank : ℕ) (among : List CandidateData) → rank ≤ 16 → by_rank rank (17 - rank) among ≡ filter (has_rank rank) among ++ by_rank (rank + 1) (17 - (rank + 1)) among
+rank_step rank among few =
+    let one : 17 - rank ≡ suc (17 - (rank + 1)) = omega arith in
+    rw one refl
+
+pub ranks_room : (confirm : Bool) (rank : ℕ) (list found : List Candidate) → let among = allowed confirm (seen_all found) in seen_all list ++ by_rank rank (17 - rank) among ≡ ordered among
+    → rank ≤ 16 → length found ≤ 256 → length list + length (filter (has_rank rank) among) ≤ 256
+ranks_room confirm rank list found is few most =
+    let among = allowed confirm (seen_all found) in
+    let rest = by_rank (rank + 1) (17 - (rank + 1)) among in
+    let now = filter (has_rank rank) among in
+    let same = ap (λ (xs : List CandidateData). length (seen_all list ++ xs)) (sym (rank_step rank among few)) ∙ ap length is in
+    let one : length (seen_all list ++ (now ++ rest)) ≡ length list + (length now + length rest) =
+    length-append (seen_all list) (now ++ rest) ∙ ap (λ (n : ℕ). n + length (now ++ rest)) (length-map list seen_candidate) ∙ ap (λ (n : ℕ). length list + n) (length-append now rest) in
+    let all = ordered-few confirm (seen_all found) in
+    let seen = length-map found seen_candidate in
+    omega (arith, same, one, all, seen)
+
+pub all_few : (confirm : Bool) (list found : List Candidate) → seen_all list ≡ candidates confirm (seen_all found) → length list ≤ length found
+unfolding candidates
+all_few confirm list found is =
+    let same = sym (length-map list seen_candidate) ∙ ap length is in
+    let all = ordered-few confirm (seen_all found) in
+    let seen = length-map found seen_candidate in
+    omega (arith, same, all, seen)
+
+pub rank_end : (rank : ℕ) (among : List CandidateData) → 17 ≤ rank → by_rank rank (17 - rank) among ≡ []
+rank_end rank among over =
+    let none : 17 - rank ≡ 0 = omega arith in
+    rw none refl
+
+pub all_ranked : (confirm : Bool) (rank : ℕ) (list found : List Candidate) → let among = allowed confirm (seen_all found) in seen_all list ++ by_rank rank (17 - rank) among ≡ ordered among
+    → 16 < rank → seen_all list ≡ candidates confirm (seen_all found)
+unfolding candidates
+all_ranked confirm rank list found is over =
+    let above : 17 ≤ rank = omega arith in
+    sym (append-nil (seen_all list)) ∙ ap (λ (xs : List CandidateData). seen_all list ++ xs) (sym (rank_end rank (allowed confirm (seen_all found)) above)) ∙ is

@@ -1,0 +1,12 @@
+pub mod Fci
+pub mod Said
+pub mod Candidates
+pub mod Listed
+pub mod Selecting
+pub mod Chosen
+pub mod Leading
+pub mod NextLeads
+pub mod SeenSaid
+pub mod SeenCandidate
+pub mod SeenState
+pub mod Laws

@@ -1,0 +1,31 @@
+//! What the definitions of the candidates say in other words.
+ghost use Rattle.std.specs.Prelude.{◌≡◌, ◌≤◌, ◌<◌, ◌+◌, ℕ, List, Option, length, filter};
+ghost use Rattle.std.specs.List.{AllByRecursion, list_any};
+ghost use Rattle.app_select.specs.Candidates.{CandidateData, firsts, has_name, has_rank, ordered, rank_of};
+ghost use Rattle.app_select.specs.Listed.{listed};
+ghost use Rattle.app_select.specs.Laws.{HasDistinctNames, IsRising};
+ghost use Rattle.emv_dict.specs.declared.purchase.AidRow.{AidRow};
+
+/// The numbers that the list's answers get: no occurrence of an AID is the seventeenth, and no answer is
+/// lost.
+pub fn answers_are_numbered()
+    ensures occurrences { (rows : List AidRow) (answers : List (List ℕ)) → AllByRecursion (λ answer. answer.turn < 16) (listed rows 0 answers).answers }
+    ensures all { (rows : List AidRow) (answers : List (List ℕ))
+        → length (listed rows 0 answers).answers + length (listed rows 0 answers).rest ≡ length answers }
+{}
+
+/// Candidates stand in the order of their ranks, and those of one rank as they were found: none is lost,
+/// and none added.
+pub fn order_is_stable()
+    ensures least { (priority : Option ℕ) → 1 ≤ rank_of priority }
+    ensures most { (priority : Option ℕ) → rank_of priority ≤ 16 }
+    ensures rising { (candidates : List CandidateData) → IsRising (ordered candidates) }
+    ensures stable { (candidates : List CandidateData) (rank : ℕ) → 1 ≤ rank → rank ≤ 16
+        → filter (has_rank rank) (ordered candidates) ≡ filter (has_rank rank) candidates }
+{}
+
+/// The first of each name: no name stands twice, and each one that was found stands there.
+pub fn names_stand_once()
+    ensures distinct { (found : List CandidateData) → HasDistinctNames (firsts found) }
+    ensures there { (found : List CandidateData) (name : List ℕ) → list_any (has_name name) (firsts found) ≡ list_any (has_name name) found }
+{}

@@ -1,0 +1,18 @@
+//! Application selection, a step of a terminal (EMV 4.3 Book 1 section 12): by a list of AIDs, with
+//! partial names, priorities and confirmation, and back to the next candidate where one is refused.
+#![tactic(auto)]
+
+pub mod candidates;
+mod course;
+pub mod fci;
+pub mod laws;
+pub mod search;
+pub mod selecting;
+
+pub use candidates::Candidates;
+pub use laws::{answers_are_numbered, names_stand_once, order_is_stable};
+pub use search::{Choice, Search, SearchNext};
+pub use selecting::{SelectNext, Selected, Selecting, steps_give_chosen};
+
+#[cfg(test)]
+mod tests;

@@ -1,0 +1,259 @@
+//! What an answer to SELECT changes.
+ghost use Rattle.std.specs.Prelude.{◌≡◌, ◌≤◌, ◌<◌, ◌+◌, ◌-◌, ◌*◌, ◌∷◌, ◌++◌, ◌==◌, ℕ, [], List, Bool, length, option_map, true, if◌then◌else◌};
+ghost use Rattle.std.specs.Option.{option_to_list};
+ghost use Rattle.std.specs.List.{All};
+ghost use Rattle.emv_dict.specs.Settings.{IsAidRow};
+ghost use Rattle.emv_dict.specs.Progress.{Progress, Wants, Leads};
+ghost use Rattle.app_select.specs.Candidates.{CandidateData};
+ghost use Rattle.app_select.specs.Fci.{FciData, IsShort};
+ghost use Rattle.app_select.specs.Leading.{Listed, rest_with, answers_left, HasRoom};
+ghost use Rattle.app_select.specs.Listed.{found_by, goes_on, most_occurrences};
+ghost use Rattle.app_select.specs.NextLeads.{SearchNextLeads, NextHasRoom, answers_left_next};
+ghost use Rattle.app_select.specs.Said.{Named, select_said, select_command, is_longer, is_supported};
+ghost use Rattle.app_select.specs.SeenCandidate.{seen_candidate};
+ghost use Rattle.app_select.specs.SeenSaid.{seen_fci};
+ghost use Rattle.app_select.specs.SeenState.{seen_asked, seen_course};
+ghost use Rattle.app_select.specs.Selecting.{SelectedData, listing, opening};
+
+use super::{Asked, Choice, Pdol, Search, SearchNext};
+use crate::candidates::{Candidate, Candidates};
+use crate::course::{Course, Row};
+use crate::fci::{Fci, Said, read_select};
+use apdu_core::{Command, Out, write_command};
+use emv_dict::{AidRow, Cause, Name};
+
+/// An AID is selected at most so often.
+const MOST_OCCURRENCES: u8 = 16;
+
+/// P2 of SELECT: the first application whose name begins with the given bytes.
+const FIRST_OCCURRENCE: u8 = 0x00;
+
+/// P2 of SELECT: the next such application.
+const NEXT_OCCURRENCE: u8 = 0x02;
+
+/// Writes the SELECT that is to be answered.
+#[tactic(auto, unfolding(crate::specs::Selecting::listing))]
+pub(super) fn write_asked(asked: &Asked<'_>, out: &mut Out)
+    ensures { (candidates : List CandidateData) → rest_with (seen_asked asked.now) candidates [] ≡ Wants out.new.items }
+{
+    match asked {
+        Asked::Listed(course) => write_select(&course.row.row.name, occurrence(course.turn), out),
+        Asked::Final(candidate) => write_select(&candidate.name, FIRST_OCCURRENCE, out),
+    }
+}
+
+/// P2 of the SELECT of this number.
+fn occurrence(turn: u8) -> u8
+    ensures { result ≡ (if turn == 0 then 0 else 2) }
+{
+    if turn == 0 {
+        FIRST_OCCURRENCE
+    } else {
+        NEXT_OCCURRENCE
+    }
+}
+
+fn write_select(name: &Name, occurrence: u8, out: &mut Out)
+    ensures { out.new.items ≡ select_command occurrence name.now }
+{
+    let command = Command {
+        class: 0x00,
+        ins: 0xa4,
+        p1: 0x04,
+        p2: occurrence,
+        body: name.as_slice(),
+        expects: Some(0),
+    };
+    write_command(&command, out);
+}
+
+/// Takes an answer to a SELECT of the list.
+pub(super) fn listed<'s>(
+    course: Course<'s>,
+    candidates: &mut Candidates<'s>,
+    reply: &[u8],
+) -> SearchNext<'s>
+    requires turn { course.turn < most_occurrences }
+    requires room { HasRoom (seen_course course) candidates.old }
+    ensures leads { (whole : List (List ℕ) → Progress SelectedData) (answers : List (List ℕ))
+        → Leads whole answers (rest_with (seen_course course.entry) candidates.old)
+        → SearchNextLeads candidates.new whole (answers ++ reply.now ∷ []) result }
+    ensures room { NextHasRoom result candidates.new }
+    ensures nearer { answers_left_next result candidates.new < answers_left (seen_course course.entry) candidates.old }
+{
+    match read_select(reply) {
+        Said::Unreadable => SearchNext::Ended(Cause::Answer),
+        Said::Blocked => SearchNext::Ended(Cause::CardBlocked),
+        Said::Named { valid, fci } => named(course, valid, &fci, candidates),
+        Said::Nothing => next_row(course.later, course.confirm, candidates),
+    }
+}
+
+/// Takes a readable FCI of the list.
+fn named<'s>(
+    course: Course<'s>,
+    valid: bool,
+    fci: &Fci<'_>,
+    candidates: &mut Candidates<'s>,
+) -> SearchNext<'s>
+    requires turn { course.turn < most_occurrences }
+    requires room { HasRoom (seen_course course) candidates.old }
+    ensures leads { (whole : List (List ℕ) → Progress SelectedData) (answers : List (List ℕ)) (reply : List ℕ)
+        → select_said reply ≡ Named valid (seen_fci fci.now)
+        → Leads whole answers (rest_with (seen_course course.entry) candidates.old)
+        → SearchNextLeads candidates.new whole (answers ++ reply ∷ []) result }
+    ensures room { NextHasRoom result candidates.new }
+    ensures nearer { answers_left_next result candidates.new < answers_left (seen_course course.entry) candidates.old }
+{
+    add(course.row, valid, fci, candidates);
+    if goes_on(course.row.row, course.turn, &fci.name) {
+        SearchNext::Ask(Search {
+            asked: Asked::Listed(Course {
+                row: course.row,
+                later: course.later,
+                turn: course.turn + 1,
+                confirm: course.confirm,
+            }),
+        })
+    } else {
+        next_row(course.later, course.confirm, candidates)
+    }
+}
+
+/// Adds the application that a readable FCI gives, where it is valid and the terminal supports it.
+fn add<'s>(row: Row<'s>, valid: bool, fci: &Fci<'_>, candidates: &mut Candidates<'s>)
+    requires { length candidates.old < 256 }
+    ensures found { candidates.new ≡ candidates.old ++ option_to_list (found_by row.entry.row.now (Named valid (seen_fci fci.now))) }
+    ensures few { length candidates.new ≤ length candidates.old + 1 }
+{
+    if valid && is_supported(row.row, &fci.name) {
+        candidates.push(Candidate {
+            row,
+            name: fci.name.copy(),
+            priority: fci.priority,
+        });
+    }
+}
+
+/// Whether a terminal that knows a row supports an application of this name.
+fn is_supported(row: &AidRow, name: &Name) -> bool
+    ensures { result ≡ is_supported row.now.name row.now.partial name.now }
+{
+    *name == row.name || row.partial && is_longer(row, name)
+}
+
+/// Whether a name is longer than the AID and begins with it.
+fn is_longer(row: &AidRow, name: &Name) -> bool
+    ensures { result ≡ is_longer row.now.name name.now }
+{
+    let aid = row.name.as_slice();
+    let name = name.as_slice();
+    aid.len() < name.len() && name.starts_with(aid)
+}
+
+/// Whether the next occurrence of an AID is asked for behind this name.
+fn goes_on(row: &AidRow, turn: u8, name: &Name) -> bool
+    requires { turn < most_occurrences }
+    ensures exact { (valid : Bool) (fci : FciData) → fci.name ≡ name.now → result ≡ goes_on row.now turn (Named valid fci) }
+    ensures few { result ≡ true → turn + 1 < most_occurrences }
+{
+    is_longer(row, name) && turn + 1 < MOST_OCCURRENCES
+}
+
+/// Asks for the first of these rows.
+pub(super) fn first_row<'s>(rows: &'s [AidRow], confirm: bool) -> Search<'s>
+    requires valid { All IsAidRow rows.now }
+    requires some { 1 ≤ length rows.now }
+    ensures { result ≡ Listed rows.entry.now 0 confirm }
+{
+    let [row, later @ ..] = rows else {
+        unreachable!();
+    };
+    Search {
+        asked: Asked::Listed(Course {
+            row: Row { row },
+            later,
+            turn: 0,
+            confirm,
+        }),
+    }
+}
+
+/// Goes on with the next row of the list, or behind the list with the first candidate.
+fn next_row<'s>(
+    later: &'s [AidRow],
+    confirm: bool,
+    candidates: &mut Candidates<'s>,
+) -> SearchNext<'s>
+    requires valid { All IsAidRow later.now }
+    requires room { length candidates.old + most_occurrences * length later.now ≤ 256 }
+    ensures leads { (whole : List (List ℕ) → Progress SelectedData) (answers : List (List ℕ))
+        → Leads whole answers (listing (record { found = candidates.old; rows = later.entry.now; turn = 0; confirm = confirm }))
+        → SearchNextLeads candidates.new whole answers result }
+    ensures room { NextHasRoom result candidates.new }
+    ensures nearer { answers_left_next result candidates.new ≤ 2 * (most_occurrences * length later.entry.now) + length candidates.old }
+{
+    if later.is_empty() {
+        candidates.arrange(confirm);
+        choose(candidates)
+    } else {
+        SearchNext::Ask(first_row(later, confirm))
+    }
+}
+
+/// Goes on with the final SELECT of the first candidate.
+pub(super) fn choose<'s>(candidates: &mut Candidates<'s>) -> SearchNext<'s>
+    ensures leads { (whole : List (List ℕ) → Progress SelectedData) (answers : List (List ℕ))
+        → Leads whole answers (opening candidates.old) → SearchNextLeads candidates.new whole answers result }
+    ensures room { NextHasRoom result candidates.new }
+    ensures nearer { answers_left_next result candidates.new ≤ length candidates.old }
+{
+    match candidates.pop_front() {
+        None => SearchNext::Ended(Cause::NoCandidate),
+        Some(candidate) => SearchNext::Ask(Search {
+            asked: Asked::Final(candidate),
+        }),
+    }
+}
+
+/// Takes the answer to the final SELECT of a candidate.
+pub(super) fn opened<'s>(
+    candidate: Candidate<'s>,
+    candidates: &mut Candidates<'s>,
+    reply: &[u8],
+) -> SearchNext<'s>
+    ensures leads { (whole : List (List ℕ) → Progress SelectedData) (answers : List (List ℕ))
+        → Leads whole answers (opening (seen_candidate candidate.entry ∷ candidates.old))
+        → SearchNextLeads candidates.new whole (answers ++ reply.now ∷ []) result }
+    ensures room { NextHasRoom result candidates.new }
+    ensures nearer { answers_left_next result candidates.new ≤ length candidates.old }
+{
+    match read_select(reply) {
+        Said::Unreadable => SearchNext::Ended(Cause::Answer),
+        Said::Blocked => choose(candidates),
+        Said::Named { valid, fci } => {
+            if valid {
+                SearchNext::Chosen(Choice {
+                    row: candidate.row,
+                    pdol: copied(fci.pdol),
+                })
+            } else {
+                choose(candidates)
+            }
+        }
+        Said::Nothing => choose(candidates),
+    }
+}
+
+/// An object list in a buffer of its own.
+fn copied(pdol: Option<&[u8]>) -> Option<Pdol>
+    requires { IsShort (option_map (λ list. list.now) pdol) }
+    ensures { option_map (λ list. list.items) result ≡ option_map (λ list. list.now) pdol.entry }
+{
+    let bytes = pdol?;
+    let mut list = Pdol::new();
+    match list.try_extend_from_slice(bytes) {
+        Ok(()) => Some(list),
+        Err(_) => unreachable!(),
+    }
+}

@@ -1,0 +1,146 @@
+-- Each message that is written is read back with the same fields.
+use Rattle.std.proofs.Common.{◌≡◌, ℕ, true, false, ◌&&◌, IfSome, ◌≤◌, nat_le, List, [], ◌∷◌, ◌++◌, length, Option, Some, None, Ok, refl, sym, ap, ◌∙◌, arith, append-nil, ◌==◌}
+use Rattle.std.proofs.lemmas.Bool.{le-leb}
+use Rattle.emv_dict.specs.Pan.{pan_of, pan_field}
+use Rattle.auth_message.specs.declared.message.Incoming.TheVariants.{Request, Present, Reverse}
+use Rattle.auth_message.specs.declared.reversal.ReversalFields.{ReversalFields}
+use Rattle.auth_message.specs.Accepted.{AreDigits, IsRequest, IsPresent, IsReversal}
+use Rattle.auth_message.specs.Data.{RequestData, PresentData}
+use Rattle.auth_message.specs.Fields.{◌>>=◌, fixed_if_there}
+use Rattle.auth_message.specs.Message.{message_of, message_in}
+use Rattle.auth_message.specs.Messages.{request_at, present_at, reversal_at}
+use Rattle.auth_message.specs.Spelling.{optional, paid_fields, request_fields, request_named, request_paid, request_bytes, present_named, present_paid, reversal_named, spelled, present_fields, present_bytes, reversal_fields, reversal_bytes}
+use Rattle.auth_message.proofs.Spelled.{placed, are_tags, fields_read, front_length, optional_front, optional_last}
+use Rattle.auth_message.proofs.ReadBack.{IsOther, IsNamed, IsPaid, IsOptional, next_place, named_again, paid_again, fixed_again, some_again, optional_again, any_bytes, digit_bytes}
+
+-- the lengths that the types of a message's fields fix
+abbrev pub RequestSizes : RequestData → Type 0
+RequestSizes f = (length f.t9f1c ≡ 8) × IfSome f.t5f34 (λ v. length v ≡ 1) × (length f.t5f24 ≡ 3) × (length f.t9f02 ≡ 6) × (length f.t9f03 ≡ 6) × (length f.t9f1a ≡ 2) × (length f.t95 ≡ 5) × (length f.t5f2a ≡ 2) × (length f.t9a ≡ 3) × (length f.t9c ≡ 1) × (length f.t9f37 ≡ 4) × (length f.t82 ≡ 2) × (length f.t9f36 ≡ 2) × (length f.t9f26 ≡ 8) × IfSome f.tdf11 (λ v. length v ≡ 8)
+
+abbrev pub PresentSizes : PresentData → Type 0
+PresentSizes f = (length f.t9f1c ≡ 8) × IfSome f.t5f34 (λ v. length v ≡ 1) × (length f.t9f02 ≡ 6) × (length f.t9f03 ≡ 6) × (length f.t9f1a ≡ 2) × (length f.t95 ≡ 5) × (length f.t5f2a ≡ 2) × (length f.t9a ≡ 3) × (length f.t9c ≡ 1) × (length f.t9f37 ≡ 4) × (length f.t82 ≡ 2) × (length f.t9f36 ≡ 2) × (length f.t9f26 ≡ 8) × (length f.t8a ≡ 2)
+
+abbrev pub ReversalSizes : ReversalFields → Type 0
+ReversalSizes f = (length f.t9f1c ≡ 8) × IfSome f.t5f34 (λ v. length v ≡ 1) × (length f.t9f36 ≡ 2) × (length f.t9f02 ≡ 6) × (length f.t5f2a ≡ 2) × (length f.t8a ≡ 2)
+
+sequence : (value : Option (List ℕ)) → IfSome value (λ v. length v ≡ 1) → IfSome value AreDigits → IsOptional 1 true value
+sequence None size digits = tt
+sequence (Some value) size digits = digit_bytes 1 value size digits
+
+block : (value : Option (List ℕ)) → IfSome value (λ v. length v ≡ 8) → IsOptional 8 false value
+block None size = tt
+block (Some value) size = any_bytes 8 value size
+
+at_most : (value : List ℕ) (most : ℕ) → length value ≤ most → (nat_le 0 (length value) && nat_le (length value) most) ≡ true
+at_most value most small = rw (le-leb 0 (length value) (omega arith), le-leb (length value) most small) refl
+
+request_tags : (f : RequestData) → are_tags (request_fields f) ≡ true
+request_tags f = optional_front 0x5F34 f.t5f34 _ refl (optional_last 0xDF11 f.tdf11 refl)
+
+present_tags : (f : PresentData) → are_tags (present_fields f) ≡ true
+present_tags f = optional_front 0x5F34 f.t5f34 _ refl refl
+
+reversal_tags : (f : ReversalFields) → are_tags (reversal_fields f) ≡ true
+reversal_tags f = optional_front 0x5F34 f.t5f34 _ refl refl
+
+-- a field with another tag comes first
+headed : (tag other : ℕ) (value : List ℕ) (rest : List (ℕ × List ℕ)) → (other == tag) ≡ false → IsOther tag ((other, value) ∷ rest)
+headed tag other value rest differs = record { absent = λ place. rw differs refl; left = λ place. rw differs refl }
+
+bare : (tag : ℕ) → IsOther tag []
+bare tag = record { absent = λ place. refl; left = λ place. refl }
+
+block_again : (place : ℕ) (value : Option (List ℕ)) → IsOptional 8 false value → (next : ℕ) × (fixed_if_there 8 false 0xDF11 (placed place (optional 0xDF11 value)) ≡ Ok (value, placed next []))
+block_again place value is =
+    let again = optional_again 8 false 0xDF11 place value [] is (bare 0xDF11) in
+    (again.0, ap (λ l. fixed_if_there 8 false 0xDF11 (placed place l)) (sym (append-nil (optional 0xDF11 value))) ∙ again.1)
+
+request_read : (place : ℕ) (f : RequestData) → IsRequest f → pan_of (pan_field f.pan) ≡ Ok f.pan → RequestSizes f → request_at (placed place (request_fields f)) ≡ Ok f
+unfolding request_at
+request_read place f is account sizes =
+    let named_is : IsNamed (request_named f) = record { terminal = sizes.0; account = account; sequence = sequence f.t5f34 sizes.1 is.sequence_number } in
+    let paid_is : IsPaid (request_paid f) = record {
+      t9f02 = digit_bytes 6 f.t9f02 sizes.3 is.amount;
+      t9f03 = digit_bytes 6 f.t9f03 sizes.4 is.other_amount;
+      t9f1a = any_bytes 2 f.t9f1a sizes.5;
+      t95 = any_bytes 5 f.t95 sizes.6;
+      t5f2a = digit_bytes 2 f.t5f2a sizes.7 is.currency;
+      t9a = digit_bytes 3 f.t9a sizes.8 is.date;
+      t9c = any_bytes 1 f.t9c sizes.9;
+      t9f37 = any_bytes 4 f.t9f37 sizes.10;
+      t82 = any_bytes 2 f.t82 sizes.11;
+      t9f36 = any_bytes 2 f.t9f36 sizes.12;
+      t9f26 = any_bytes 8 f.t9f26 sizes.13;
+    } in
+    let last : List (ℕ × List ℕ) = (0x9F10, f.t9f10) ∷ optional 0xDF11 f.tdf11 in
+    let middle : List (ℕ × List ℕ) = (0x5F24, f.t5f24) ∷ (paid_fields (request_paid f) ++ last) in
+    let named = named_again place (request_named f) middle named_is (headed 0x5F34 0x5F24 f.t5f24 (paid_fields (request_paid f) ++ last) refl) in
+    let expiry = fixed_again 3 true 0x5F24 named.0 f.t5f24 (paid_fields (request_paid f) ++ last) (digit_bytes 3 f.t5f24 sizes.2 is.expiry) in
+    let paid = paid_again (next_place named.0 0x5F24 f.t5f24) (request_paid f) last paid_is in
+    let issuer = some_again 0 32 0x9F10 paid.0 f.t9f10 (optional 0xDF11 f.tdf11) (at_most f.t9f10 32 is.issuer_data) in
+    let pin = block_again (next_place paid.0 0x9F10 f.t9f10) f.tdf11 (block f.tdf11 sizes.14) in
+    rw (named.1, expiry, paid.1, issuer, pin.1) refl
+
+present_read : (place : ℕ) (f : PresentData) → IsPresent f → pan_of (pan_field f.pan) ≡ Ok f.pan → PresentSizes f → present_at (placed place (present_fields f)) ≡ Ok f
+unfolding present_at
+present_read place f is account sizes =
+    let named_is : IsNamed (present_named f) = record { terminal = sizes.0; account = account; sequence = sequence f.t5f34 sizes.1 is.sequence_number } in
+    let paid_is : IsPaid (present_paid f) = record {
+      t9f02 = digit_bytes 6 f.t9f02 sizes.2 is.amount;
+      t9f03 = digit_bytes 6 f.t9f03 sizes.3 is.other_amount;
+      t9f1a = any_bytes 2 f.t9f1a sizes.4;
+      t95 = any_bytes 5 f.t95 sizes.5;
+      t5f2a = digit_bytes 2 f.t5f2a sizes.6 is.currency;
+      t9a = digit_bytes 3 f.t9a sizes.7 is.date;
+      t9c = any_bytes 1 f.t9c sizes.8;
+      t9f37 = any_bytes 4 f.t9f37 sizes.9;
+      t82 = any_bytes 2 f.t82 sizes.10;
+      t9f36 = any_bytes 2 f.t9f36 sizes.11;
+      t9f26 = any_bytes 8 f.t9f26 sizes.12;
+    } in
+    let last : List (ℕ × List ℕ) = (0x9F10, f.t9f10) ∷ (0x8A, f.t8a) ∷ [] in
+    let named = named_again place (present_named f) (paid_fields (present_paid f) ++ last) named_is (headed 0x5F34 0x9F02 f.t9f02 _ refl) in
+    let paid = paid_again named.0 (present_paid f) last paid_is in
+    let issuer = some_again 0 32 0x9F10 paid.0 f.t9f10 ((0x8A, f.t8a) ∷ []) (at_most f.t9f10 32 is.issuer_data) in
+    let code = fixed_again 2 false 0x8A (next_place paid.0 0x9F10 f.t9f10) f.t8a [] (any_bytes 2 f.t8a sizes.13) in
+    rw (named.1, paid.1, issuer, code) refl
+
+reversal_read : (place : ℕ) (f : ReversalFields) → IsReversal f → pan_of (pan_field f.pan) ≡ Ok f.pan → ReversalSizes f → reversal_at (placed place (reversal_fields f)) ≡ Ok f
+unfolding reversal_at
+reversal_read place f is account sizes =
+    let named_is : IsNamed (reversal_named f) = record { terminal = sizes.0; account = account; sequence = sequence f.t5f34 sizes.1 is.sequence_number } in
+    let fourth : List (ℕ × List ℕ) = (0x8A, f.t8a) ∷ [] in
+    let third : List (ℕ × List ℕ) = (0x5F2A, f.t5f2a) ∷ fourth in
+    let second : List (ℕ × List ℕ) = (0x9F02, f.t9f02) ∷ third in
+    let named = named_again place (reversal_named f) ((0x9F36, f.t9f36) ∷ second) named_is (headed 0x5F34 0x9F36 f.t9f36 second refl) in
+    let counter = fixed_again 2 false 0x9F36 named.0 f.t9f36 second (any_bytes 2 f.t9f36 sizes.2) in
+    let behind_counter = next_place named.0 0x9F36 f.t9f36 in
+    let amount = fixed_again 6 true 0x9F02 behind_counter f.t9f02 third (digit_bytes 6 f.t9f02 sizes.3 is.amount) in
+    let behind_amount = next_place behind_counter 0x9F02 f.t9f02 in
+    let currency = fixed_again 2 true 0x5F2A behind_amount f.t5f2a fourth (digit_bytes 2 f.t5f2a sizes.4 is.currency) in
+    let code = fixed_again 2 false 0x8A (next_place behind_amount 0x5F2A f.t5f2a) f.t8a [] (any_bytes 2 f.t8a sizes.5) in
+    rw (named.1, counter, amount, currency, code) refl
+
+known : List ℕ
+known = 0xE1 ∷ 0xE3 ∷ 0xE4 ∷ []
+
+pub request_again : (f : RequestData) → IsRequest f → pan_of (pan_field f.pan) ≡ Ok f.pan → RequestSizes f → message_of (request_bytes f) ≡ Ok (Request f)
+unfolding request_bytes known
+request_again f is account sizes =
+    let place = front_length 0xE1 (spelled (request_fields f)) in
+    let outer = fields_read known 0xE1 (request_fields f) refl refl (request_tags f) in
+    ap (λ r. r >>= message_in) outer ∙ ap (λ r. r >>= λ fields. Ok (Request fields)) (request_read place f is account sizes)
+
+pub present_again : (f : PresentData) → IsPresent f → pan_of (pan_field f.pan) ≡ Ok f.pan → PresentSizes f → message_of (present_bytes f) ≡ Ok (Present f)
+unfolding present_bytes known
+present_again f is account sizes =
+    let place = front_length 0xE3 (spelled (present_fields f)) in
+    let outer = fields_read known 0xE3 (present_fields f) refl refl (present_tags f) in
+    ap (λ r. r >>= message_in) outer ∙ ap (λ r. r >>= λ fields. Ok (Present fields)) (present_read place f is account sizes)
+
+pub reversal_again : (f : ReversalFields) → IsReversal f → pan_of (pan_field f.pan) ≡ Ok f.pan → ReversalSizes f → message_of (reversal_bytes f) ≡ Ok (Reverse f)
+unfolding reversal_bytes known
+reversal_again f is account sizes =
+    let place = front_length 0xE4 (spelled (reversal_fields f)) in
+    let outer = fields_read known 0xE4 (reversal_fields f) refl refl (reversal_tags f) in
+    ap (λ r. r >>= message_in) outer ∙ ap (λ r. r >>= λ fields. Ok (Reverse fields)) (reversal_read place f is account sizes)

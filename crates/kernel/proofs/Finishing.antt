@@ -1,0 +1,102 @@
+-- The end of a kernel's dialogue.
+use Rattle.std.proofs.Common.{◌≡◌, refl, sym, ap, ◌∙◌, List, [], ◌++◌, Some, None}
+use Rattle.std.proofs.lemmas.List.{append-nil}
+use Rattle.std.specs.declared.option.Option.{Option}
+use Rattle.emv_dict.specs.declared.ending.Ending.{Ending}
+use Rattle.emv_dict.specs.declared.purchase.Logged.{Logged}
+use Rattle.env_map.specs.Entries.{Entries}
+use Rattle.object_lists.specs.CardRead.{ReadCard}
+use Rattle.kernel.specs.Course.{Standing, stands}
+use Rattle.kernel.specs.Dialogue.{Trade, dialogue}
+use Rattle.kernel.specs.Ended.{end_with, end_of}
+use Rattle.kernel.specs.Kernel.{KernelData, KernelFits, StageFits, KernelStands, StageGoes, deal_in}
+use Rattle.kernel.specs.Marks.{Mark, MomentData, moment, latest, card_of}
+use Rattle.kernel.specs.Reply.{Reply, Deed, Over}
+use Rattle.kernel.specs.Stages.{OpeningStands, TradingStands}
+use Rattle.kernel.specs.Shown.{opening_over, trading_over, stage_over}
+use Rattle.kernel.specs.Terminal.{Deal}
+use Rattle.kernel.specs.declared.stage.Opening.{Opening}
+use Rattle.kernel.specs.declared.stage.Opening.TheVariants as opening
+use Rattle.kernel.specs.declared.stage.Stage.{Stage}
+use Rattle.kernel.specs.declared.stage.Stage.TheVariants as stage
+use Rattle.kernel.specs.declared.stage.Trading.{Trading}
+use Rattle.kernel.specs.declared.stage.Trading.TheVariants as trading
+use Rattle.kernel.specs.declared.table.Table.{Table}
+use Rattle.kernel.proofs.Showing.{opening_deed, trading_deed, opening_shows, trading_shows}
+
+-- a stage that is over does nothing else
+opening_ends : (t : Table) → (s : Opening) → (ending : Ending) → opening_over s ≡ Some ending → opening_deed t s ≡ Over ending
+opening_ends t (opening.Select s) ending is = cc
+opening_ends t (opening.Initiate s) ending is = cc
+opening_ends t (opening.Read s) ending is = cc
+opening_ends t (opening.Over at) ending is = cc
+
+trading_ends : (t : Table) → (s : Trading) → (ending : Ending) → trading_over s ≡ Some ending → trading_deed t s ≡ Over ending
+trading_ends t (trading.Verify v) ending is = cc
+trading_ends t (trading.Risk j) ending is = cc
+trading_ends t (trading.First asked) ending is = cc
+trading_ends t trading.Online ending is = cc
+trading_ends t trading.Authenticate ending is = cc
+trading_ends t (trading.ScriptBefore s) ending is = cc
+trading_ends t (trading.Second s) ending is = cc
+trading_ends t (trading.ScriptBehind s at) ending is = cc
+trading_ends t (trading.Over at) ending is = cc
+
+-- a stage that is over, behind these marks
+record EndsAt (k : KernelData) (ending : Ending) (standing : Standing Mark) : Type 0 where
+  marks : List Mark
+  is : standing ≡ stands marks (Over ending)
+  read : latest card_of None marks ≡ k.card
+  tied : k.table.moment ≡ moment marks
+
+stage_ends_at : (k : KernelData) → (s : Stage) → (log : List Logged) → (rest : List Reply → Standing Mark) → (ending : Ending) → StageFits k.table k.objects k.card s → StageGoes k.table k.objects k.card s log rest → stage_over s ≡ Some ending → EndsAt k ending (rest [])
+stage_ends_at k (stage.Opening s) log rest ending fits goes over = record {
+  marks = [];
+  is = opening_shows k.table k.objects s log rest goes ∙ ap (λ (deed : Deed). stands [] deed) (opening_ends k.table s ending over);
+  read = sym fits.1;
+  tied = goes.tied;
+}
+stage_ends_at k (stage.Trading at) log rest ending fits goes over = record {
+  marks = goes.stands.marks;
+  is = trading_shows k.table (record { deal = deal_in k; row = at.row.now; card = goes.card }) at.trading log rest goes.stands
+      ∙ ap (λ (deed : Deed). stands goes.stands.marks deed) (trading_ends k.table at.trading ending over);
+  read = goes.stands.read ∙ sym goes.card_is;
+  tied = goes.stands.tied;
+}
+
+ends_with : (deal : Deal) → (standing : Standing Mark) → (marks : List Mark) → (ending : Ending) → (card : Option ReadCard) → (held : MomentData) → standing ≡ stands marks (Over ending)
+    → latest card_of None marks ≡ card → held ≡ moment marks → end_of deal standing ≡ Some (end_with deal ending card held)
+ends_with deal standing marks ending card held is read tied = rw (is, read, tied) refl
+
+pub kernel_ends : (k : KernelData) → (replies : List Reply) → (ending : Ending) → KernelFits k → KernelStands k replies → stage_over k.stage ≡ Some ending
+    → end_of (deal_in k) (dialogue (deal_in k) replies) ≡ Some (end_with (deal_in k) ending k.card k.table.moment)
+kernel_ends k replies ending fits is over =
+    let at = stage_ends_at k k.stage is.log (λ later. dialogue (deal_in k) (replies ++ later)) ending fits.stage is.goes over in
+    ends_with (deal_in k) (dialogue (deal_in k) replies) at.marks ending k.card k.table.moment (ap (λ (all : List Reply). dialogue (deal_in k) all) (sym (append-nil replies)) ∙ at.is) at.read at.tied
+
+-- a stage that is over takes nothing from further replies
+opening_stays : (t : Table) → (objects : Entries) → (s : Opening) → (log : List Logged) → (rest : List Reply → Standing Mark) → (ending : Ending) → OpeningStands t objects s log rest → opening_over s ≡ Some ending → (later : List Reply) → rest later ≡ rest []
+opening_stays t objects (opening.Select s) log rest ending stands over later = cc
+opening_stays t objects (opening.Initiate s) log rest ending stands over later = cc
+opening_stays t objects (opening.Read s) log rest ending stands over later = cc
+opening_stays t objects (opening.Over at) log rest ending stands over later = stands.passed later ∙ sym (stands.passed [])
+
+trading_stays : (t : Table) → (trade : Trade) → (s : Trading) → (log : List Logged) → (rest : List Reply → Standing Mark) → (ending : Ending) → TradingStands t trade s log rest → trading_over s ≡ Some ending → (later : List Reply) → rest later ≡ rest []
+trading_stays t trade (trading.Verify v) log rest ending stands over later = cc
+trading_stays t trade (trading.Risk j) log rest ending stands over later = cc
+trading_stays t trade (trading.First asked) log rest ending stands over later = cc
+trading_stays t trade trading.Online log rest ending stands over later = cc
+trading_stays t trade trading.Authenticate log rest ending stands over later = cc
+trading_stays t trade (trading.ScriptBefore s) log rest ending stands over later = cc
+trading_stays t trade (trading.Second s) log rest ending stands over later = cc
+trading_stays t trade (trading.ScriptBehind s at) log rest ending stands over later = cc
+trading_stays t trade (trading.Over at) log rest ending stands over later = stands.passed later ∙ sym (stands.passed [])
+
+stage_stays : (k : KernelData) → (s : Stage) → (log : List Logged) → (rest : List Reply → Standing Mark) → (ending : Ending) → StageGoes k.table k.objects k.card s log rest → stage_over s ≡ Some ending → (later : List Reply) → rest later ≡ rest []
+stage_stays k (stage.Opening s) log rest ending goes over later = opening_stays k.table k.objects s log rest ending goes over later
+stage_stays k (stage.Trading at) log rest ending goes over later = trading_stays k.table (record { deal = deal_in k; row = at.row.now; card = goes.card }) at.trading log rest ending goes.stands over later
+
+pub kernel_stays : (k : KernelData) → (replies more : List Reply) → (ending : Ending) → KernelStands k replies → stage_over k.stage ≡ Some ending → dialogue (deal_in k) (replies ++ more) ≡ dialogue (deal_in k) replies
+kernel_stays k replies more ending is over =
+    stage_stays k k.stage is.log (λ later. dialogue (deal_in k) (replies ++ later)) ending is.goes over more
+    ∙ ap (λ (all : List Reply). dialogue (deal_in k) all) (append-nil replies)

@@ -1,0 +1,13 @@
+pub mod Courses
+pub mod Left
+pub mod Putting
+pub mod Following
+pub mod Analysis
+pub mod Taking
+pub mod NextOf
+pub mod Showing
+pub mod Opened
+pub mod Finishing
+mod Deciding
+mod Requested
+mod Scripting

@@ -1,0 +1,116 @@
+-- The terminal's objects are those that a request needs.
+use Rattle.std.proofs.Common.{◌≡◌, ℕ, zero, suc, ◌+◌, ◌*◌, ◌/◌, ◌%◌, ◌<◌, ◌≤◌, ◌==◌, ◌&&◌, nat_le, Bool, true, false, List, [], ◌∷◌, ◌++◌, length, IsTrue, IsSome, refl, ap, sym, ◌∙◌, arith, Option, Some, None, length-append}
+use Rattle.std.proofs.lemmas.Bool.Decides.{nat_tests}
+use Rattle.std.proofs.lemmas.List.Folds.{list_all-append}
+use Rattle.std.specs.List.{list_all}
+use Rattle.auth_message.specs.Accepted.{AreDigits}
+use Rattle.emv_dict.specs.Bcd.{has_digits, two_digits, numeric}
+use Rattle.emv_dict.specs.Flags.{tvr_bytes}
+use Rattle.emv_dict.specs.Settings.{IsPurchase}
+use Rattle.emv_dict.specs.declared.purchase.AidRow.{AidRow}
+use Rattle.online_step.proofs.Digits.{code_digits, date_digits}
+use Rattle.online_step.specs.TerminalData.{object, HasTerminalData}
+use Rattle.kernel.specs.Marks.{MomentData}
+use Rattle.kernel.specs.Terminal.{Deal, if_there, lasting_objects, terminal_objects}
+
+pub two_digits-good : (n : ℕ) → n < 100 → has_digits (two_digits n) ≡ true
+two_digits-good n small =
+    let high : (n / 10 * 16 + n % 10) / 16 ≡ n / 10 = omega arith in
+    let low : (n / 10 * 16 + n % 10) % 16 ≡ n % 10 = omega arith in
+    let first : n / 10 ≤ 9 = omega arith in
+    let second : n % 10 ≤ 9 = omega arith in
+    rw (high, low) (grind (arith, nat_tests))
+
+numeric-digits : (count n : ℕ) → AreDigits (numeric count n)
+unfolding numeric
+numeric-digits zero n = refl
+numeric-digits (suc count) n =
+    let last : has_digits (two_digits (n % 100)) ≡ true = two_digits-good (n % 100) (omega arith) in
+    list_all-append has_digits (numeric count (n / 100)) (two_digits (n % 100) ∷ []) ∙ rw (numeric-digits count (n / 100), last) refl
+
+numeric-length : (count n : ℕ) → length (numeric count n) ≡ count
+unfolding numeric
+numeric-length zero n = refl
+numeric-length (suc count) n = length-append (numeric count (n / 100)) (two_digits (n % 100) ∷ []) ∙ rw (numeric-length count (n / 100)) (omega arith)
+
+-- the sizes that the types of the fields give
+pub record AreSized (deal : Deal) : Type 0 where
+  pub id : length deal.settings.id ≡ 8
+  pub country : length deal.settings.country ≡ 2
+  pub currency : length deal.purchase.currency ≡ 2
+  pub date : length deal.purchase.date ≡ 3
+  pub number : length deal.purchase.number ≡ 4
+
+lasting : (deal : Deal) → (row : AidRow) → (moment : MomentData) → AreSized deal → IsPurchase deal.purchase → length (tvr_bytes moment.tvr) ≡ 5 → HasTerminalData (lasting_objects deal row moment)
+unfolding lasting_objects
+lasting deal row moment sized is results = record {
+  identification = sized.id;
+  amount = numeric-length 6 deal.purchase.amount;
+  amount_digits = numeric-digits 6 deal.purchase.amount;
+  other_amount = numeric-length 6 deal.purchase.other;
+  other_amount_digits = numeric-digits 6 deal.purchase.other;
+  country = sized.country;
+  verification_results = results;
+  currency = sized.currency;
+  currency_digits = code_digits deal.purchase.currency sized.currency is.currency_code;
+  date = sized.date;
+  date_digits = date_digits deal.purchase.date sized.date is.day;
+  transaction_type = refl;
+  unpredictable_number = sized.number;
+}
+
+-- an object before the others changes none of these
+before : (code issuer : Option (List ℕ)) → (deal : Deal) → (row : AidRow) → (moment : MomentData) → HasTerminalData (lasting_objects deal row moment) → HasTerminalData (if_there 0x8A code ++ if_there 0x91 issuer ++ lasting_objects deal row moment)
+before None None deal row moment has = has
+before None (Some value) deal row moment has = record {
+  identification = has.identification;
+  amount = has.amount;
+  amount_digits = has.amount_digits;
+  other_amount = has.other_amount;
+  other_amount_digits = has.other_amount_digits;
+  country = has.country;
+  verification_results = has.verification_results;
+  currency = has.currency;
+  currency_digits = has.currency_digits;
+  date = has.date;
+  date_digits = has.date_digits;
+  transaction_type = has.transaction_type;
+  unpredictable_number = has.unpredictable_number;
+}
+before (Some code) None deal row moment has = record {
+  identification = has.identification;
+  amount = has.amount;
+  amount_digits = has.amount_digits;
+  other_amount = has.other_amount;
+  other_amount_digits = has.other_amount_digits;
+  country = has.country;
+  verification_results = has.verification_results;
+  currency = has.currency;
+  currency_digits = has.currency_digits;
+  date = has.date;
+  date_digits = has.date_digits;
+  transaction_type = has.transaction_type;
+  unpredictable_number = has.unpredictable_number;
+}
+before (Some code) (Some value) deal row moment has = record {
+  identification = has.identification;
+  amount = has.amount;
+  amount_digits = has.amount_digits;
+  other_amount = has.other_amount;
+  other_amount_digits = has.other_amount_digits;
+  country = has.country;
+  verification_results = has.verification_results;
+  currency = has.currency;
+  currency_digits = has.currency_digits;
+  date = has.date;
+  date_digits = has.date_digits;
+  transaction_type = has.transaction_type;
+  unpredictable_number = has.unpredictable_number;
+}
+
+tvr_bytes-length : (tvr : ℕ) → length (tvr_bytes tvr) ≡ 5
+tvr_bytes-length tvr = refl
+
+pub requested : (deal : Deal) → (row : AidRow) → (moment : MomentData) → AreSized deal → IsPurchase deal.purchase → HasTerminalData (terminal_objects deal row moment)
+unfolding terminal_objects
+requested deal row moment sized is = before moment.code moment.issuer_data deal row moment (lasting deal row moment sized is (tvr_bytes-length moment.tvr))

@@ -1,0 +1,162 @@
+-- What a kernel shows of the dialogue.
+use Rattle.std.proofs.Common.{◌≡◌, refl, sym, ap, ◌∙◌, ℕ, false, true, List, [], ◌∷◌, ◌++◌, drop, Option, Some, None}
+use Rattle.std.proofs.lemmas.List.{append-nil}
+use Rattle.app_select.specs.Leading.{rest_with}
+use Rattle.cvm_list.specs.Waiting.{rest_of as verifying_rest}
+use Rattle.emv_dict.specs.declared.ending.Ending.{Ending}
+use Rattle.emv_dict.specs.declared.ending.Step.TheVariants as step
+use Rattle.emv_dict.specs.declared.purchase.Logged.{Logged}
+use Rattle.env_map.specs.Entries.{Entries}
+use Rattle.object_lists.specs.CardRead.{ReadCard}
+use Rattle.read_records.specs.DataRead.{reading}
+use Rattle.read_records.specs.Options.{initiated}
+use Rattle.risk_mgmt.specs.Asked.{rest_of as judging_rest}
+use Rattle.script_run.specs.Ran.{rest_of as running_rest}
+use Rattle.kernel.specs.Course.{Standing, stands, cut_off, host_step}
+use Rattle.kernel.specs.Dialogue.{Trade, dialogue, left_script}
+use Rattle.kernel.specs.Kernel.{KernelData, KernelFits, StageFits, KernelStands, StageGoes, TradingGoes, deal_in, next_of, stage_next, opening_next, trading_next, told_next, told_bytes, deed_next, deed_bytes, bytes_by}
+use Rattle.kernel.specs.Marks.{Mark, latest, card_of}
+use Rattle.kernel.specs.Reply.{Reply, Deed, ToCard, ToHost, Over}
+use Rattle.kernel.specs.Scripts.{templates}
+use Rattle.kernel.specs.Stages.{OpeningStands, TradingStands, cut_of, generating, authenticating}
+use Rattle.kernel.specs.declared.kernel.Next.{Next}
+use Rattle.kernel.specs.declared.kernel.Next.TheVariants as next
+use Rattle.kernel.specs.declared.stage.Opening.{Opening}
+use Rattle.kernel.specs.declared.stage.Opening.TheVariants as opening
+use Rattle.kernel.specs.declared.stage.Stage.{Stage}
+use Rattle.kernel.specs.declared.stage.Stage.TheVariants as stage
+use Rattle.kernel.specs.declared.stage.Trading.{Trading}
+use Rattle.kernel.specs.declared.stage.Trading.TheVariants as trading
+use Rattle.kernel.specs.declared.table.Table.{Table}
+use Rattle.kernel.proofs.Courses.{wants}
+
+-- what a stage does next
+abbrev pub opening_deed : Table → Opening → Deed
+opening_deed t (opening.Select s) = ToCard t.command.items
+opening_deed t (opening.Initiate s) = ToCard t.command.items
+opening_deed t (opening.Read s) = ToCard t.command.items
+opening_deed t (opening.Over ending) = Over ending
+
+abbrev pub trading_deed : Table → Trading → Deed
+trading_deed t (trading.Verify v) = ToCard t.command.items
+trading_deed t (trading.Risk j) = ToCard t.command.items
+trading_deed t (trading.First asked) = ToCard t.command.items
+trading_deed t trading.Online = ToHost t.message.items
+trading_deed t trading.Authenticate = ToCard t.command.items
+trading_deed t (trading.ScriptBefore s) = ToCard t.command.items
+trading_deed t (trading.Second s) = ToCard t.command.items
+trading_deed t (trading.ScriptBehind s ending) = ToCard t.command.items
+trading_deed t (trading.Over ending) = Over ending
+
+abbrev pub stage_deed : Table → Stage → Deed
+stage_deed t (stage.Opening s) = opening_deed t s
+stage_deed t (stage.Trading at) = trading_deed t at.trading
+
+pub opening_shows : (t : Table) → (objects : Entries) → (s : Opening) → (log : List Logged) → (rest : List Reply → Standing Mark) → OpeningStands t objects s log rest → rest [] ≡ stands [] (opening_deed t s)
+opening_shows t objects (opening.Select s) log rest is =
+    is.passed [] ∙ wants (cut_off []) (cut_of s) step.Select [] (rest_with s.search t.candidates) _ log t.command.items is.shows
+opening_shows t objects (opening.Initiate s) log rest is =
+    is.passed [] ∙ wants (cut_off []) step.Initiate step.Initiate [] (initiated s.initiating) _ log t.command.items is.shows
+opening_shows t objects (opening.Read s) log rest is =
+    is.passed [] ∙ wants (cut_off []) step.Read step.Read [] (reading (record { entries = objects; left = s.course })) _ log t.command.items is.shows
+opening_shows t objects (opening.Over ending) log rest is = is.passed []
+
+pub trading_shows : (t : Table) → (trade : Trade) → (s : Trading) → (log : List Logged) → (rest : List Reply → Standing Mark) → (is : TradingStands t trade s log rest) → rest [] ≡ stands is.marks (trading_deed t s)
+unfolding host_step
+trading_shows t trade (trading.Verify v) log rest is =
+    is.passed [] ∙ wants (cut_off is.marks) step.Verify step.Verify is.marks (verifying_rest v) _ log t.command.items is.shows
+trading_shows t trade (trading.Risk j) log rest is =
+    is.passed [] ∙ wants (cut_off is.marks) step.Risk step.Risk is.marks (judging_rest j) _ log t.command.items is.shows
+trading_shows t trade (trading.First asked) log rest is =
+    is.passed [] ∙ wants (cut_off is.marks) step.First step.First is.marks (generating t.command.items asked false) _ log t.command.items refl
+trading_shows t trade trading.Online log rest is = is.passed []
+trading_shows t trade trading.Authenticate log rest is =
+    is.passed [] ∙ wants (cut_off is.marks) step.Authenticate step.Authenticate is.marks (authenticating t.command.items) _ log t.command.items refl
+trading_shows t trade (trading.ScriptBefore s) log rest is =
+    is.passed [] ∙ wants (cut_off is.marks) step.Script step.Script is.marks (running_rest s.running) _ log t.command.items is.shows
+trading_shows t trade (trading.Second s) log rest is =
+    is.passed [] ∙ wants (cut_off is.marks) step.Second step.Second is.marks (generating t.command.items s.asked true) _ log t.command.items refl
+trading_shows t trade (trading.ScriptBehind s ending) log rest is =
+    is.passed [] ∙ wants (left_script ending (drop s.next (templates 0x72 t.reply.scripts)) is.marks) step.Script step.Script is.marks (running_rest s.running) _ log t.command.items is.shows
+trading_shows t trade (trading.Over ending) log rest is = is.passed []
+
+-- what the dialogue does next is what the stage does, and the card that it read is the kernel's
+pub record ShownAt (k : KernelData) (s : Stage) (standing : Standing Mark) : Type 0 where
+  pub marks : List Mark
+  pub is : standing ≡ stands marks (stage_deed k.table s)
+  pub read : latest card_of None marks ≡ k.card
+
+pub stage_shows : (k : KernelData) → (s : Stage) → (log : List Logged) → (rest : List Reply → Standing Mark) → StageFits k.table k.objects k.card s → StageGoes k.table k.objects k.card s log rest → ShownAt k s (rest [])
+stage_shows k (stage.Opening s) log rest fits goes = record {
+  marks = [];
+  is = opening_shows k.table k.objects s log rest goes;
+  read = sym fits.1;
+}
+stage_shows k (stage.Trading at) log rest fits goes = record {
+  marks = goes.stands.marks;
+  is = trading_shows k.table (record { deal = deal_in k; row = at.row.now; card = goes.card }) at.trading log rest goes.stands;
+  read = goes.stands.read ∙ sym goes.card_is;
+}
+
+pub kernel_shows : (k : KernelData) → (replies : List Reply) → KernelFits k → KernelStands k replies → ShownAt k k.stage (dialogue (deal_in k) replies)
+kernel_shows k replies fits is =
+    let shown = stage_shows k k.stage is.log (λ later. dialogue (deal_in k) (replies ++ later)) fits.stage is.goes in
+    record { marks = shown.marks; is = ap (λ (all : List Reply). dialogue (deal_in k) all) (sym (append-nil replies)) ∙ shown.is; read = shown.read }
+
+-- what it does next, as the kernel names it
+pub opening_deed_next : (t : Table) → (s : Opening) → deed_next (opening_deed t s) ≡ opening_next s
+opening_deed_next t (opening.Select s) = refl
+opening_deed_next t (opening.Initiate s) = refl
+opening_deed_next t (opening.Read s) = refl
+opening_deed_next t (opening.Over ending) = refl
+
+pub trading_deed_next : (t : Table) → (s : Trading) → deed_next (trading_deed t s) ≡ trading_next s
+trading_deed_next t (trading.Verify v) = refl
+trading_deed_next t (trading.Risk j) = refl
+trading_deed_next t (trading.First asked) = refl
+trading_deed_next t trading.Online = refl
+trading_deed_next t trading.Authenticate = refl
+trading_deed_next t (trading.ScriptBefore s) = refl
+trading_deed_next t (trading.Second s) = refl
+trading_deed_next t (trading.ScriptBehind s ending) = refl
+trading_deed_next t (trading.Over ending) = refl
+
+pub stage_deed_next : (t : Table) → (s : Stage) → deed_next (stage_deed t s) ≡ stage_next s
+stage_deed_next t (stage.Opening s) = opening_deed_next t s
+stage_deed_next t (stage.Trading at) = trading_deed_next t at.trading
+
+pub next_is_told : (k : KernelData) → (replies : List Reply) → KernelFits k → KernelStands k replies → next_of k ≡ told_next (dialogue (deal_in k) replies)
+next_is_told k replies fits is =
+    let shown = kernel_shows k replies fits is in
+    sym (stage_deed_next k.table k.stage) ∙ ap (λ (standing : Standing Mark). told_next standing) (sym shown.is)
+
+opening_bytes : (t : Table) → (s : Opening) → deed_bytes (opening_deed t s) ≡ bytes_by t (opening_next s)
+opening_bytes t (opening.Select s) = refl
+opening_bytes t (opening.Initiate s) = refl
+opening_bytes t (opening.Read s) = refl
+opening_bytes t (opening.Over ending) = refl
+
+trading_bytes : (t : Table) → (s : Trading) → deed_bytes (trading_deed t s) ≡ bytes_by t (trading_next s)
+trading_bytes t (trading.Verify v) = refl
+trading_bytes t (trading.Risk j) = refl
+trading_bytes t (trading.First asked) = refl
+trading_bytes t trading.Online = refl
+trading_bytes t trading.Authenticate = refl
+trading_bytes t (trading.ScriptBefore s) = refl
+trading_bytes t (trading.Second s) = refl
+trading_bytes t (trading.ScriptBehind s ending) = refl
+trading_bytes t (trading.Over ending) = refl
+
+stage_bytes : (t : Table) → (s : Stage) → deed_bytes (stage_deed t s) ≡ bytes_by t (stage_next s)
+stage_bytes t (stage.Opening s) = opening_bytes t s
+stage_bytes t (stage.Trading at) = trading_bytes t at.trading
+
+pub bytes_are_told : (k : KernelData) → (replies : List Reply) → KernelFits k → KernelStands k replies → bytes_by k.table (next_of k) ≡ told_bytes (dialogue (deal_in k) replies)
+bytes_are_told k replies fits is =
+    let shown = kernel_shows k replies fits is in
+    sym (stage_bytes k.table k.stage) ∙ ap (λ (standing : Standing Mark). told_bytes standing) (sym shown.is)
+
+pub card_is_told : (k : KernelData) → (replies : List Reply) → KernelFits k → KernelStands k replies → k.card ≡ latest card_of None (dialogue (deal_in k) replies).marks
+card_is_told k replies fits is =
+    let shown = kernel_shows k replies fits is in
+    sym shown.read ∙ ap (λ (standing : Standing Mark). latest card_of None standing.marks) (sym shown.is)

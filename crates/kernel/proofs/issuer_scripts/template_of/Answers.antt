@@ -1,0 +1,15 @@
+use Rattle.std.proofs.Common.{List, ℕ, ap, ◌∙◌, slice_get}
+use Rattle.auth_message.specs.Reply.{ReplyData}
+use Rattle.kernel.specs.Scripts.{templates}
+use Rattle.kernel.proofs.Scripting.{template_short, template_few}
+use Rattle.kernel.proofs.issuer_scripts.template_of.Goals as goal
+
+pub returns-clause-short : goal.returns-clause-short
+returns-clause-short c =
+    template_short c.template_at.result c.args.tag.0 c.reply.inside.scripts.items c.args.index (rw c.deref.ensures.0 at c.deref.ensures.1)
+    (c.template_at.ensures.template ∙ ap (λ (bytes : List ℕ). slice_get (templates c.args.tag.0 bytes) c.args.index) c.deref.ensures.0)
+
+pub returns-clause-few : goal.returns-clause-few
+returns-clause-few c =
+    template_few c.template_at.result c.args.tag.0 c.reply.inside.scripts.items c.args.index c.reply.invariant
+    (c.template_at.ensures.template ∙ ap (λ (bytes : List ℕ). slice_get (templates c.args.tag.0 bytes) c.args.index) c.deref.ensures.0)

@@ -1,0 +1,7 @@
+use Rattle.std.proofs.Common.{rules, ◌≡◌, refl, sym, ap, ◌∙◌, List}
+use Rattle.kernel.proofs.Showing.{next_is_told}
+use Rattle.kernel.proofs.kernel.Kernel.next.Goals as goal
+
+pub returns-clause-told : goal.returns-clause-told
+returns-clause-told c = λ replies is.
+    rw (← c.self.view_is) (c.stage_next.ensures ∙ next_is_told (record { table = c.self.inside.table; objects = c.self.inside.objects; card = c.self.inside.card; stage = c.self.inside.stage; taken = c.self.inside.taken }) replies c.self.invariant (rw (← c.self.view_is) at is))

@@ -1,0 +1,23 @@
+use Rattle.std.proofs.Common.{rules, ◌≡◌, refl, sym, ap, ◌∙◌, ◌≤◌, ◌+◌, ℕ, List, [], ◌∷◌, length}
+use Rattle.emv_dict.specs.declared.ending.Step.TheVariants as step
+use Rattle.kernel.specs.Dialogue.{Trade, analysis}
+use Rattle.kernel.specs.Marks.{Mark, HasJudged}
+use Rattle.kernel.specs.Table.{deal_of}
+use Rattle.kernel.proofs.Following.{trading_stopped, begins_next}
+use Rattle.kernel.proofs.trading.judge_next.Goals as goal
+
+pub analyse-requires-clause-room : goal.analyse-requires-clause-room
+analyse-requires-clause-room c = rw c.has_judged.ensures.scripts c.requires.room
+
+pub returns-in-Done-clause-stands : goal.returns-in-Done-clause-stands
+returns-in-Done-clause-stands c = λ marks log course rest begins leads.
+    let trade : Trade = record { deal = deal_of c.args.table.now; row = c.args.row.now; card = c.args.card.now } in
+    c.analyse.ensures.stands (HasJudged c.in-Done.judged ∷ marks) log rest
+    (begins_next c.args.table.now _ c.args.card.now step.Risk marks _ log course (λ judged. analysis trade (HasJudged judged ∷ marks)) c.in-Done.judged rest
+    (c.has_judged.ensures.marks marks begins.tied) refl begins (rw c.in-Done.is at leads))
+
+pub returns-in-Ended-clause-stands : goal.returns-in-Ended-clause-stands
+returns-in-Ended-clause-stands c = λ marks log course rest begins leads.
+    let trade : Trade = record { deal = deal_of c.args.table.now; row = c.args.row.now; card = c.args.card.now } in
+    trading_stopped c.args.table.now c.args.table.now trade step.Risk marks log course (λ judged. analysis trade (HasJudged judged ∷ marks)) c.in-Ended.cause rest
+    refl begins (rw c.in-Ended.is at leads)

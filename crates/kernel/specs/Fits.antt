@@ -1,0 +1,67 @@
+-- What holds of the table and the card's objects before the card is read, whatever was said.
+use Rattle.std.specs.Prelude.{◌≡◌, ⊤, List, []}
+use Rattle.app_select.specs.Leading.{HasRoom}
+use Rattle.app_select.specs.Selecting.{SelectedData}
+use Rattle.emv_dict.specs.Settings.{IsAidRow}
+use Rattle.emv_dict.specs.declared.purchase.AidRow.{AidRow}
+use Rattle.emv_dict.specs.declared.purchase.Logged.{Logged}
+use Rattle.env_map.specs.Entries.{Entries}
+use Rattle.object_lists.specs.CardRead.{card_of}
+use Rattle.object_lists.specs.Forms.{HasForms}
+use Rattle.read_records.specs.Checked.{HasOptions}
+use Rattle.kernel.specs.Course.{Standing}
+use Rattle.kernel.specs.Dialogue.{initiation, candidates_left, restrictions}
+use Rattle.kernel.specs.Marks.{Mark, moment}
+use Rattle.kernel.specs.Reply.{Reply}
+use Rattle.kernel.specs.Stages.{OpeningStands}
+use Rattle.kernel.specs.Table.{deal_of}
+use Rattle.kernel.specs.Terminal.{Deal}
+use Rattle.kernel.specs.declared.opening.OpeningNext.{OpeningNext}
+use Rattle.kernel.specs.declared.opening.OpeningNext.TheVariants as next
+use Rattle.kernel.specs.declared.stage.AtSelect.{AtSelect}
+use Rattle.kernel.specs.declared.stage.AtRead.{AtRead}
+use Rattle.kernel.specs.declared.stage.Opening.{Opening}
+use Rattle.kernel.specs.declared.stage.Opening.TheVariants as opening
+use Rattle.kernel.specs.declared.table.Table.{Table}
+
+-- no object is read yet, and there is room for the applications that are still to be found
+pub record SelectFits (t : Table) (objects : Entries) (s : AtSelect) : Type 0 where
+  pub empty : objects ≡ []
+  pub room : HasRoom s.search t.candidates
+  pub fresh : t.moment ≡ moment []
+
+pub record InitiateFits (t : Table) (objects : Entries) : Type 0 where
+  pub empty : objects ≡ []
+  pub fresh : t.moment ≡ moment []
+
+-- the answer to GET PROCESSING OPTIONS was read
+pub record ReadFits (t : Table) (objects : Entries) (s : AtRead) : Type 0 where
+  pub options : HasOptions objects
+  pub row : IsAidRow s.row.now
+  pub fresh : t.moment ≡ moment []
+
+abbrev pub OpeningFits : Table → Entries → Opening → Type 0
+OpeningFits t objects (opening.Select s) = SelectFits t objects s
+OpeningFits t objects (opening.Initiate s) = InitiateFits t objects
+OpeningFits t objects (opening.Read s) = ReadFits t objects s
+OpeningFits t objects (opening.Over ending) = ⊤
+
+-- the card is read
+pub record HasReadCard (t : Table) (objects : Entries) (row : AidRow) : Type 0 where
+  pub forms : HasForms objects
+  pub row_rules : IsAidRow row
+  pub fresh : t.moment ≡ moment []
+
+abbrev pub NextFits : Table → Entries → OpeningNext → Type 0
+NextFits t objects (next.On s) = OpeningFits t objects s
+NextFits t objects (next.Read row) = HasReadCard t objects row.now
+
+-- what is left of the dialogue is what this stage leaves, or the processing restrictions of the card that is read
+abbrev pub NextStands : Table → Entries → OpeningNext → List Logged → (List Reply → Standing Mark) → Type 0
+NextStands t objects (next.On s) log rest = OpeningStands t objects s log rest
+NextStands t objects (next.Read row) log rest =
+    (later : List Reply) → rest later ≡ restrictions (record { deal = deal_of t; row = row.now; card = card_of objects }) log later
+
+-- what follows the application that is selected: its initiation, and where it refuses, the other candidates
+abbrev pub selected_then : Deal → SelectedData → List Logged → List Reply → Standing Mark
+selected_then deal selected = initiation deal selected (candidates_left deal selected.left)

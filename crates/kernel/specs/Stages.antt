@@ -1,0 +1,142 @@
+-- What is left of a dialogue at each of its stages.
+use Rattle.std.specs.Prelude.{◌≡◌, ⊤, ℕ, ◌+◌, ◌-◌, ◌≤◌, Bool, true, false, if◌then◌else◌, List, [], ◌∷◌, length, drop, Option, Some, None}
+use Rattle.app_select.specs.Candidates.{CandidateData}
+use Rattle.app_select.specs.Leading.{rest_with}
+use Rattle.cvm_list.specs.Waiting.{rest_of as verifying_rest}
+use Rattle.emv_dict.specs.Progress.{Progress, Wants, Stopped, Done}
+use Rattle.emv_dict.specs.declared.ending.Ending.{Ending}
+use Rattle.emv_dict.specs.declared.ending.Kind.{Kind}
+use Rattle.emv_dict.specs.declared.ending.Step.{Step}
+use Rattle.emv_dict.specs.declared.ending.Step.TheVariants as step
+use Rattle.emv_dict.specs.declared.purchase.Logged.{Logged}
+use Rattle.env_map.specs.Entries.{Entries}
+use Rattle.object_lists.specs.CardRead.{ReadCard}
+use Rattle.online_step.specs.Ac.{AcData, ac_of}
+use Rattle.online_step.specs.Authenticate.{verdict_of, after_verdict}
+use Rattle.online_step.specs.Generate.{after_ac}
+use Rattle.read_records.specs.DataRead.{reading}
+use Rattle.read_records.specs.Options.{initiated}
+use Rattle.risk_mgmt.specs.Asked.{rest_of as judging_rest}
+use Rattle.script_run.specs.Ran.{rest_of as running_rest}
+use Rattle.kernel.specs.Course.{Standing, Rest, over, card_step, cut_off, host_step}
+use Rattle.kernel.specs.Dialogue.{Trade, initiation, granted, candidates_left, restrictions, risk, analysis, first_answered, replied, issuer_scripts, scripts_before, scripts_behind, decision, left_script}
+use Rattle.kernel.specs.Marks as mark
+use Rattle.kernel.specs.Marks.{Mark, moment, latest, card_of}
+use Rattle.kernel.specs.Reply.{Reply}
+use Rattle.kernel.specs.Scripts.{templates}
+use Rattle.kernel.specs.Table.{deal_of}
+use Rattle.kernel.specs.declared.table.Table.{Table}
+use Rattle.kernel.specs.Terminal.{Deal}
+use Rattle.kernel.specs.declared.stage.AtSelect.{AtSelect}
+use Rattle.kernel.specs.declared.stage.Opening.{Opening}
+use Rattle.kernel.specs.declared.stage.Opening.TheVariants as opening
+use Rattle.kernel.specs.declared.stage.Trading.{Trading}
+use Rattle.kernel.specs.declared.stage.Trading.TheVariants as trading
+
+-- GENERATE AC was asked by this command
+abbrev pub generating : List ℕ → Kind → Bool → List (List ℕ) → Progress AcData
+generating command asked second [] = Wants command
+generating command asked second (answer ∷ rest) = after_ac (ac_of answer asked second) rest
+
+-- EXTERNAL AUTHENTICATE was asked by this one
+abbrev pub authenticating : List ℕ → List (List ℕ) → Progress Bool
+authenticating command [] = Wants command
+authenticating command (answer ∷ rest) = after_verdict (verdict_of answer) rest
+
+-- the templates 72 of a reply that was read
+abbrev pub behind_if : Bool → List ℕ → List (List ℕ)
+behind_if online scripts = (if online then templates 0x72 scripts else [])
+
+-- once the card is read
+abbrev pub trading_rest : Table → Trade → List Mark → Trading → Rest Mark
+trading_rest t trade marks (trading.Verify v) =
+    card_step (cut_off marks) step.Verify step.Verify marks (verifying_rest v) (λ verified. risk trade (mark.HasVerified verified ∷ marks))
+trading_rest t trade marks (trading.Risk j) =
+    card_step (cut_off marks) step.Risk step.Risk marks (judging_rest j) (λ judged. analysis trade (mark.HasJudged judged ∷ marks))
+trading_rest t trade marks (trading.First asked) =
+    card_step (cut_off marks) step.First step.First marks (generating t.command.items asked false)
+    (λ ac. first_answered trade ac (mark.HasFirst ac ∷ marks) ac.kind)
+trading_rest t trade marks trading.Online = host_step marks t.message.items (replied trade marks)
+trading_rest t trade marks trading.Authenticate =
+    card_step (cut_off marks) step.Authenticate step.Authenticate marks (authenticating t.command.items)
+    (λ good. issuer_scripts trade t.reply (mark.HasAuthenticated good ∷ marks))
+trading_rest t trade marks (trading.ScriptBefore s) =
+    card_step (cut_off marks) step.Script step.Script marks (running_rest s.running)
+    (λ result. scripts_before trade t.reply (drop s.next (templates 0x71 t.reply.scripts)) (mark.HasRunBefore result ∷ marks))
+trading_rest t trade marks (trading.Second s) =
+    card_step (cut_off marks) step.Second step.Second marks (generating t.command.items s.asked true)
+    (λ ac. scripts_behind (decision s.online ac.kind) (behind_if s.online t.reply.scripts) (mark.HasSecond ac ∷ marks))
+trading_rest t trade marks (trading.ScriptBehind s ending) =
+    card_step (left_script ending (drop s.next (templates 0x72 t.reply.scripts)) marks) step.Script step.Script marks (running_rest s.running)
+    (λ result. scripts_behind ending (drop s.next (templates 0x72 t.reply.scripts)) (mark.HasRunBehind result ∷ marks))
+trading_rest t trade marks (trading.Over ending) = over marks ending
+
+-- the command that waits is the one that the step wants answered
+abbrev pub TradingShows : Table → Trading → Type 0
+TradingShows t (trading.Verify v) = verifying_rest v [] ≡ Wants t.command.items
+TradingShows t (trading.Risk j) = judging_rest j [] ≡ Wants t.command.items
+TradingShows t (trading.First asked) = ⊤
+TradingShows t trading.Online = ⊤
+TradingShows t trading.Authenticate = ⊤
+TradingShows t (trading.ScriptBefore s) = running_rest s.running [] ≡ Wants t.command.items
+TradingShows t (trading.Second s) = ⊤
+TradingShows t (trading.ScriptBehind s ending) = running_rest s.running [] ≡ Wants t.command.items
+TradingShows t (trading.Over ending) = ⊤
+
+-- what is left of the dialogue is what this stage leaves, behind these marks
+pub record TradingStands (t : Table) (trade : Trade) (s : Trading) (log : List Logged) (rest : List Reply → Standing Mark) : Type 0 where
+  pub marks : List Mark
+  pub passed : (later : List Reply) → rest later ≡ trading_rest t trade marks s log later
+  pub tied : t.moment ≡ moment marks
+  pub read : latest card_of None marks ≡ Some trade.card
+  pub shows : TradingShows t s
+
+-- a step begins here, with this card
+pub record Begins (t : Table) (card : ReadCard) (marks : List Mark) (rest start : List Reply → Standing Mark) : Type 0 where
+  pub passed : (later : List Reply) → rest later ≡ start later
+  pub tied : t.moment ≡ moment marks
+  pub read : latest card_of None marks ≡ Some card
+
+-- before the answer to the first command the card is gone at the power-up
+abbrev pub cut_of : AtSelect → Step
+cut_of s = (if s.begun then step.Select else step.Power)
+
+-- before the card is read, with its objects so far
+abbrev pub opening_rest : Table → Entries → Opening → Rest Mark
+opening_rest t objects (opening.Select s) =
+    card_step (cut_off []) (cut_of s) step.Select [] (rest_with s.search t.candidates)
+    (λ selected. initiation (deal_of t) selected (candidates_left (deal_of t) selected.left))
+opening_rest t objects (opening.Initiate s) =
+    card_step (cut_off []) step.Initiate step.Initiate [] (initiated s.initiating)
+    (granted (deal_of t) s.choice.row (candidates_left (deal_of t) t.candidates))
+opening_rest t objects (opening.Read s) =
+    card_step (cut_off []) step.Read step.Read [] (reading (record { entries = objects; left = s.course }))
+    (λ card. restrictions (record { deal = deal_of t; row = s.row.now; card = card }))
+opening_rest t objects (opening.Over ending) = over [] ending
+
+abbrev pub OpeningShows : Table → Entries → Opening → Type 0
+OpeningShows t objects (opening.Select s) = rest_with s.search t.candidates [] ≡ Wants t.command.items
+OpeningShows t objects (opening.Initiate s) = initiated s.initiating [] ≡ Wants t.command.items
+OpeningShows t objects (opening.Read s) = reading (record { entries = objects; left = s.course }) [] ≡ Wants t.command.items
+OpeningShows t objects (opening.Over ending) = ⊤
+
+pub record OpeningStands (t : Table) (objects : Entries) (s : Opening) (log : List Logged) (rest : List Reply → Standing Mark) : Type 0 where
+  pub passed : (later : List Reply) → rest later ≡ opening_rest t objects s log later
+  pub tied : t.moment ≡ moment []
+  pub shows : OpeningShows t objects s
+
+-- how many scripts may still run
+abbrev pub scripts_left : List ℕ → Trading → ℕ
+scripts_left scripts (trading.Verify v) = 8
+scripts_left scripts (trading.Risk j) = 8
+scripts_left scripts (trading.First asked) = 8
+scripts_left scripts trading.Online = 8
+scripts_left scripts trading.Authenticate = length (templates 0x71 scripts) + length (templates 0x72 scripts)
+scripts_left scripts (trading.ScriptBefore s) = 1 + (length (templates 0x71 scripts) - s.next) + length (templates 0x72 scripts)
+scripts_left scripts (trading.Second s) = length (behind_if s.online scripts)
+scripts_left scripts (trading.ScriptBehind s ending) = 1 + (length (templates 0x72 scripts) - s.next)
+scripts_left scripts (trading.Over ending) = 0
+
+-- there is room for so many results more
+abbrev pub HasRoom : Table → ℕ → Type 0
+HasRoom t count = length t.moment.scripts + count ≤ 8

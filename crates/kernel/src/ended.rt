@@ -1,0 +1,287 @@
+//! What a dialogue ends with (EMV 4.3 Book 4 section 6), and what is captured of it.
+ghost use Rattle.std.specs.Prelude.{◌≡◌, ℕ, List, Some, option_map};
+ghost use Rattle.emv_dict.specs.Settings.{IsPurchase};
+ghost use Rattle.env_map.specs.Entries.{value_of};
+ghost use Rattle.kernel.specs.Ended as spec;
+ghost use Rattle.kernel.specs.Kernel.{stage_next, trading_next};
+ghost use Rattle.kernel.specs.Shown.{shown, stage_over, trading_over};
+
+use crate::kernel::Next;
+use crate::moment::Moment;
+use crate::stage::{Opening, Stage, Trading};
+use arrayvec::ArrayVec;
+use auth_message::Message;
+use ber_tlv::Tag;
+use emv_dict::{Digits, Ending, Purchase, Settings, Tsi, Tvr};
+use object_lists::{CardData, place, read_dol};
+use online_step::{Ac, presentment, reversal};
+use std::marker::Model;
+
+/// The object list of the second GENERATE AC (CDOL2).
+const SECOND_LIST: Tag = Tag(0x8d);
+
+/// The terminal verification results, an object of five bytes.
+const RESULTS: Tag = Tag(0x95);
+
+/// A presentment or a reversal, made at the end of a dialogue and spent once. Contracts see its bytes.
+pub struct Capture {
+    message: Message,
+}
+
+impl Model for Capture {
+    ghost use Rattle.std.specs.Prelude.{List, ℕ};
+
+    ghost Value = { List ℕ };
+
+    ghost view = { λ c. c.message.items };
+}
+
+impl Capture {
+    /// The message that captures the payment, in place of what `out` held.
+    pub fn into_message(self, out: &mut Message)
+        ensures { out.new.items ≡ self }
+    {
+        let Capture { message } = self;
+        *out = message;
+    }
+}
+
+/// The end of a dialogue. The card and its account number are there where reading is finished.
+pub struct Ended {
+    pub ending: Ending,
+    /// The terminal verification results (95).
+    pub tvr: Tvr,
+    /// The transaction status information (9B).
+    pub tsi: Tsi,
+    /// The results of cardholder verification (9F34), zeros where it was not finished.
+    pub cvm: [u8; 3],
+    /// The primary account number.
+    pub pan: Option<Digits>,
+    pub card: Option<CardData>,
+    /// The authorisation response code (8A).
+    pub code: Option<[u8; 2]>,
+    /// The card's last cryptogram.
+    pub last: Option<Ac>,
+    /// The results of the scripts, the first one first.
+    pub scripts: ArrayVec<[u8; 5], 8>,
+    /// What is to be captured.
+    pub capture: Option<Capture>,
+}
+
+impl Model for Ended {
+    ghost use Rattle.kernel.specs.Shown.{EndedData};
+
+    ghost Value = { EndedData };
+
+    ghost view = { λ e. record {
+      ending = e.ending;
+      tvr = e.tvr.0;
+      tsi = e.tsi.0;
+      cvm = e.cvm;
+      pan = e.pan;
+      card = e.card;
+      code = e.code;
+      last = e.last;
+      scripts = e.scripts.items;
+      capture = e.capture;
+    } };
+}
+
+/// How a stage ended that did.
+pub(crate) fn ending_of(stage: &Stage<'_>) -> Ending
+    requires { stage_next stage.now ≡ Next.Ended }
+    ensures { stage_over stage.now ≡ Some result }
+{
+    match stage {
+        Stage::Opening(Opening::Over(ending)) => *ending,
+        Stage::Opening(Opening::Select(_) | Opening::Initiate(_) | Opening::Read(_)) =>
+            unreachable!(),
+        Stage::Trading(at) => trading_ending(&at.trading),
+    }
+}
+
+fn trading_ending(trading: &Trading<'_>) -> Ending
+    requires { trading_next trading.now ≡ Next.Ended }
+    ensures { trading_over trading.now ≡ Some result }
+{
+    match trading {
+        Trading::Over(ending) => *ending,
+        Trading::Online => unreachable!(),
+        Trading::Verify(_) | Trading::Risk(_) | Trading::First(_) => unreachable!(),
+        Trading::Authenticate | Trading::ScriptBefore(_) => unreachable!(),
+        Trading::Second(_) | Trading::ScriptBehind(_, _) => unreachable!(),
+    }
+}
+
+/// The end record of a dialogue that ended so.
+pub(crate) fn end_record(
+    settings: &Settings,
+    purchase: &Purchase,
+    moment: Moment,
+    card: Option<CardData>,
+    ending: Ending,
+) -> Ended
+    requires { IsPurchase purchase.now }
+    ensures { result ≡ shown (spec.end_with (record { settings = settings.now; purchase = purchase.now }) ending card moment) }
+{
+    let capture = captured(settings, purchase, &moment, &card, ending);
+    with_capture(moment, card, ending, capture)
+}
+
+/// The same with what is captured.
+fn with_capture(
+    moment: Moment,
+    card: Option<CardData>,
+    ending: Ending,
+    capture: Option<Capture>,
+) -> Ended
+    ensures { result ≡ shown (record { ending = ending; moment = moment; card = card; capture = capture }) }
+{
+    let Moment {
+        tvr,
+        tsi,
+        results,
+        code,
+        issuer_data: _,
+        pin: _,
+        counter: _,
+        last,
+        is_open: _,
+        tvr_when_first: _,
+        tvr_when_second: _,
+        scripts,
+    } = moment;
+    Ended {
+        ending,
+        tvr,
+        tsi,
+        cvm: results,
+        pan: account_number(&card),
+        card,
+        code,
+        last,
+        scripts,
+        capture,
+    }
+}
+
+fn account_number(card: &Option<CardData>) -> Option<Digits>
+    ensures { result ≡ option_map (λ card. card.pan) card.now }
+{
+    match card {
+        Some(card) => Some(card.pan.copy()),
+        None => None,
+    }
+}
+
+/// What is captured: an approval is presented, a request that may have been approved is reversed.
+fn captured(
+    settings: &Settings,
+    purchase: &Purchase,
+    moment: &Moment,
+    card: &Option<CardData>,
+    ending: Ending,
+) -> Option<Capture>
+    requires { IsPurchase purchase.now }
+    ensures { result ≡ spec.capture (record { settings = settings.now; purchase = purchase.now }) ending card.now moment.now }
+{
+    let Some(card) = card else {
+        return None;
+    };
+    match ending {
+        Ending::Approved { .. } => presented(settings, purchase, moment, card),
+        Ending::Declined { .. } => reversed(settings, purchase, moment, card),
+        Ending::Terminated(..) => reversed(settings, purchase, moment, card),
+        Ending::CutOff(..) => reversed(settings, purchase, moment, card),
+    }
+}
+
+/// The presentment, with the cryptogram that approved.
+#[tactic(auto, unfolding(crate::specs::Ended::presentment))]
+fn presented(
+    settings: &Settings,
+    purchase: &Purchase,
+    moment: &Moment,
+    card: &CardData,
+) -> Option<Capture>
+    requires { IsPurchase purchase.now }
+    ensures { result ≡ spec.presentment (record { settings = settings.now; purchase = purchase.now }) card.now moment.now }
+{
+    let Some(ac) = &moment.last else {
+        return None;
+    };
+    let tvr = results_behind(card, moment.tvr_when_first, moment.tvr_when_second);
+    let mut message = Message::new();
+    presentment(
+        card,
+        settings,
+        purchase,
+        tvr,
+        ac,
+        code_or_zeros(moment.code),
+        &mut message,
+    );
+    Some(Capture { message })
+}
+
+/// The reversal, where a request may have been approved.
+#[tactic(auto, unfolding(crate::specs::Ended::reversal))]
+fn reversed(
+    settings: &Settings,
+    purchase: &Purchase,
+    moment: &Moment,
+    card: &CardData,
+) -> Option<Capture>
+    requires { IsPurchase purchase.now }
+    ensures { result ≡ spec.reversal (record { settings = settings.now; purchase = purchase.now }) card.now moment.now }
+{
+    if !moment.is_open {
+        return None;
+    }
+    let Some(counter) = moment.counter else {
+        return None;
+    };
+    let mut message = Message::new();
+    reversal(
+        card,
+        settings,
+        purchase,
+        counter,
+        code_or_zeros(moment.code),
+        &mut message,
+    );
+    Some(Capture { message })
+}
+
+fn code_or_zeros(code: Option<[u8; 2]>) -> [u8; 2]
+    ensures { result ≡ spec.code_or_zeros code }
+{
+    match code {
+        Some(code) => code,
+        None => [0, 0],
+    }
+}
+
+/// The terminal verification results that the last GENERATE AC was asked with whose list names them, or the
+/// first one.
+fn results_behind(card: &CardData, first: Tvr, second: Option<Tvr>) -> Tvr
+    ensures { result.0 ≡ spec.results_behind card.now first.0 (option_map (λ tvr. tvr.0) second) }
+{
+    let Some(second) = second else {
+        return first;
+    };
+    if asks_results(card) { second } else { first }
+}
+
+/// Whether the object list of the second GENERATE AC names the terminal verification results.
+fn asks_results(card: &CardData) -> bool
+    ensures { result ≡ spec.asks_results (value_of 0x8D card.now.entries) }
+{
+    let Some(list) = card.value(SECOND_LIST) else {
+        return false;
+    };
+    let Ok(dol) = read_dol(list) else {
+        return false;
+    };
+    place(&dol, RESULTS, 5).is_some()
+}

@@ -1,0 +1,170 @@
+//! The dialogue of a terminal, a reply at a time.
+ghost use Rattle.std.specs.Prelude.{◌≡◌, ◌≤◌, ◌∷◌, ◌++◌, [], ℕ, List, option_map, None};
+ghost use Rattle.std.specs.List.{All};
+ghost use Rattle.emv_dict.specs.Settings.{IsSettings, IsPurchase, most_amount};
+ghost use Rattle.emv_dict.specs.declared.purchase.Logged.{Logged as LoggedRow};
+ghost use Rattle.kernel.specs.Course.{Standing};
+ghost use Rattle.kernel.specs.Fits.{OpeningFits};
+ghost use Rattle.kernel.specs.Dialogue.{dialogue};
+ghost use Rattle.kernel.specs.Kernel.{KernelStands, StageFits, StageGoes, deal_in, next_of, told_next, told_bytes};
+ghost use Rattle.kernel.specs.Kernel as spec;
+ghost use Rattle.kernel.specs.Marks.{Mark, latest, card_of};
+ghost use Rattle.kernel.specs.Stages.{OpeningStands};
+ghost use Rattle.kernel.specs.Table.{IsDeal, deal_of};
+ghost use Rattle.kernel.specs.Reply.{Reply, CardSaid, CardGone, HostSaid, HostSilent};
+
+use crate::opening;
+use crate::opening::OpeningNext;
+use crate::stage::{AtTrading, Opening, Stage, Trading};
+use crate::table::Table;
+use crate::trading::begin_trading;
+use emv_dict::{Logged, Purchase, Settings};
+use env_map::Env;
+use object_lists::CardData;
+use std::marker::Model;
+use std::mem;
+
+mod finish;
+
+/// What a terminal waits for.
+#[derive(Clone, Copy, PartialEq, Eq, Debug)]
+pub enum Next {
+    /// The card's answer.
+    ToCard,
+    /// The host's reply.
+    ToHost,
+    /// Nothing: the dialogue is over.
+    Ended,
+}
+
+/// A terminal in its dialogue. Contracts speak of the replies that it has taken: `KernelStands`.
+#[derive(Drop)]
+pub struct Kernel<'s> {
+    table: Table<'s>,
+    /// The card's objects while it is read.
+    objects: Env,
+    card: Option<CardData>,
+    stage: Stage<'s>,
+    /// How many replies were taken, which stops at the greatest number.
+    taken: u64,
+}
+
+impl<'s> Model for Kernel<'s> {
+    ghost use Rattle.kernel.specs.Kernel.{KernelData, KernelFits};
+
+    ghost Value = { KernelData };
+
+    ghost view = { λ k. record { table = k.table; objects = k.objects; card = k.card; stage = k.stage; taken = k.taken } };
+
+    ghost invariant = { λ k. KernelFits (record { table = k.table; objects = k.objects; card = k.card; stage = k.stage; taken = k.taken }) };
+}
+
+impl<'s> Kernel<'s> {
+    /// A dialogue begins, for this purchase at a terminal with these settings.
+    pub fn begin(settings: &'s Settings, purchase: &'s Purchase) -> Kernel<'s>
+        requires settings { IsSettings settings.now }
+        requires purchase { IsPurchase purchase.now }
+        ensures stands { KernelStands result [] }
+        ensures deal { deal_in result ≡ record { settings = settings.now; purchase = purchase.now } }
+    {
+        let mut table = Table::new(settings, purchase);
+        let objects = Env::new();
+        let opening = opening::begin(&mut table, &objects);
+        Kernel {
+            table,
+            objects,
+            card: None,
+            stage: Stage::Opening(opening),
+            taken: 0,
+        }
+    }
+
+    /// What the terminal waits for.
+    pub fn next(&self) -> Next
+        ensures exact { result ≡ next_of self.now }
+        ensures told { (replies : List Reply) → KernelStands self.now replies → result ≡ told_next (dialogue (deal_in self.now) replies) }
+    {
+        stage_next(&self.stage)
+    }
+
+    /// The command or the message to send, empty where the dialogue is over.
+    pub fn bytes(&self) -> &[u8]
+        ensures { (replies : List Reply) → KernelStands self.now replies → result.now ≡ told_bytes (dialogue (deal_in self.now) replies) }
+    {
+        bytes_by(&self.table, stage_next(&self.stage))
+    }
+
+    /// What reading gave, where it is finished.
+    pub fn data(&self) -> Option<&CardData>
+        ensures { (replies : List Reply) → KernelStands self.now replies
+            → option_map (λ card. card.now) result ≡ latest card_of None (dialogue (deal_in self.now) replies).marks }
+    {
+        self.card.as_ref()
+    }
+}
+
+/// What a stage waits for.
+fn stage_next(stage: &Stage<'_>) -> Next
+    ensures { result ≡ spec.stage_next stage.now }
+{
+    match stage {
+        Stage::Opening(Opening::Select(_) | Opening::Initiate(_) | Opening::Read(_)) =>
+            Next::ToCard,
+        Stage::Opening(Opening::Over(_)) => Next::Ended,
+        Stage::Trading(at) => trading_next(&at.trading),
+    }
+}
+
+/// What a stage waits for once the card is read.
+fn trading_next(trading: &Trading<'_>) -> Next
+    ensures { result ≡ spec.trading_next trading.now }
+{
+    match trading {
+        Trading::Online => Next::ToHost,
+        Trading::Over(_) => Next::Ended,
+        Trading::Verify(_) | Trading::Risk(_) | Trading::First(_) => Next::ToCard,
+        Trading::Authenticate | Trading::ScriptBefore(_) => Next::ToCard,
+        Trading::Second(_) | Trading::ScriptBehind(_, _) => Next::ToCard,
+    }
+}
+
+/// The bytes of what a terminal does next.
+fn bytes_by<'a>(table: &'a Table<'_>, next: Next) -> &'a [u8]
+    ensures { result.now ≡ spec.bytes_by table.now next }
+{
+    match next {
+        Next::ToCard => table.command.as_slice(),
+        Next::ToHost => table.message.as_slice(),
+        Next::Ended => &[],
+    }
+}
+
+/// The card's answer before it is read. Once it is read, the trading begins.
+fn on_opening<'s>(
+    table: &mut Table<'s>,
+    objects: &mut Env,
+    held: &mut Option<CardData>,
+    state: Opening<'s>,
+    reply: &[u8],
+    log: &[Logged],
+) -> Stage<'s>
+    requires deal { IsDeal (deal_of table.old) }
+    requires fits { OpeningFits table.old objects.old state }
+    requires held { held.old ≡ None }
+    requires log { All (λ logged. logged.amount ≤ most_amount) log.now }
+    ensures stands { (before : List LoggedRow) (rest : List Reply → Standing Mark)
+        → OpeningStands table.old objects.old state.entry before rest
+        → StageGoes table.new objects.new held.new result log.now (λ later. rest (CardSaid reply.now log.now ∷ later)) }
+    ensures same { deal_of table.new ≡ deal_of table.old }
+    ensures fits { StageFits table.new objects.new held.new result }
+{
+    match opening::on_answer(table, objects, state, reply) {
+        OpeningNext::On(state) => Stage::Opening(state),
+        OpeningNext::Read(row) => {
+            let card = CardData::new(mem::replace(objects, Env::new()));
+            let trading = begin_trading(table, &card, row, log);
+            *held = Some(card);
+            Stage::Trading(AtTrading { row, trading })
+        }
+    }
+}

@@ -1,0 +1,289 @@
+//! What a terminal holds at a moment of the dialogue (EMV 4.3 Book 3 Annexes C5 and C6, Book 4 Annex A6).
+ghost use Rattle.std.specs.Prelude.{◌≡◌, ◌+◌, [], ◌∷◌, ◌<◌, ◌≤◌, ℕ, List, length, option_map, IfSome, Some, not};
+ghost use Rattle.emv_dict.specs.Digits.{HasPinLength};
+ghost use Rattle.kernel.specs.Marks.{Mark, HasRead, HasRestricted, HasVerified, HasJudged, HasAnalysed, HasFirst, HasReply, WasUnable, HasAuthenticated, HasRunBefore, HasSecond, HasRunBehind, moment, offline_code as spec_offline, unable_code as spec_unable, is_whole as whole_test, bits_if, sound_pin as sound};
+ghost use Rattle.object_lists.specs.CardRead.{ReadCard};
+
+use arrayvec::ArrayVec;
+use auth_message::Reply;
+use ber_tlv::append;
+use cvm_list::Verified;
+use emv_dict::{Digits, Kind, Tsi, Tvr, is_pin_length};
+use online_step::Ac;
+use risk_mgmt::Judged;
+use std::marker::Model;
+
+/// The issuer authentication data (91): 8 to 16 bytes.
+pub(crate) type IssuerData = ArrayVec<u8, 16>;
+
+/// What the steps that are finished leave.
+#[derive(Drop)]
+pub(crate) struct Moment {
+    /// The terminal verification results (95) and the transaction status information (9B).
+    pub tvr: Tvr,
+    pub tsi: Tsi,
+    /// The results of cardholder verification (9F34), zeros until it is finished.
+    pub results: [u8; 3],
+    /// The authorisation response code (8A).
+    pub code: Option<[u8; 2]>,
+    pub issuer_data: Option<IssuerData>,
+    /// The PIN that goes to the issuer.
+    pub pin: Option<Digits>,
+    /// The transaction counter of the card's first answer to GENERATE AC.
+    pub counter: Option<u16>,
+    /// The card's last cryptogram.
+    pub last: Option<Ac>,
+    /// A request was sent, and no reply other than 00 was read.
+    pub is_open: bool,
+    /// The terminal verification results when the first GENERATE AC was asked, and the second one.
+    pub tvr_when_first: Tvr,
+    pub tvr_when_second: Option<Tvr>,
+    /// The results of the scripts.
+    pub scripts: ArrayVec<[u8; 5], 8>,
+}
+
+impl Model for Moment {
+    ghost use Rattle.std.specs.Prelude.{option_map};
+    ghost use Rattle.kernel.specs.Marks.{MomentData};
+
+    ghost Value = { MomentData };
+
+    ghost view = { λ m. record {
+      tvr = m.tvr.0;
+      tsi = m.tsi.0;
+      results = m.results;
+      code = m.code;
+      issuer_data = option_map (λ value. value.items) m.issuer_data;
+      pin = m.pin;
+      counter = m.counter;
+      last = m.last;
+      is_open = m.is_open;
+      tvr_when_first = m.tvr_when_first.0;
+      tvr_when_second = option_map (λ tvr. tvr.0) m.tvr_when_second;
+      scripts = m.scripts.items;
+    } };
+
+    ghost use Rattle.std.specs.Prelude.{IfSome};
+    ghost use Rattle.emv_dict.specs.Digits.{HasPinLength};
+
+    ghost invariant = { λ m. IfSome m.pin HasPinLength };
+}
+
+impl Moment {
+    /// Before any step is finished.
+    pub(crate) fn new() -> Moment
+        ensures { result ≡ moment [] }
+    {
+        Moment {
+            tvr: Tvr(0),
+            tsi: Tsi(0),
+            results: [0; 3],
+            code: None,
+            issuer_data: None,
+            pin: None,
+            counter: None,
+            last: None,
+            is_open: false,
+            tvr_when_first: Tvr(0),
+            tvr_when_second: None,
+            scripts: ArrayVec::new(),
+        }
+    }
+
+    /// The PIN that goes to the issuer.
+    pub(crate) fn pin(&self) -> Option<&Digits>
+        ensures pin { option_map (λ digits. digits.now) result ≡ self.now.pin }
+        ensures length { IfSome result (λ digits. HasPinLength digits.now) }
+    {
+        self.pin.as_ref()
+    }
+
+    /// The card's last cryptogram.
+    pub(crate) fn last(&self) -> Option<&Ac>
+        ensures { option_map (λ ac. ac.now) result ≡ self.now.last }
+    {
+        self.last.as_ref()
+    }
+
+    /// The card is read: without offline data authentication.
+    pub(crate) fn has_read(&mut self)
+        ensures marks { (marks : List Mark) (card : ReadCard) → self.old ≡ moment marks → self.new ≡ moment (HasRead card ∷ marks) }
+        ensures scripts { self.new.scripts ≡ self.old.scripts }
+    {
+        self.tvr = Tvr(self.tvr.0 | Tvr::OFFLINE_DATA_AUTHENTICATION_NOT_PERFORMED.0);
+    }
+
+    pub(crate) fn has_restricted(&mut self, bits: Tvr)
+        ensures marks { (marks : List Mark) → self.old ≡ moment marks → self.new ≡ moment (HasRestricted bits.0 ∷ marks) }
+        ensures scripts { self.new.scripts ≡ self.old.scripts }
+    {
+        self.tvr = Tvr(self.tvr.0 | bits.0);
+    }
+
+    pub(crate) fn has_verified(&mut self, verified: Verified)
+        ensures marks { (marks : List Mark) → self.old ≡ moment marks → self.new ≡ moment (HasVerified verified ∷ marks) }
+        ensures scripts { self.new.scripts ≡ self.old.scripts }
+    {
+        self.tvr = Tvr(self.tvr.0 | verified.tvr.0);
+        self.tsi = Tsi(self.tsi.0 | tsi_if(verified.performed, Tsi::CARDHOLDER_VERIFICATION));
+        let Verified {
+            results,
+            online_pin,
+            ..
+        } = verified;
+        self.results = results;
+        self.pin = sound_pin(online_pin);
+    }
+
+    pub(crate) fn has_judged(&mut self, judged: Judged)
+        ensures marks { (marks : List Mark) → self.old ≡ moment marks → self.new ≡ moment (HasJudged judged ∷ marks) }
+        ensures scripts { self.new.scripts ≡ self.old.scripts }
+    {
+        self.tvr = Tvr(self.tvr.0 | judged.tvr.0);
+        self.tsi = Tsi(self.tsi.0 | tsi_if(judged.performed, Tsi::TERMINAL_RISK_MANAGEMENT));
+    }
+
+    pub(crate) fn has_analysed(&mut self, wanted: Kind)
+        ensures marks { (marks : List Mark) → self.old ≡ moment marks → self.new ≡ moment (HasAnalysed wanted ∷ marks) }
+        ensures scripts { self.new.scripts ≡ self.old.scripts }
+    {
+        self.tvr_when_first = self.tvr;
+        self.code = offline_code(wanted);
+    }
+
+    pub(crate) fn has_first(&mut self, ac: Ac)
+        ensures marks { (marks : List Mark) → self.old ≡ moment marks → self.new ≡ moment (HasFirst ac ∷ marks) }
+        ensures last { self.new.last ≡ Some ac }
+        ensures scripts { self.new.scripts ≡ self.old.scripts }
+    {
+        self.tsi = Tsi(self.tsi.0 | Tsi::CARD_RISK_MANAGEMENT.0);
+        self.code = offline_code(ac.kind);
+        self.counter = Some(ac.counter);
+        self.last = Some(ac);
+    }
+
+    pub(crate) fn has_reply(&mut self, reply: &Reply)
+        requires { IfSome reply.now.auth (λ value. length value ≤ 16) }
+        ensures marks { (marks : List Mark) → self.old ≡ moment marks → self.new ≡ moment (HasReply reply.now ∷ marks) }
+        ensures scripts { self.new.scripts ≡ self.old.scripts }
+    {
+        self.code = Some(reply.code);
+        self.issuer_data = kept(reply.auth);
+        self.is_open = reply.code == *b"00";
+    }
+
+    pub(crate) fn was_unable(&mut self, sent: bool, wanted: Kind)
+        ensures marks { (marks : List Mark) → self.old ≡ moment marks → self.new ≡ moment (WasUnable sent wanted ∷ marks) }
+        ensures scripts { self.new.scripts ≡ self.old.scripts }
+    {
+        self.code = Some(unable_code(wanted));
+        self.is_open = sent;
+    }
+
+    pub(crate) fn has_authenticated(&mut self, good: bool)
+        ensures marks { (marks : List Mark) → self.old ≡ moment marks → self.new ≡ moment (HasAuthenticated good ∷ marks) }
+        ensures scripts { self.new.scripts ≡ self.old.scripts }
+    {
+        self.tvr = Tvr(self.tvr.0 | tvr_unless(good, Tvr::ISSUER_AUTHENTICATION_FAILED));
+        self.tsi = Tsi(self.tsi.0 | Tsi::ISSUER_AUTHENTICATION.0);
+    }
+
+    pub(crate) fn has_run_before(&mut self, script: [u8; 5])
+        requires { length self.old.scripts < 8 }
+        ensures marks { (marks : List Mark) → self.old ≡ moment marks → self.new ≡ moment (HasRunBefore script ∷ marks) }
+        ensures scripts { length self.new.scripts ≡ length self.old.scripts + 1 }
+    {
+        let whole = is_whole(script);
+        self.tvr = Tvr(self.tvr.0 | tvr_unless(whole, Tvr::SCRIPT_FAILED_BEFORE_FINAL_CRYPTOGRAM));
+        self.tsi = Tsi(self.tsi.0 | Tsi::SCRIPT_PROCESSING.0);
+        self.scripts.push(script);
+    }
+
+    pub(crate) fn has_second(&mut self, ac: Ac)
+        ensures marks { (marks : List Mark) → self.old ≡ moment marks → self.new ≡ moment (HasSecond ac ∷ marks) }
+        ensures scripts { self.new.scripts ≡ self.old.scripts }
+    {
+        self.tvr_when_second = Some(self.tvr);
+        self.last = Some(ac);
+    }
+
+    pub(crate) fn has_run_behind(&mut self, script: [u8; 5])
+        requires { length self.old.scripts < 8 }
+        ensures marks { (marks : List Mark) → self.old ≡ moment marks → self.new ≡ moment (HasRunBehind script ∷ marks) }
+        ensures scripts { length self.new.scripts ≡ length self.old.scripts + 1 }
+    {
+        let whole = is_whole(script);
+        self.tvr = Tvr(self.tvr.0 | tvr_unless(whole, Tvr::SCRIPT_FAILED_AFTER_FINAL_CRYPTOGRAM));
+        self.tsi = Tsi(self.tsi.0 | Tsi::SCRIPT_PROCESSING.0);
+        self.scripts.push(script);
+    }
+}
+
+/// An entry that is a PIN: 4 to 12 digits, as each one has.
+fn sound_pin(entry: Option<Digits>) -> Option<Digits>
+    ensures pin { result ≡ sound entry }
+    ensures length { IfSome result HasPinLength }
+{
+    match entry {
+        Some(digits) if is_pin_length(digits.len()) => Some(digits),
+        _ => None,
+    }
+}
+
+/// These bits where the condition holds.
+fn tsi_if(condition: bool, bits: Tsi) -> u16
+    ensures { result ≡ bits_if condition bits.0 }
+{
+    if condition { bits.0 } else { 0 }
+}
+
+/// These bits where the condition doesn't hold.
+fn tvr_unless(condition: bool, bits: Tvr) -> u64
+    ensures { result ≡ bits_if (not condition) bits.0 }
+{
+    if condition { 0 } else { bits.0 }
+}
+
+/// Whether a script's result says that all its commands went on.
+fn is_whole(script: [u8; 5]) -> bool
+    ensures { result ≡ whole_test script }
+{
+    let [first, ..] = script;
+    first == 0x20
+}
+
+/// The response code of a cryptogram that is asked for or answered offline (EMV 4.3 Book 4 Annex A6).
+fn offline_code(kind: Kind) -> Option<[u8; 2]>
+    ensures { result ≡ spec_offline kind }
+{
+    match kind {
+        Kind::Tc => Some(*b"Y1"),
+        Kind::Aac => Some(*b"Z1"),
+        Kind::Arqc => None,
+    }
+}
+
+/// That of a terminal that was unable to go online.
+fn unable_code(kind: Kind) -> [u8; 2]
+    ensures { result ≡ spec_unable kind }
+{
+    match kind {
+        Kind::Tc => *b"Y3",
+        Kind::Aac | Kind::Arqc => *b"Z3",
+    }
+}
+
+/// A copy of the issuer authentication data.
+fn kept(given: Option<&[u8]>) -> Option<IssuerData>
+    requires { IfSome given (λ value. length value.now ≤ 16) }
+    ensures { option_map (λ value. value.items) result ≡ option_map (λ value. value.now) given.entry }
+{
+    match given {
+        None => None,
+        Some(value) => {
+            let mut copy = ArrayVec::new();
+            append(&mut copy, value);
+            Some(copy)
+        }
+    }
+}

@@ -1,0 +1,316 @@
+//! The steps before the card is read: application selection, initiation and reading (EMV 4.3 Book 1
+//! section 12 and Book 3 sections 10.1 and 10.2).
+ghost use Rattle.std.specs.Prelude.{◌≡◌, ⊤, [], ◌∷◌, ℕ, List, Option, option_map, if◌then◌else◌};
+ghost use Rattle.app_select.specs.Leading.{HasRoom, rest_with, selected_with};
+ghost use Rattle.app_select.specs.NextLeads.{SearchNextLeads, NextHasRoom};
+ghost use Rattle.app_select.specs.Selecting.{SelectedData};
+ghost use Rattle.emv_dict.specs.Progress.{Progress};
+ghost use Rattle.emv_dict.specs.Settings.{IsAidRow};
+ghost use Rattle.emv_dict.specs.declared.ending.Step.TheVariants as step;
+ghost use Rattle.emv_dict.specs.declared.purchase.Logged.{Logged};
+ghost use Rattle.env_map.specs.Entries.{Entries};
+ghost use Rattle.object_lists.specs.CardRead.{ReadCard};
+ghost use Rattle.object_lists.specs.Forms.{HasForms};
+ghost use Rattle.read_records.specs.Checked.{HasOptions};
+ghost use Rattle.read_records.specs.DataRead.{reading};
+ghost use Rattle.read_records.specs.Leading.{OptionsNextLeads, CourseNextLeads, IsBegun};
+ghost use Rattle.read_records.specs.Options.{Opened};
+ghost use Rattle.kernel.specs.Course.{Standing, card_step, cut_off};
+ghost use Rattle.kernel.specs.Dialogue.{dialogue, initiation, candidates_left, granted, restrictions};
+ghost use Rattle.kernel.specs.Fits.{OpeningFits, SelectFits, InitiateFits, ReadFits, NextFits, NextStands, selected_then};
+ghost use Rattle.kernel.specs.Marks.{Mark, moment};
+ghost use Rattle.kernel.specs.Reply.{Reply, CardSaid, CardGone};
+ghost use Rattle.kernel.specs.Stages.{OpeningStands, cut_of};
+ghost use Rattle.kernel.specs.Table.{IsDeal, deal_of};
+ghost use Rattle.kernel.specs.declared.table.Table.{Table};
+ghost use Rattle.kernel.specs.declared.stage.Opening.TheVariants as stage;
+
+use crate::stage::{AtInitiate, AtRead, AtSelect, Opening};
+use crate::table::Table;
+use crate::terminal::put_terminal;
+use app_select::{Choice, Search, SearchNext};
+use emv_dict::{AidRow, Ending, Step};
+use env_map::Env;
+use read_records::{Course, CourseNext, Initiating, OptionsNext};
+
+/// What follows before the card is read.
+#[derive(Drop)]
+pub(crate) enum OpeningNext<'s> {
+    /// It isn't read yet.
+    On(Opening<'s>),
+    /// It is read, in the application of this row.
+    Read(&'s AidRow),
+}
+
+/// A dialogue begins: no candidate is found, and no object is read.
+#[tactic(auto, unfolding(crate::specs::Dialogue::dialogue))]
+pub(crate) fn begin<'s>(table: &mut Table<'s>, objects: &Env) -> Opening<'s>
+    requires deal { IsDeal (deal_of table.old) }
+    requires candidates { table.old.candidates ≡ [] }
+    requires objects { objects.now ≡ [] }
+    requires moment { table.old.moment ≡ moment [] }
+    ensures stands { OpeningStands table.new objects.now result [] (dialogue (deal_of table.old)) }
+    ensures same { deal_of table.new ≡ deal_of table.old }
+    ensures fits { OpeningFits table.new objects.now result }
+{
+    let purchase = table.purchase;
+    let search = Search::begin(table.settings, purchase.confirm);
+    ask_search(table, objects, false, search)
+}
+
+/// The next SELECT is asked.
+fn ask_search<'s>(
+    table: &mut Table<'s>,
+    objects: &Env,
+    begun: bool,
+    search: Search<'s>,
+) -> Opening<'s>
+    requires room { HasRoom search table.old.candidates }
+    requires objects { objects.now ≡ [] }
+    requires moment { table.old.moment ≡ moment [] }
+    ensures stands { (log : List Logged) (course : List (List ℕ) → Progress SelectedData) (rest : List Reply → Standing Mark)
+        → ((later : List Reply) → rest later ≡ card_step (cut_off []) (if begun then step.Select else step.Power) step.Select [] course (selected_then (deal_of table.old)) log later)
+        → ((later : List (List ℕ)) → course later ≡ rest_with search.entry table.old.candidates later)
+        → OpeningStands table.new objects.now result log rest }
+    ensures same { deal_of table.new ≡ deal_of table.old }
+    ensures fits { OpeningFits table.new objects.now result }
+{
+    search.ask(&mut table.command);
+    Opening::Select(AtSelect { search, begun })
+}
+
+/// How application selection goes on behind an answer or a refusal.
+fn search_next<'s>(table: &mut Table<'s>, objects: &Env, next: SearchNext<'s>) -> Opening<'s>
+    requires deal { IsDeal (deal_of table.old) }
+    requires room { NextHasRoom next table.old.candidates }
+    requires objects { objects.now ≡ [] }
+    requires moment { table.old.moment ≡ moment [] }
+    ensures stands { (log : List Logged) (course : List (List ℕ) → Progress SelectedData) (rest : List Reply → Standing Mark)
+        → ((later : List Reply) → rest later ≡ card_step (cut_off []) step.Select step.Select [] course (selected_then (deal_of table.old)) log later)
+        → SearchNextLeads table.old.candidates course [] next.entry
+        → OpeningStands table.new objects.now result log rest }
+    ensures same { deal_of table.new ≡ deal_of table.old }
+    ensures fits { OpeningFits table.new objects.now result }
+{
+    match next {
+        SearchNext::Ask(search) => ask_search(table, objects, true, search),
+        SearchNext::Chosen(choice) => initiate(table, objects, choice),
+        SearchNext::Ended(cause) => Opening::Over(Ending::Terminated(Step::Select, cause)),
+    }
+}
+
+/// GET PROCESSING OPTIONS is asked.
+#[tactic(auto, unfolding(crate::specs::Dialogue::initiation))]
+fn initiate<'s>(table: &mut Table<'s>, objects: &Env, choice: Choice<'s>) -> Opening<'s>
+    requires deal { IsDeal (deal_of table.old) }
+    requires objects { objects.now ≡ [] }
+    requires moment { table.old.moment ≡ moment [] }
+    ensures stands { (log : List Logged) (rest : List Reply → Standing Mark)
+        → ((later : List Reply) → rest later
+        ≡ initiation (deal_of table.old) (selected_with choice.entry table.old.candidates) (candidates_left (deal_of table.old) table.old.candidates) log later)
+        → OpeningStands table.new objects.now result log rest }
+    ensures same { deal_of table.new ≡ deal_of table.old }
+    ensures fits { OpeningFits table.new objects.now result }
+{
+    put_terminal(
+        &mut table.terminal,
+        table.settings,
+        table.purchase,
+        choice.row(),
+        &table.moment,
+    );
+    match Initiating::begin_over(choice.pdol(), objects, &table.terminal) {
+        Ok(initiating) => {
+            initiating.ask(&mut table.command);
+            Opening::Initiate(AtInitiate { initiating, choice })
+        }
+        Err(cause) => Opening::Over(Ending::Terminated(Step::Initiate, cause)),
+    }
+}
+
+/// What follows the answer to GET PROCESSING OPTIONS.
+fn initiate_next<'s>(
+    table: &mut Table<'s>,
+    objects: &Env,
+    choice: Choice<'s>,
+    next: OptionsNext,
+) -> Opening<'s>
+    requires deal { IsDeal (deal_of table.old) }
+    requires refused { next ≡ OptionsNext.Refused → objects.now ≡ [] }
+    requires begun { IsBegun next → HasOptions objects.now }
+    requires moment { table.old.moment ≡ moment [] }
+    ensures stands { (log : List Logged) (course : List (List ℕ) → Progress (Option Opened)) (rest : List Reply → Standing Mark)
+        → ((later : List Reply) → rest later ≡ card_step (cut_off []) step.Initiate step.Initiate [] course
+        (granted (deal_of table.old) choice.entry.row (candidates_left (deal_of table.old) table.old.candidates)) log later)
+        → OptionsNextLeads objects.now course [] next
+        → OpeningStands table.new objects.now result log rest }
+    ensures same { deal_of table.new ≡ deal_of table.old }
+    ensures fits { OpeningFits table.new objects.now result }
+{
+    match next {
+        OptionsNext::Refused => {
+            let next = choice.refuse(&mut table.candidates);
+            search_next(table, objects, next)
+        }
+        OptionsNext::Read(course) => ask_record(table, objects, choice.row(), course),
+        OptionsNext::Ended(cause) => Opening::Over(Ending::Terminated(Step::Initiate, cause)),
+    }
+}
+
+/// The next record is asked for.
+fn ask_record<'s>(
+    table: &mut Table<'s>,
+    objects: &Env,
+    row: &'s AidRow,
+    course: Course,
+) -> Opening<'s>
+    requires options { HasOptions objects.now }
+    requires row { IsAidRow row.now }
+    requires moment { table.old.moment ≡ moment [] }
+    ensures stands { (log : List Logged) (begun : List (List ℕ) → Progress ReadCard) (rest : List Reply → Standing Mark)
+        → ((later : List Reply) → rest later ≡ card_step (cut_off []) step.Read step.Read [] begun
+        (λ card. restrictions (record { deal = deal_of table.old; row = row.entry.now; card = card })) log later)
+        → ((later : List (List ℕ)) → begun later ≡ reading (record { entries = objects.now; left = course }) later)
+        → OpeningStands table.new objects.now result log rest }
+    ensures same { deal_of table.new ≡ deal_of table.old }
+    ensures fits { OpeningFits table.new objects.now result }
+{
+    course.ask(&mut table.command);
+    Opening::Read(AtRead { course, row })
+}
+
+/// How reading goes on behind an answer.
+fn read_next<'s>(
+    table: &mut Table<'s>,
+    objects: &Env,
+    row: &'s AidRow,
+    next: CourseNext,
+) -> OpeningNext<'s>
+    requires options { HasOptions objects.now }
+    requires forms { next ≡ CourseNext.Done → HasForms objects.now }
+    requires row { IsAidRow row.now }
+    requires moment { table.old.moment ≡ moment [] }
+    ensures stands { (log : List Logged) (course : List (List ℕ) → Progress ReadCard) (rest : List Reply → Standing Mark)
+        → ((later : List Reply) → rest later ≡ card_step (cut_off []) step.Read step.Read [] course
+        (λ card. restrictions (record { deal = deal_of table.old; row = row.entry.now; card = card })) log later)
+        → CourseNextLeads objects.now course [] next
+        → NextStands table.new objects.now result log rest }
+    ensures same { deal_of table.new ≡ deal_of table.old }
+    ensures fits { NextFits table.new objects.now result }
+{
+    match next {
+        CourseNext::Ask(course) => OpeningNext::On(ask_record(table, objects, row, course)),
+        CourseNext::Done => OpeningNext::Read(row),
+        CourseNext::Ended(cause) => {
+            OpeningNext::On(Opening::Over(Ending::Terminated(Step::Read, cause)))
+        }
+    }
+}
+
+/// The card's answer in application selection.
+fn on_select<'s>(
+    table: &mut Table<'s>,
+    objects: &Env,
+    state: AtSelect<'s>,
+    reply: &[u8],
+) -> Opening<'s>
+    requires deal { IsDeal (deal_of table.old) }
+    requires fits { SelectFits table.old objects.now state }
+    ensures stands { (before now : List Logged) (rest : List Reply → Standing Mark)
+        → OpeningStands table.old objects.now (stage.Select state.entry) before rest
+        → OpeningStands table.new objects.now result now (λ later. rest (CardSaid reply.now now ∷ later)) }
+    ensures same { deal_of table.new ≡ deal_of table.old }
+    ensures fits { OpeningFits table.new objects.now result }
+{
+    let AtSelect { search, begun: _ } = state;
+    let next = search.take(&mut table.candidates, reply);
+    search_next(table, objects, next)
+}
+
+/// The card's answer to GET PROCESSING OPTIONS.
+fn on_initiate<'s>(
+    table: &mut Table<'s>,
+    objects: &mut Env,
+    state: AtInitiate<'s>,
+    reply: &[u8],
+) -> Opening<'s>
+    requires deal { IsDeal (deal_of table.old) }
+    requires fits { InitiateFits table.old objects.old }
+    ensures stands { (before now : List Logged) (rest : List Reply → Standing Mark)
+        → OpeningStands table.old objects.old (stage.Initiate state.entry) before rest
+        → OpeningStands table.new objects.new result now (λ later. rest (CardSaid reply.now now ∷ later)) }
+    ensures same { deal_of table.new ≡ deal_of table.old }
+    ensures fits { OpeningFits table.new objects.new result }
+{
+    let AtInitiate { initiating, choice } = state;
+    let next = initiating.take_into(objects, reply);
+    initiate_next(table, objects, choice, next)
+}
+
+/// The card's answer to READ RECORD.
+fn on_read<'s>(
+    table: &mut Table<'s>,
+    objects: &mut Env,
+    state: AtRead<'s>,
+    reply: &[u8],
+) -> OpeningNext<'s>
+    requires fits { ReadFits table.old objects.old state }
+    ensures stands { (before now : List Logged) (rest : List Reply → Standing Mark)
+        → OpeningStands table.old objects.old (stage.Read state.entry) before rest
+        → NextStands table.new objects.new result now (λ later. rest (CardSaid reply.now now ∷ later)) }
+    ensures same { deal_of table.new ≡ deal_of table.old }
+    ensures fits { NextFits table.new objects.new result }
+{
+    let AtRead { course, row } = state;
+    let next = course.take(objects, reply);
+    read_next(table, objects, row, next)
+}
+
+/// The card's answer before it is read.
+pub(crate) fn on_answer<'s>(
+    table: &mut Table<'s>,
+    objects: &mut Env,
+    state: Opening<'s>,
+    reply: &[u8],
+) -> OpeningNext<'s>
+    requires deal { IsDeal (deal_of table.old) }
+    requires fits { OpeningFits table.old objects.old state }
+    ensures stands { (before now : List Logged) (rest : List Reply → Standing Mark)
+        → OpeningStands table.old objects.old state.entry before rest
+        → NextStands table.new objects.new result now (λ later. rest (CardSaid reply.now now ∷ later)) }
+    ensures same { deal_of table.new ≡ deal_of table.old }
+    ensures fits { NextFits table.new objects.new result }
+{
+    match state {
+        Opening::Select(state) => OpeningNext::On(on_select(table, objects, state, reply)),
+        Opening::Initiate(state) => OpeningNext::On(on_initiate(table, objects, state, reply)),
+        Opening::Read(state) => on_read(table, objects, state, reply),
+        Opening::Over(ending) => OpeningNext::On(Opening::Over(ending)),
+    }
+}
+
+/// The card is gone: at the power-up where it has not answered yet, else in the step that waits.
+pub(crate) fn on_gone<'s>(state: Opening<'s>) -> Opening<'s>
+    ensures stands { (table : Table) (objects : Entries) (before : List Logged) (rest : List Reply → Standing Mark)
+        → OpeningStands table objects state.entry before rest
+        → OpeningStands table objects result before (λ later. rest (CardGone ∷ later)) }
+    ensures fits { (table : Table) (objects : Entries) → OpeningFits table objects result }
+{
+    match state {
+        Opening::Select(state) => Opening::Over(Ending::CutOff(step_of(&state))),
+        Opening::Initiate(_) => Opening::Over(Ending::CutOff(Step::Initiate)),
+        Opening::Read(_) => Opening::Over(Ending::CutOff(Step::Read)),
+        Opening::Over(ending) => Opening::Over(ending),
+    }
+}
+
+/// The step that is named where the card is gone in application selection.
+fn step_of(state: &AtSelect<'_>) -> Step
+    ensures { result ≡ cut_of state.now }
+{
+    if state.begun {
+        Step::Select
+    } else {
+        Step::Power
+    }
+}

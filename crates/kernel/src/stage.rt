@@ -1,0 +1,83 @@
+//! The stages of a dialogue.
+use app_select::{Choice, Search};
+use cvm_list::Verifying;
+use emv_dict::{AidRow, Ending, Kind};
+use read_records::{Course, Initiating};
+use risk_mgmt::Judging;
+use script_run::Running;
+
+/// Before the card is read.
+#[derive(Drop)]
+pub(crate) enum Opening<'s> {
+    Select(AtSelect<'s>),
+    Initiate(AtInitiate<'s>),
+    Read(AtRead<'s>),
+    Over(Ending),
+}
+
+#[derive(Drop)]
+pub(crate) struct AtSelect<'s> {
+    pub search: Search<'s>,
+    /// Whether the card has answered yet.
+    pub begun: bool,
+}
+
+#[derive(Drop)]
+pub(crate) struct AtInitiate<'s> {
+    pub initiating: Initiating,
+    pub choice: Choice<'s>,
+}
+
+#[derive(Drop)]
+pub(crate) struct AtRead<'s> {
+    pub course: Course,
+    pub row: &'s AidRow,
+}
+
+/// Once the card is read.
+#[derive(Drop)]
+pub(crate) enum Trading<'s> {
+    Verify(Verifying<'s>),
+    Risk(Judging),
+    /// The first GENERATE AC, which asks for this kind.
+    First(Kind),
+    /// The request to the host.
+    Online,
+    /// EXTERNAL AUTHENTICATE.
+    Authenticate,
+    /// A script before the second GENERATE AC.
+    ScriptBefore(AtScript),
+    Second(AtSecond),
+    /// A script behind it, which can't change the ending.
+    ScriptBehind(AtScript, Ending),
+    Over(Ending),
+}
+
+#[derive(Drop)]
+pub(crate) struct AtScript {
+    pub running: Running,
+    /// The index of the template behind this one.
+    pub next: usize,
+}
+
+/// The second GENERATE AC, which asks for this kind.
+#[derive(Drop)]
+pub(crate) struct AtSecond {
+    pub asked: Kind,
+    /// Whether the host's reply was read.
+    pub online: bool,
+}
+
+/// All stages.
+#[derive(Drop)]
+pub(crate) enum Stage<'s> {
+    Opening(Opening<'s>),
+    Trading(AtTrading<'s>),
+}
+
+#[derive(Drop)]
+pub(crate) struct AtTrading<'s> {
+    /// The terminal's row of the application.
+    pub row: &'s AidRow,
+    pub trading: Trading<'s>,
+}

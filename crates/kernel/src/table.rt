@@ -1,0 +1,86 @@
+//! What lies on the terminal's table while a dialogue goes on: what was dealt, what is known, and the
+//! buffers that are lent to the steps.
+ghost use Rattle.std.specs.Prelude.{◌≡◌, []};
+ghost use Rattle.emv_dict.specs.Settings.{IsSettings};
+ghost use Rattle.kernel.specs.Marks.{moment};
+ghost use Rattle.kernel.specs.Table.{deal_of};
+
+use crate::moment::{IssuerData, Moment};
+use apdu_core::Out;
+use app_select::Candidates;
+use arrayvec::ArrayVec;
+use auth_message::Message;
+use emv_dict::{Purchase, Settings};
+use env_map::Env;
+use std::marker::Model;
+
+/// The host's reply, kept for the steps behind it.
+#[derive(Drop)]
+pub(crate) struct HostReply {
+    /// The authorisation response code (8A).
+    pub code: [u8; 2],
+    /// The issuer authentication data (91).
+    pub issuer_data: Option<IssuerData>,
+    /// The script templates (71 and 72).
+    pub scripts: ArrayVec<u8, 1024>,
+}
+
+impl Model for HostReply {
+    ghost use Rattle.std.specs.Prelude.{option_map};
+    ghost use Rattle.auth_message.specs.Reply.{ReplyData};
+
+    ghost Value = { ReplyData };
+
+    ghost view = { λ r. record { code = r.code; auth = option_map (λ value. value.items) r.issuer_data; scripts = r.scripts.items } };
+
+    ghost use Rattle.kernel.specs.Scripts.{AreFew};
+
+    ghost invariant = { λ r. AreFew r.scripts.items };
+}
+
+/// The table. The map of the terminal's objects is filled anew for each list that is asked for.
+#[derive(Drop)]
+pub(crate) struct Table<'s> {
+    pub settings: &'s Settings,
+    pub purchase: &'s Purchase,
+    pub candidates: Candidates<'s>,
+    pub terminal: Env,
+    pub moment: Moment,
+    pub reply: HostReply,
+    pub command: Out,
+    pub message: Message,
+}
+
+impl<'s> Table<'s> {
+    /// The table before the first command: nothing is known yet.
+    pub(crate) fn new(settings: &'s Settings, purchase: &'s Purchase) -> Table<'s>
+        requires { IsSettings settings.now }
+        ensures deal { deal_of result ≡ record { settings = settings.now; purchase = purchase.now } }
+        ensures candidates { result.candidates ≡ [] }
+        ensures moment { result.moment ≡ moment [] }
+    {
+        Table {
+            settings,
+            purchase,
+            candidates: Candidates::new(settings),
+            terminal: Env::new(),
+            moment: Moment::new(),
+            reply: HostReply::none(),
+            command: ArrayVec::new(),
+            message: ArrayVec::new(),
+        }
+    }
+}
+
+impl HostReply {
+    /// No reply.
+    fn none() -> HostReply
+        ensures { result.scripts ≡ [] }
+    {
+        HostReply {
+            code: [0; 2],
+            issuer_data: None,
+            scripts: ArrayVec::new(),
+        }
+    }
+}

@@ -1,0 +1,89 @@
+//! The answer to GENERATE AC (EMV 4.3 Book 3 section 6.5.5.4).
+ghost use Rattle.std.specs.Prelude.{◌≡◌, ◌≤◌, length, false, Ok, Err, IfOk, MatchResult};
+ghost use Rattle.online_step.specs.Ac.{ac_of, allowed, is_refused as refusal_test};
+ghost use Rattle.online_step.specs.SeenAc.{seen_objects};
+
+use crate::objects::{Objects, read_objects};
+use apdu_core::read_response;
+use apdu_core::status::NO_ERROR;
+use arrayvec::ArrayVec;
+use ber_tlv::append;
+use emv_dict::{Cause, Kind};
+use std::marker::Model;
+
+/// An application cryptogram as the card gives it. Contracts see the issuer application data as a list.
+#[derive(Drop)]
+pub struct Ac {
+    /// The kind.
+    pub kind: Kind,
+    /// The application transaction counter (9F36).
+    pub counter: u16,
+    /// The cryptogram (9F26).
+    pub cryptogram: [u8; 8],
+    /// The issuer application data (9F10), at most 32 bytes, none where they are absent.
+    pub iad: ArrayVec<u8, 32>,
+}
+
+impl Model for Ac {
+    ghost use Rattle.online_step.specs.Ac.{AcData};
+
+    ghost Value = { AcData };
+
+    ghost view = { λ ac. record { kind = ac.kind; counter = ac.counter; cryptogram = ac.cryptogram; iad = ac.iad.items } };
+}
+
+/// Reads the answer to a GENERATE AC that asked for this kind, the first or the `second` time. It is refused
+/// by `Answer` where it is none, by its `Status`, by `Coding` where its data are neither an object 80 nor a
+/// template 77, by `Missing` and `Value` of an object (9F27, 9F36, 9F26, 9F10 in this order, or 80), and by
+/// `Kind` with the cryptogram information data, where the kind is above the one asked in the order TC,
+/// ARQC, AAC, or is ARQC the second time (EMV 4.3 Book 3 sections 6.5.5.4 and 10.8).
+#[tactic(auto, unfolding(crate::specs::Ac::ac_of))]
+pub fn read_ac(reply: &[u8], asked: Kind, second: bool) -> Result<Ac, Cause>
+    ensures exact { MatchResult result
+        (λ ac. ac_of reply.now asked second ≡ Ok ac)
+        (λ cause. ac_of reply.now asked second ≡ Err cause) }
+    ensures kind { IfOk result (λ ac. refusal_test ac.kind asked second ≡ false) }
+{
+    let Ok(response) = read_response(reply) else {
+        return Err(Cause::Answer);
+    };
+    if response.status != NO_ERROR {
+        return Err(Cause::Status(response.status));
+    }
+    match read_objects(response.body) {
+        Ok(objects) => allowed(&objects, asked, second),
+        Err(cause) => Err(cause),
+    }
+}
+
+/// What the objects give, where their kind may be answered.
+fn allowed(objects: &Objects, asked: Kind, second: bool) -> Result<Ac, Cause>
+    requires { length objects.now.iad.now ≤ 32 }
+    ensures exact { MatchResult result
+        (λ ac. allowed asked second (seen_objects objects.now) ≡ Ok ac)
+        (λ cause. allowed asked second (seen_objects objects.now) ≡ Err cause) }
+    ensures kind { IfOk result (λ ac. refusal_test ac.kind asked second ≡ false) }
+{
+    let Some(kind) = Kind::of(objects.information) else {
+        return Err(Cause::Kind(objects.information));
+    };
+    if is_refused(kind, asked, second) {
+        return Err(Cause::Kind(objects.information));
+    }
+    let [high, low] = objects.counter;
+    let mut iad = ArrayVec::new();
+    append(&mut iad, objects.iad);
+    Ok(Ac {
+        kind,
+        counter: u16::from(high) * 256 + u16::from(low),
+        cryptogram: objects.cryptogram,
+        iad,
+    })
+}
+
+/// Whether a card may not answer this kind.
+fn is_refused(kind: Kind, asked: Kind, second: bool) -> bool
+    ensures { result ≡ refusal_test kind asked second }
+{
+    kind.is_above(asked) || (second && kind == Kind::Arqc)
+}

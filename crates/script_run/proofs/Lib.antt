@@ -1,0 +1,4 @@
+mod Form
+mod Bounds
+mod Stages
+mod Templates
