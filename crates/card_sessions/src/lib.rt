@@ -39,3 +39,6 @@ pub fn turned_off<'i, P: Pages>(card: Card<'i, P>) -> P
 {
     card.power_off()
 }
+
+#[cfg(test)]
+mod tests;
