@@ -46,3 +46,11 @@ holds_others accounts records served presentments reversals holds = record { val
 pub online_known : (keys : HostKeys) (account : Option AccountData) (books : Books) (f : RequestData) → is_some (request_reply keys account books f).auth ≡ true → (a : AccountData) × (account ≡ Some a)
 online_known keys None books f is = cc
 online_known keys (Some a) books f is = (a, refl)
+
+pub on_err : {T E : Type 0} {P : Type 0} → (r : Result T E) → P → OnErr r P
+on_err (Ok x) p = tt
+on_err (Err e) p = p
+
+pub on_err_map : {T E : Type 0} {P Q : Type 0} → (r : Result T E) → (P → Q) → OnErr r P → OnErr r Q
+on_err_map (Ok x) f p = tt
+on_err_map (Err e) f p = f p

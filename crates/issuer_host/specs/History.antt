@@ -1,6 +1,7 @@
 -- The host from the whole list of messages (own): what was kept, the reply to the next message, and the
 -- balances.
-use Rattle.std.specs.Prelude.{◌≡◌, ℕ, ℤ, List, [], ◌∷◌, ◌++◌, Option, Some, None, Result, Ok, Err}
+use Rattle.std.specs.Option.{is_none}
+use Rattle.std.specs.Prelude.{◌≡◌, ℕ, ℤ, Bool, true, false, List, [], ◌∷◌, ◌++◌, Option, Some, None, Result, Ok, Err}
 use Rattle.auth_message.specs.Message.{message_of}
 use Rattle.auth_message.specs.declared.fault.MessageFault.{MessageFault}
 use Rattle.auth_message.specs.declared.message.Incoming.{Incoming}
@@ -56,3 +57,10 @@ pub record HostData : Type 0 where
 -- the host has had these messages
 pub record HostStands (host : HostData) (messages : List (List ℕ)) : Type 0 where
   pub books : host.books ≡ books_of host.keys host.accounts messages
+
+-- no message of this kind and transaction was kept
+abbrev pub is_new : Books → Result Incoming MessageFault → Bool
+is_new books (Err fault) = false
+is_new books (Ok (Request f)) = is_none (kept_at (request_key f) books.requests)
+is_new books (Ok (Present f)) = is_none (kept_at (present_key f) books.presentments)
+is_new books (Ok (Reverse f)) = is_none (kept_at (reversal_key f) books.reversals)

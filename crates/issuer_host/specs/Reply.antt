@@ -1,5 +1,5 @@
 -- The host's reply to a message, from the messages that it has kept (own).
-use Rattle.std.specs.Prelude.{ℕ, pos, int_lt, ◌-ℤ◌, Bool, true, false, not, ◌&&◌, ◌||◌, if◌then◌else◌, List, [], slice_index, Option, Some, None, Result, Ok, Err}
+use Rattle.std.specs.Prelude.{ℕ, pos, int_lt, ◌-ℤ◌, Bool, true, false, not, ◌&&◌, ◌||◌, if◌then◌else◌, List, [], ◌++◌, slice_index, Option, Some, None, Result, Ok, Err}
 use Rattle.std.specs.Int.{from_be_bytes, w16}
 use Rattle.std.specs.List.{list_any}
 use Rattle.std.specs.Option.{is_some}
@@ -155,9 +155,9 @@ script_keys keys f = record {
 abbrev pub scripts_for : HostKeys → AccountData → Books → RequestData → List ℕ
 scripts_for keys account books f = (if is_served account.pan books then [] else all_script_bytes (script_keys keys f) account.scripts)
 
+-- the response cryptogram of the request's with this code, and the code (EMV 4.3 Book 2 section 8.2.1)
 abbrev pub response_of : HostKeys → RequestData → Code → List ℕ
-response_of keys f code =
-    arpc_of (session_of keys.ac (request_key f)) f.t9f26 (code_bytes code)
+response_of keys f code = arpc_of (session_of keys.ac (request_key f)) f.t9f26 (code_bytes code) ++ code_bytes code
 
 -- the reply to a genuine request with this decision
 abbrev pub online_reply : HostKeys → AccountData → Books → RequestData → Code → Said

@@ -9,10 +9,10 @@ ghost use Rattle.auth_message.specs.declared.message.Incoming.TheVariants.{Reque
 ghost use Rattle.host_ledger.specs.Accounts.{RefusesAccounts, AreDistinctBelow};
 ghost use Rattle.issuer_host.specs.Account.{IsAccount};
 ghost use Rattle.issuer_host.specs.Balance.{balance_in, account_of};
-ghost use Rattle.issuer_host.specs.Books.{no_books};
-ghost use Rattle.issuer_host.specs.History.{HostStands, host_reply, balance_after, kept_in};
+ghost use Rattle.issuer_host.specs.Books.{kept_at};
+ghost use Rattle.issuer_host.specs.History.{is_new, HostStands, host_reply, balance_after, kept_in};
 ghost use Rattle.issuer_host.specs.Holds.{place_in, opening};
-ghost use Rattle.issuer_host.specs.Reply.{reply_in};
+ghost use Rattle.issuer_host.specs.Reply.{reply_in, request_key as key_of_request, present_key as key_of_present, reversal_key as key_of_reversal};
 
 use crate::account::Account;
 use crate::accounts::{none_served, openings, place_of, set_flag};
@@ -93,6 +93,8 @@ impl<'a> Host<'a> {
         ensures keys { self.new.keys ≡ self.old.keys }
         ensures accounts { self.new.accounts ≡ self.old.accounts }
         ensures err { OnErr result (self.new ≡ self.old) }
+        // Only the first message of its kind and transaction can want memory.
+        ensures memory { OnErr result (is_new self.old.books (message_of message.now) ≡ true) }
     {
         let incoming = match read_message(message) {
             Ok(incoming) => incoming,
@@ -131,6 +133,7 @@ impl<'a> Host<'a> {
         ensures keys { self.new.keys ≡ self.old.keys }
         ensures accounts { self.new.accounts ≡ self.old.accounts }
         ensures err { OnErr result (self.new ≡ self.old) }
+        ensures memory { OnErr result (kept_at (key_of_request fields.now) self.old.books.requests ≡ None) }
     {
         let key = request_key(fields);
         if let Some(kept) = self.records.request(&key) {
@@ -168,6 +171,7 @@ impl<'a> Host<'a> {
         ensures keys { self.new.keys ≡ self.old.keys }
         ensures accounts { self.new.accounts ≡ self.old.accounts }
         ensures err { OnErr result (self.new ≡ self.old) }
+        ensures memory { OnErr result (kept_at (key_of_present fields.now) self.old.books.presentments ≡ None) }
     {
         let key = present_key(fields);
         if let Some(kept) = self.records.presentment(&key) {
@@ -199,6 +203,7 @@ impl<'a> Host<'a> {
         ensures keys { self.new.keys ≡ self.old.keys }
         ensures accounts { self.new.accounts ≡ self.old.accounts }
         ensures err { OnErr result (self.new ≡ self.old) }
+        ensures memory { OnErr result (kept_at (key_of_reversal fields.now) self.old.books.reversals ≡ None) }
     {
         let key = reversal_key(fields);
         if let Some(kept) = self.records.reversal(&key) {

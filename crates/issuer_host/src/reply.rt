@@ -1,5 +1,5 @@
 //! The host's replies to messages of which none of their kind and transaction was kept.
-ghost use Rattle.std.specs.Prelude.{◌≡◌, ◌≤◌, ◌-ℤ◌, pos, length, Some, [], if◌then◌else◌, option_map, IfSome, false};
+ghost use Rattle.std.specs.Prelude.{◌≡◌, ◌++◌, ◌≤◌, ◌-ℤ◌, pos, length, Some, [], if◌then◌else◌, option_map, IfSome, false};
 ghost use Rattle.std.specs.Option.{is_some};
 ghost use Rattle.auth_message.specs.Reply.{AreScripts};
 ghost use Rattle.issuer_host.specs.Account.{IsAccount};
@@ -15,7 +15,9 @@ use crate::keys::HostKeys;
 use crate::records::Records;
 use crate::script::{ScriptBytes, ScriptKeys, write_scripts};
 use app_cryptogram::arpc_one;
+use arrayvec::ArrayVec;
 use auth_message::{Message, PresentFields, RequestFields, ReversalFields, write_reply};
+use ber_tlv::append;
 use card_keys::{master_key, session_script};
 use host_ledger::Key;
 
@@ -88,8 +90,22 @@ fn online_reply(
 {
     let scripts = scripts(keys, account, served, records, key, fields);
     let cryptogram = fields.t9f26;
-    let response = arpc_one(&session(&keys.ac, key), cryptogram, code.bytes());
+    let response = joined(
+        arpc_one(&session(&keys.ac, key), cryptogram, code.bytes()),
+        code.bytes(),
+    );
     write_reply(code.bytes(), Some(&response), &scripts, out);
+}
+
+/// The issuer authentication data: the response cryptogram and the code.
+fn joined(cryptogram: [u8; 8], code: [u8; 2]) -> ArrayVec<u8, 10>
+    ensures bytes { result.items ≡ cryptogram ++ code }
+    ensures sized { length result.items ≡ 10 }
+{
+    let mut bytes = ArrayVec::new();
+    append(&mut bytes, &cryptogram);
+    append(&mut bytes, &code);
+    bytes
 }
 
 /// The account's scripts, where no reply carried them yet.

@@ -14,7 +14,7 @@ use Rattle.issuer_host.specs.Reply.{present_key, present_reply, new_present, kep
 use Rattle.issuer_host.proofs.Approved.{present_open, some_where}
 use Rattle.issuer_host.proofs.Hosting.{known_balance}
 use Rattle.issuer_host.proofs.Places.{has_pan}
-use Rattle.issuer_host.proofs.Steps.{got_some, got_none, kept_made, on_ok, on_ok_map, holds_after, holds_others}
+use Rattle.issuer_host.proofs.Steps.{got_some, got_none, kept_made, on_ok, on_ok_map, holds_after, holds_others, on_err}
 use Rattle.issuer_host.proofs.host.Host.answer_presentment.Goals as goal
 
 pub returns-in-Some-clause-reply : goal.returns-in-Some-clause-reply
@@ -96,3 +96,23 @@ returns-clause-books c =
     on_ok_map c.keep_presentment.result (λ is. ap (λ (x : RecordsData). x.books) is ∙ ap (λ n. let b : Books = record { requests = i.records.books.requests; presentments = i.records.books.presentments ++ n ∷ []; reversals = i.records.books.reversals } in b) made
     ∙ ap (λ (h : HostData). let b : Books = record { requests = h.books.requests; presentments = h.books.presentments ++ (new_present h.keys h.accounts h.books c.args.message.now f) ∷ []; reversals = h.books.reversals } in b) c.self.view_is
     ∙ ap (λ r. let b : Books = record { requests = s.books.requests; presentments = with_first r (new_present s.keys s.accounts s.books c.args.message.now f) s.books.presentments; reversals = s.books.reversals } in b) (sym none_is)) c.keep_presentment.ensures.ok
+
+pub returns-in_err-kept-clause-memory : goal.returns-in_err-kept-clause-memory
+returns-in_err-kept-clause-memory c =
+    let s = c.args.self.now in
+    let i = c.self.inside in
+    let f = c.args.fields.now in
+    let there : option_map (λ k. kept_message c.present_key-key.result k.now) c.presentment.result ≡ kept_at (present_key f) s.books.presentments =
+    c.presentment.ensures ∙ ap (λ k. kept_at k i.records.books.presentments) c.present_key-key.ensures ∙ ap (λ (h : HostData). kept_at (present_key f) h.books.presentments) c.self.view_is in
+    let none_is = got_none c.present_key-key.result c.presentment.result (kept_at (present_key f) s.books.presentments) there c.in_default.is in
+    on_err c.from_residual.result none_is
+
+pub returns-clause-memory : goal.returns-clause-memory
+returns-clause-memory c =
+    let s = c.args.self.now in
+    let i = c.self.inside in
+    let f = c.args.fields.now in
+    let there : option_map (λ k. kept_message c.present_key-key.result k.now) c.presentment.result ≡ kept_at (present_key f) s.books.presentments =
+    c.presentment.ensures ∙ ap (λ k. kept_at k i.records.books.presentments) c.present_key-key.ensures ∙ ap (λ (h : HostData). kept_at (present_key f) h.books.presentments) c.self.view_is in
+    let none_is = got_none c.present_key-key.result c.presentment.result (kept_at (present_key f) s.books.presentments) there c.in_default.is in
+    on_err c.keep_presentment.result none_is

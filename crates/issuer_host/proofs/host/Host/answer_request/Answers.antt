@@ -13,7 +13,7 @@ use Rattle.issuer_host.specs.Keeping.{kept_message}
 use Rattle.issuer_host.specs.Records.{RecordsData}
 use Rattle.issuer_host.specs.Reply.{request_key, request_reply, new_request, kept_with, again_or, said_bytes}
 use Rattle.issuer_host.proofs.Hosting.{holds_plain, holds_online}
-use Rattle.issuer_host.proofs.Steps.{got_some, got_none, kept_made, online_known}
+use Rattle.issuer_host.proofs.Steps.{got_some, got_none, kept_made, online_known, on_err}
 use Rattle.issuer_host.proofs.host.Host.answer_request.Goals as goal
 
 pub returns-in-Some-clause-reply : goal.returns-in-Some-clause-reply
@@ -128,3 +128,23 @@ invariant_of-self-then-answered c =
     subst (Holds i.accounts.now c.keep_request.new.self) (sym flags)
     (subst (λ r. Holds i.accounts.now r (with_flag i.served.items (place_in new.key.pan i.accounts.now))) (sym c.in_ok-keep_request.ensures.ok)
     (holds_online i.accounts.now i.records i.served.items new known.0 c.self.invariant (c.in_ok-kept.ensures.online ∙ c.if-answered.true) account))
+
+pub returns-in_err-kept-clause-memory : goal.returns-in_err-kept-clause-memory
+returns-in_err-kept-clause-memory c =
+    let s = c.args.self.now in
+    let i = c.self.inside in
+    let f = c.args.fields.now in
+    let there : option_map (λ k. kept_message c.request_key-key.result k.now) c.request.result ≡ kept_at (request_key f) s.books.requests =
+    c.request.ensures ∙ ap (λ k. kept_at k i.records.books.requests) c.request_key-key.ensures ∙ ap (λ (h : HostData). kept_at (request_key f) h.books.requests) c.self.view_is in
+    let none_is = got_none c.request_key-key.result c.request.result (kept_at (request_key f) s.books.requests) there c.in_default.is in
+    on_err c.from_residual.result none_is
+
+pub returns-in_err-keep_request-clause-memory : goal.returns-in_err-keep_request-clause-memory
+returns-in_err-keep_request-clause-memory c =
+    let s = c.args.self.now in
+    let i = c.self.inside in
+    let f = c.args.fields.now in
+    let there : option_map (λ k. kept_message c.request_key-key.result k.now) c.request.result ≡ kept_at (request_key f) s.books.requests =
+    c.request.ensures ∙ ap (λ k. kept_at k i.records.books.requests) c.request_key-key.ensures ∙ ap (λ (h : HostData). kept_at (request_key f) h.books.requests) c.self.view_is in
+    let none_is = got_none c.request_key-key.result c.request.result (kept_at (request_key f) s.books.requests) there c.in_default.is in
+    on_err c.from_residual-in_err-keep_request.result none_is

@@ -12,7 +12,7 @@ use Rattle.issuer_host.specs.Reply.{reversal_key, reversal_reply, new_reversal, 
 use Rattle.issuer_host.proofs.Approved.{reversal_open, some_where}
 use Rattle.issuer_host.proofs.Hosting.{known_balance}
 use Rattle.issuer_host.proofs.Places.{has_pan}
-use Rattle.issuer_host.proofs.Steps.{got_some, got_none, kept_made, on_ok, on_ok_map, holds_after, holds_others}
+use Rattle.issuer_host.proofs.Steps.{got_some, got_none, kept_made, on_ok, on_ok_map, holds_after, holds_others, on_err}
 use Rattle.issuer_host.proofs.host.Host.answer_reversal.Goals as goal
 
 pub returns-in-Some-clause-reply : goal.returns-in-Some-clause-reply
@@ -91,3 +91,23 @@ returns-clause-books c =
     on_ok_map c.keep_reversal.result (λ is. ap (λ (x : RecordsData). x.books) is ∙ ap (λ n. let b : Books = record { requests = i.records.books.requests; presentments = i.records.books.presentments; reversals = i.records.books.reversals ++ n ∷ [] } in b) made
     ∙ ap (λ (h : HostData). let b : Books = record { requests = h.books.requests; presentments = h.books.presentments; reversals = h.books.reversals ++ (new_reversal h.accounts h.books c.args.message.now f) ∷ [] } in b) c.self.view_is
     ∙ ap (λ r. let b : Books = record { requests = s.books.requests; presentments = s.books.presentments; reversals = with_first r (new_reversal s.accounts s.books c.args.message.now f) s.books.reversals } in b) (sym none_is)) c.keep_reversal.ensures.ok
+
+pub returns-in_err-kept-clause-memory : goal.returns-in_err-kept-clause-memory
+returns-in_err-kept-clause-memory c =
+    let s = c.args.self.now in
+    let i = c.self.inside in
+    let f = c.args.fields.now in
+    let there : option_map (λ k. kept_message c.reversal_key-key.result k.now) c.reversal.result ≡ kept_at (reversal_key f) s.books.reversals =
+    c.reversal.ensures ∙ ap (λ k. kept_at k i.records.books.reversals) c.reversal_key-key.ensures ∙ ap (λ (h : HostData). kept_at (reversal_key f) h.books.reversals) c.self.view_is in
+    let none_is = got_none c.reversal_key-key.result c.reversal.result (kept_at (reversal_key f) s.books.reversals) there c.in_default.is in
+    on_err c.from_residual.result none_is
+
+pub returns-clause-memory : goal.returns-clause-memory
+returns-clause-memory c =
+    let s = c.args.self.now in
+    let i = c.self.inside in
+    let f = c.args.fields.now in
+    let there : option_map (λ k. kept_message c.reversal_key-key.result k.now) c.reversal.result ≡ kept_at (reversal_key f) s.books.reversals =
+    c.reversal.ensures ∙ ap (λ k. kept_at k i.records.books.reversals) c.reversal_key-key.ensures ∙ ap (λ (h : HostData). kept_at (reversal_key f) h.books.reversals) c.self.view_is in
+    let none_is = got_none c.reversal_key-key.result c.reversal.result (kept_at (reversal_key f) s.books.reversals) there c.in_default.is in
+    on_err c.keep_reversal.result none_is
