@@ -11,3 +11,4 @@ pub mod Stages
 pub mod Fits
 pub mod Kernel
 pub mod Tally
+pub mod Sound
