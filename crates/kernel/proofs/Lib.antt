@@ -10,3 +10,5 @@ pub mod Opened
 mod Deciding
 mod Requested
 mod Scripting
+mod Keeping
+mod Replying

@@ -237,8 +237,11 @@ fn fail_behind(moment: &mut Moment, reply: &HostReply, index: usize)
         → moment.new ≡ moment_of (all_failed (drop index (templates 0x72 reply.now.scripts)) marks) }
     ensures room { length moment.new.scripts ≤ 8 }
 {
-    if template_of(reply, BEHIND, index).is_some() {
-        moment.has_run_behind(NOT_RUN);
-        fail_behind(moment, reply, index + 1);
+    match template_of(reply, BEHIND, index) {
+        Some(_) => {
+            moment.has_run_behind(NOT_RUN);
+            fail_behind(moment, reply, index + 1);
+        }
+        None => {}
     }
 }
