@@ -11,7 +11,7 @@ use Rattle.emv_dict.specs.declared.purchase.Logged.{Logged}
 use Rattle.online_step.specs.Ac.{AcData}
 use Rattle.online_step.specs.Authenticate.{authenticate_command, authenticated, verdict_of, after_verdict}
 use Rattle.kernel.specs.Course.{Standing, Rest, over, card_step, cut_off, host_step}
-use Rattle.kernel.specs.Dialogue.{Trade, authentication, has_authentication, issuer_scripts, replied, reply_read, unable_online, scripts_behind, decision, left_script, all_failed}
+use Rattle.kernel.specs.Dialogue.{Trade, authentication, authentication_by, has_authentication, issuer_scripts, replied, reply_read, unable_online, scripts_behind, decision, left_script, all_failed}
 use Rattle.kernel.specs.Marks.{Mark, HasReply, HasSecond, HasAuthenticated, HasRunBehind, moment, latest, card_of}
 use Rattle.kernel.specs.Reply.{Reply, CardGone, HostSaid, HostSilent}
 use Rattle.kernel.specs.Scripts.{templates, kept}
@@ -61,10 +61,12 @@ pub asks_authentication : (t t2 : Table) → (trade : Trade) → (marks : List M
 unfolding authentication
 asks_authentication t t2 trade marks log rest value begins auth has command kept_reply kept_moment = record {
   marks = marks;
-  passed = λ later. begins.passed later ∙ rw (auth, has)
-      (same (cut_off marks) step.Authenticate step.Authenticate marks (authenticated value) (authenticating t2.command.items) (λ good. issuer_scripts trade t.reply (HasAuthenticated good ∷ marks)) log later
+  passed = λ later. begins.passed later
+      ∙ ap (λ (found : Option (List ℕ)). authentication_by trade t.reply marks (has_authentication trade.card) found log later) auth
+      ∙ ap (λ (test : Bool). authentication_by trade t.reply marks test (Some value) log later) has
+      ∙ same (cut_off marks) step.Authenticate step.Authenticate marks (authenticated value) (authenticating t2.command.items) (λ good. issuer_scripts trade t.reply (HasAuthenticated good ∷ marks)) log later
           (λ at one two equal. refl) (authenticating_same value t2.command.items command)
-      ∙ ap (λ (reply : ReplyData). card_step (cut_off marks) step.Authenticate step.Authenticate marks (authenticating t2.command.items) (λ good. issuer_scripts trade reply (HasAuthenticated good ∷ marks)) log later) (sym kept_reply));
+      ∙ ap (λ (reply : ReplyData). card_step (cut_off marks) step.Authenticate step.Authenticate marks (authenticating t2.command.items) (λ good. issuer_scripts trade reply (HasAuthenticated good ∷ marks)) log later) (sym kept_reply);
   tied = kept_moment ∙ begins.tied;
   read = begins.read;
   shows = tt;
