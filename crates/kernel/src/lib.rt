@@ -8,6 +8,7 @@ pub mod kernel;
 mod moment;
 mod opening;
 mod online;
+mod replies;
 mod scripts;
 mod stage;
 mod table;
