@@ -6,3 +6,4 @@ pub mod Again
 pub mod Inside
 pub mod Scripts
 pub mod ReplyAgain
+pub mod Templates

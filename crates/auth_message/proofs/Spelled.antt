@@ -58,7 +58,7 @@ written_index tag value rest positive =
     omega arith
 
 -- one field, and what stands behind it
-field_step : (front rest bytes : List ℕ) (tag : ℕ) (value : List ℕ) → is_tag tag ≡ true → bytes ≡ front ++ (written tag value ++ rest)
+pub field_step : (front rest bytes : List ℕ) (tag : ℕ) (value : List ℕ) → is_tag tag ≡ true → bytes ≡ front ++ (written tag value ++ rest)
     → NextItem bytes (length front) (record { tag = tag; value = value; start = length front }) (length front + length (written tag value))
 field_step front rest bytes tag value is same =
     let facts = both (is_readable tag) _ is in
@@ -88,7 +88,7 @@ read_fields (field ∷ fields) front rest bytes items are same behind =
     ∙ ap (then_left (record { tag = field.0; value = field.1; start = length front })) others
     ∙ ap (λ n. Ok (record { tag = field.0; value = field.1; start = length front } ∷ (placed n fields ++ items))) next
 
-take_whole : (bytes : List ℕ) → take (length bytes) bytes ≡ bytes
+pub take_whole : (bytes : List ℕ) → take (length bytes) bytes ≡ bytes
 take_whole [] = refl
 take_whole (byte ∷ bytes) = ap (λ b. byte ∷ b) (take_whole bytes)
 

@@ -1,6 +1,8 @@
 -- Fields that reading accepts, their lengths aside that their types fix (own).
 use Rattle.std.specs.Prelude.{ℕ, ◌≤◌, IsTrue, IfSome, List, length}
 use Rattle.emv_dict.specs.Pan.{HasPanLength}
+use Rattle.auth_message.specs.declared.message.Incoming.{Incoming}
+use Rattle.auth_message.specs.declared.message.Incoming.TheVariants.{Request, Present, Reverse}
 use Rattle.auth_message.specs.declared.reversal.ReversalFields.{ReversalFields}
 use Rattle.auth_message.specs.Data.{RequestData, PresentData}
 use Rattle.auth_message.specs.Field.{are_digits}
@@ -33,3 +35,9 @@ pub record IsReversal (f : ReversalFields) : Type 0 where
   pub sequence_number : IfSome f.t5f34 AreDigits
   pub amount : AreDigits f.t9f02
   pub currency : AreDigits f.t5f2a
+
+-- the amount of a message is twelve decimal digits
+abbrev pub HasAmount : Incoming → Type 0
+HasAmount (Request f) = AreDigits f.t9f02
+HasAmount (Present f) = AreDigits f.t9f02
+HasAmount (Reverse f) = AreDigits f.t9f02

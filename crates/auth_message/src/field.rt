@@ -1,4 +1,5 @@
-ghost use Rattle.std.specs.Prelude.{◌≡◌, MatchResult, IfOk, length};
+ghost use Rattle.std.specs.Prelude.{◌≡◌, MatchResult, IfOk, length, ◌≤◌, true};
+ghost use Rattle.auth_message.specs.Accepted.{AreDigits};
 ghost use Rattle.auth_message.specs.Field.{are_digits as all_digits, fixed_value as value_of_fixed, some_value as value_of_some, pan_or_wrong};
 ghost use Rattle.emv_dict.specs.Pan.{pan_of};
 ghost use Rattle.std.specs.Prelude.{Ok, Err};
@@ -21,7 +22,8 @@ pub fn fixed_value<const N: usize>(
     numeric: bool,
     value: &[u8],
 ) -> Result<[u8; N], MessageFault>
-    ensures { result ≡ value_of_fixed N numeric tag value.now }
+    ensures value { result ≡ value_of_fixed N numeric tag value.now }
+    ensures digits { IfOk result (λ bytes. numeric ≡ true → AreDigits bytes) }
 {
     if value.len() != N {
         return Err(MessageFault::Value(Tag(tag)));
@@ -37,8 +39,9 @@ pub fn fixed_value<const N: usize>(
 /// The value of a field of `least` to `most` bytes.
 #[tactic(auto, unfolding(crate::specs::Field::some_value))]
 pub fn some_value(tag: u32, least: usize, most: usize, value: &[u8]) -> Result<&[u8], MessageFault>
-    ensures { MatchResult result (λ v. value_of_some least most tag value.now ≡ Ok v.now)
+    ensures value { MatchResult result (λ v. value_of_some least most tag value.now ≡ Ok v.now)
         (λ fault. value_of_some least most tag value.now ≡ Err fault) }
+    ensures sized { IfOk result (λ v. (least ≤ length v.now) × (length v.now ≤ most)) }
 {
     if value.len() < least || most < value.len() {
         return Err(MessageFault::Value(Tag(tag)));

@@ -1,7 +1,8 @@
-ghost use Rattle.std.specs.Prelude.{◌≡◌, ◌≤◌, ◌==◌, ◌||◌, None, take, length, option_map, Ok, Err, MatchResult, IfSome, slice_range};
+ghost use Rattle.std.specs.Prelude.{◌≡◌, ◌≤◌, ◌==◌, ◌||◌, None, take, length, option_map, Ok, Err, MatchResult, IfSome, IfOk, slice_range, true};
 ghost use Rattle.ber_tlv.specs.Item.{item_at};
 ghost use Rattle.ber_tlv.specs.Left.{items_behind, fault_of};
 ghost use Rattle.ber_tlv.specs.Seen.{then_rest, seen};
+ghost use Rattle.auth_message.specs.Accepted.{AreDigits};
 ghost use Rattle.auth_message.specs.Fields.{given, behind, wanted as wanted_at, fixed_at, some_at, pan_at, fixed_if_there, ended};
 ghost use Rattle.auth_message.specs.Reply.{auth_at, scripts_at, templates, behind_templates};
 ghost use Rattle.auth_message.specs.Script.{next_script, behind_script, end_of_few};
@@ -99,6 +100,7 @@ impl<'a> Fields<'a> {
         numeric: bool,
     ) -> Result<[u8; N], MessageFault>
         ensures value { MatchResult result (λ v. fixed_at N numeric tag self.old.left ≡ Ok (v, self.new.left)) (λ fault. fixed_at N numeric tag self.old.left ≡ Err fault) }
+        ensures digits { IfOk result (λ v. numeric ≡ true → AreDigits v) }
         ensures bytes { self.new.bytes ≡ self.old.bytes }
     {
         let value = self.wanted(tag)?;
@@ -148,6 +150,7 @@ impl<'a> Fields<'a> {
     #[tactic(auto, unfolding(crate::specs::Reply::auth_at))]
     pub fn auth(&mut self) -> Result<Option<&'a [u8]>, MessageFault>
         ensures value { MatchResult result (λ v. auth_at self.old.left ≡ Ok (option_map (λ b. b.now) v, self.new.left)) (λ fault. auth_at self.old.left ≡ Err fault) }
+        ensures sized { IfOk result (λ v. IfSome v (λ b. (8 ≤ length b.now) × (length b.now ≤ 16))) }
         ensures bytes { self.new.bytes ≡ self.old.bytes }
     {
         let Some(value) = self.take(0x91) else {
@@ -160,7 +163,8 @@ impl<'a> Fields<'a> {
     /// The bytes of the scripts that come next, from the first one's start to the last one's end: at most
     /// 8 scripts of at most 1,024 bytes together.
     pub fn scripts(&mut self) -> Result<&'a [u8], MessageFault>
-        ensures { MatchResult result (λ v. scripts_at self.old.bytes self.old.left ≡ Ok (v.now, self.new.left)) (λ fault. scripts_at self.old.bytes self.old.left ≡ Err fault) }
+        ensures value { MatchResult result (λ v. scripts_at self.old.bytes self.old.left ≡ Ok (v.now, self.new.left)) (λ fault. scripts_at self.old.bytes self.old.left ≡ Err fault) }
+        ensures short { IfOk result (λ v. length v.now ≤ 1024) }
     {
         let too_many = MessageFault::Value(Tag(0x71));
         let Some((start, end)) = self.script() else {

@@ -1,4 +1,5 @@
-ghost use Rattle.std.specs.Prelude.{◌≡◌, MatchResult, Ok, Err};
+ghost use Rattle.std.specs.Prelude.{◌≡◌, MatchResult, IfOk, Ok, Err};
+ghost use Rattle.auth_message.specs.Accepted.{HasAmount};
 ghost use Rattle.auth_message.specs.Message.{message_of};
 
 use crate::fault::MessageFault;
@@ -19,7 +20,9 @@ pub enum Incoming<'a> {
 /// fault: those of the coding of the message, then of its value, then another tag, then an item beside
 /// it, then its fields in their order, then an item behind the last one.
 pub fn read_message(bytes: &[u8]) -> Result<Incoming<'_>, MessageFault>
-    ensures { MatchResult result (λ message. message_of bytes.now ≡ Ok message) (λ fault. message_of bytes.now ≡ Err fault) }
+    ensures value { MatchResult result (λ message. message_of bytes.now ≡ Ok message) (λ fault. message_of bytes.now ≡ Err fault) }
+    // The amount is twelve decimal digits.
+    ensures amount { IfOk result HasAmount }
 {
     let (tag, mut fields) = match open(bytes, &[0xE1, 0xE3, 0xE4]) {
         Ok(found) => found,

@@ -1,4 +1,5 @@
-ghost use Rattle.std.specs.Prelude.{◌≡◌, MatchResult, Ok, Err};
+ghost use Rattle.std.specs.Prelude.{◌≡◌, MatchResult, IfOk, Ok, Err};
+ghost use Rattle.auth_message.specs.Accepted.{AreDigits};
 ghost use Rattle.auth_message.specs.Messages.{present_at};
 
 use crate::fault::MessageFault;
@@ -64,7 +65,8 @@ impl<'a> Model for PresentFields<'a> {
 /// Reads a presentment's fields.
 #[tactic(auto, unfolding(crate::specs::Messages::present_at))]
 pub fn read_present<'a>(fields: &mut Fields<'a>) -> Result<PresentFields<'a>, MessageFault>
-    ensures { MatchResult result (λ found. present_at fields.old.left ≡ Ok found) (λ fault. present_at fields.old.left ≡ Err fault) }
+    ensures value { MatchResult result (λ found. present_at fields.old.left ≡ Ok found) (λ fault. present_at fields.old.left ≡ Err fault) }
+    ensures digits { IfOk result (λ found. AreDigits found.t9f02) }
 {
     let Named { t9f1c, pan, t5f34 } = read_named(fields)?;
     let Paid {

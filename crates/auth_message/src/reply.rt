@@ -1,5 +1,5 @@
 //! Reading the host's reply.
-ghost use Rattle.std.specs.Prelude.{◌≡◌, MatchResult, Ok, Err};
+ghost use Rattle.std.specs.Prelude.{◌≡◌, ◌≤◌, length, MatchResult, IfOk, IfSome, Ok, Err};
 ghost use Rattle.auth_message.specs.Reply.{reply_of};
 
 use crate::fault::MessageFault;
@@ -37,7 +37,9 @@ impl<'a> Model for Reply<'a> {
 /// an item behind the last script as `Coding`.
 #[tactic(auto, unfolding(crate::specs::Reply::reply_at))]
 pub fn read_reply(bytes: &[u8]) -> Result<Reply<'_>, MessageFault>
-    ensures { MatchResult result (λ reply. reply_of bytes.now ≡ Ok reply) (λ fault. reply_of bytes.now ≡ Err fault) }
+    ensures value { MatchResult result (λ reply. reply_of bytes.now ≡ Ok reply) (λ fault. reply_of bytes.now ≡ Err fault) }
+    ensures auth { IfOk result (λ reply. IfSome reply.auth (λ value. (8 ≤ length value) × (length value ≤ 16))) }
+    ensures short { IfOk result (λ reply. length reply.scripts ≤ 1024) }
 {
     let (_, mut fields) = match open(bytes, &[0xE2]) {
         Ok(found) => found,

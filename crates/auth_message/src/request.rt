@@ -1,4 +1,5 @@
-ghost use Rattle.std.specs.Prelude.{◌≡◌, MatchResult, Ok, Err};
+ghost use Rattle.std.specs.Prelude.{◌≡◌, MatchResult, IfOk, Ok, Err};
+ghost use Rattle.auth_message.specs.Accepted.{AreDigits};
 ghost use Rattle.auth_message.specs.Messages.{request_at};
 
 use crate::fault::MessageFault;
@@ -66,7 +67,8 @@ impl<'a> Model for RequestFields<'a> {
 /// Reads a request's fields.
 #[tactic(auto, unfolding(crate::specs::Messages::request_at))]
 pub fn read_request<'a>(fields: &mut Fields<'a>) -> Result<RequestFields<'a>, MessageFault>
-    ensures { MatchResult result (λ found. request_at fields.old.left ≡ Ok found) (λ fault. request_at fields.old.left ≡ Err fault) }
+    ensures value { MatchResult result (λ found. request_at fields.old.left ≡ Ok found) (λ fault. request_at fields.old.left ≡ Err fault) }
+    ensures digits { IfOk result (λ found. AreDigits found.t9f02) }
 {
     let Named { t9f1c, pan, t5f34 } = read_named(fields)?;
     let t5f24 = fields.fixed(0x5F24, true)?;

@@ -1,5 +1,5 @@
 -- A card in its course, as a contract sees it.
-use Rattle.std.specs.Prelude.{◌≡◌, ℕ, ◌+◌, List, [], ◌∷◌, ◌++◌, length, Option, None}
+use Rattle.std.specs.Prelude.{◌≡◌, ℕ, ◌+◌, List, [], ◌∷◌, ◌++◌, false, length, Option, None}
 use Rattle.card_files.specs.Files.{opening_of}
 use Rattle.card_files.specs.Views.{AppData}
 use Rattle.card_state.specs.Decisions.{Decided}
@@ -7,6 +7,7 @@ use Rattle.emv_ports.specs.Memory.{Memory}
 use Rattle.emv_ports.specs.declared.tear.Tear.{Tear}
 use Rattle.card_app.specs.Answering.{card_answer}
 use Rattle.card_pages.specs.Cuts.{Cut, cut_of}
+use Rattle.card_pages.specs.Pages.{MayStand}
 use Rattle.card_pages.specs.SeenKept.{KeptState, KeptOn, CutAt}
 use Rattle.card_app.specs.Session.{Exchange, phase_of}
 use Rattle.card_cryptogram.specs.declared.phase.Phase.{Phase}
@@ -36,3 +37,12 @@ pub record Answered (old new : CardSeen) (session : List Exchange) (ds : List De
 abbrev pub CutOff : CardSeen → Memory → List Exchange → List Decided → Option Tear → ℕ → List ℕ → Type 0
 CutOff old lost session ds plan made command =
     (at : Cut) × CutAt old.kept.memory lost (opening_of old.image) ds (card_answer old.image ds session command).new plan made at
+
+-- a card that stands for some session and some decisions
+abbrev pub IsRunning : CardSeen → Type 0
+IsRunning seen = (session : List Exchange) × (ds : List Decided) × (plan : Option Tear) × (made : ℕ) × CardOn seen session ds plan made
+
+-- pages that are off and may stand for some decisions of a card of this image
+pub record IsCardOff (image : List AppData) (memory : Memory) : Type 0 where
+  pub off : memory.on ≡ false
+  pub stands : (kept : List Decided) × (pending : Option Decided) × MayStand memory.cells (opening_of image) kept pending

@@ -1,1 +1,10 @@
 pub mod Account
+pub mod Balance
+pub mod Books
+pub mod Code
+pub mod History
+pub mod Holds
+pub mod Keeping
+pub mod Records
+pub mod Reply
+pub mod Scripts

@@ -3,9 +3,20 @@
 #![tactic(auto)]
 
 pub mod account;
+mod accounts;
+mod answering;
+pub mod code;
+mod decision;
+pub mod host;
+mod keeping;
 pub mod keys;
+mod records;
+mod reply;
+mod script;
 
 pub use account::Account;
+pub use code::Code;
+pub use host::Host;
 pub use keys::HostKeys;
 pub use script_words::{Ordered, Script, Word};
 

@@ -31,8 +31,8 @@ pub first_unfilled : (trade : Trade) → (marks : List Mark) → (asked : Kind) 
 unfolding first
 first_unfilled trade marks asked log rest t t2 begins none kept =
     trading_stopped t t2 trade step.First marks log (generated 0x8C asked false (list_data 0x8C trade.card (objects_at trade marks)))
-        (λ ac. first_answered trade ac (HasFirst ac ∷ marks) ac.kind) (Dol (record { 0 = 0x8C })) rest kept
-        (record { passed = begins.passed; tied = begins.tied; read = begins.read }) (λ later. rw none refl)
+    (λ ac. first_answered trade ac (HasFirst ac ∷ marks) ac.kind) (Dol (record { 0 = 0x8C })) rest kept
+    (record { passed = begins.passed; tied = begins.tied; read = begins.read }) (λ later. rw none refl)
 
 -- verification begins behind the restrictions
 pub traded : (trade : Trade) → (bits : ℕ) → (log : List Logged) → (rest : List Reply → Standing Mark) → (t2 : Table) → ((later : List Reply) → rest later ≡ restrictions trade log later) → bits ≡ restricted trade.card trade.deal.settings trade.row trade.deal.purchase → t2.moment ≡ moment (HasRestricted bits ∷ HasRead trade.card ∷ []) → Begins t2 trade.card (HasRestricted bits ∷ HasRead trade.card ∷ []) rest (verification trade (HasRestricted bits ∷ HasRead trade.card ∷ []) log)

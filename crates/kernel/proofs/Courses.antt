@@ -20,9 +20,9 @@ unfolding card_step
 same left cut step marks course other next log [] blind equal = rw (equal []) refl
 same left cut step marks course other next log (CardSaid answer now ∷ replies) blind equal =
     rw (equal []) (settled_same step marks next log (CardSaid answer now ∷ replies)
-        (λ command. card_step left step step marks (λ later. course (answer ∷ later)) next now replies)
-        (λ command. card_step left step step marks (λ later. other (answer ∷ later)) next now replies)
-        (λ command. same left step step marks (λ later. course (answer ∷ later)) (λ later. other (answer ∷ later)) next now replies blind (λ later. equal (answer ∷ later))) (other []))
+    (λ command. card_step left step step marks (λ later. course (answer ∷ later)) next now replies)
+    (λ command. card_step left step step marks (λ later. other (answer ∷ later)) next now replies)
+    (λ command. same left step step marks (λ later. course (answer ∷ later)) (λ later. other (answer ∷ later)) next now replies blind (λ later. equal (answer ∷ later))) (other []))
 same left cut step marks course other next log (CardGone ∷ replies) blind equal =
     rw (equal []) (rw (blind cut course other equal) refl)
 same left cut step marks course other next log (HostSaid reply ∷ replies) blind equal = rw (equal []) refl

@@ -30,7 +30,7 @@ stands_over t trade marks log rest ending passed tied read = record { marks = ma
 pub decided : (t t2 : Table) → (trade : Trade) → (marks : List Mark) → (log : List Logged) → (rest : List Reply → Standing Mark) → (ac : AcData) → (kind : Kind) → (ending : Ending) → Begins t trade.card marks rest (first_answered trade ac (HasFirst ac ∷ marks) ac.kind log) → ac.kind ≡ kind → ((later : List Reply) → first_answered trade ac (HasFirst ac ∷ marks) kind log later ≡ over (HasFirst ac ∷ marks) ending log later) → t2.moment ≡ moment (HasFirst ac ∷ marks) → TradingStands t2 trade (trading.Over ending) log rest
 decided t t2 trade marks log rest ac kind ending begins is over_then tied =
     stands_over t2 trade (HasFirst ac ∷ marks) log rest ending
-        (λ later. begins.passed later ∙ ap (λ (k : Kind). first_answered trade ac (HasFirst ac ∷ marks) k log later) is ∙ over_then later) tied begins.read
+    (λ later. begins.passed later ∙ ap (λ (k : Kind). first_answered trade ac (HasFirst ac ∷ marks) k log later) is ∙ over_then later) tied begins.read
 
 -- it asks the issuer
 pub asks_issuer : (t t2 : Table) → (trade : Trade) → (marks : List Mark) → (log : List Logged) → (rest : List Reply → Standing Mark) → (ac : AcData) → Begins t trade.card marks rest (first_answered trade ac (HasFirst ac ∷ marks) ac.kind log) → ((later : List Reply) → first_answered trade ac (HasFirst ac ∷ marks) ac.kind log later ≡ online trade ac (HasFirst ac ∷ marks) log later) → t2.moment ≡ moment (HasFirst ac ∷ marks) → Begins t2 trade.card (HasFirst ac ∷ marks) rest (online trade ac (HasFirst ac ∷ marks) log)
@@ -68,8 +68,8 @@ pub second_unfilled : (t t2 : Table) → (trade : Trade) → (marks : List Mark)
 unfolding second
 second_unfilled t t2 trade marks log rest on asked behind begins none kept =
     trading_stopped t t2 trade step.Second marks log (generated 0x8D asked true (list_data 0x8D trade.card (objects_at trade marks)))
-        (λ ac. scripts_behind (decision on ac.kind) behind (HasSecond ac ∷ marks)) (Dol (record { 0 = 0x8D })) rest kept
-        (record { passed = begins.passed; tied = begins.tied; read = begins.read }) (λ later. rw none refl)
+    (λ ac. scripts_behind (decision on ac.kind) behind (HasSecond ac ∷ marks)) (Dol (record { 0 = 0x8D })) rest kept
+    (record { passed = begins.passed; tied = begins.tied; read = begins.read }) (λ later. rw none refl)
 
 -- an answer to GENERATE AC that gives a cryptogram, or a cause
 pub ac_given : (answer : List ℕ) → (asked : Kind) → (order : Bool) → (ac : AcData) → (later : List (List ℕ)) → ac_of answer asked order ≡ Ok ac → after_ac (ac_of answer asked order) later ≡ Done ac later

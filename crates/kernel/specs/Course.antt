@@ -44,7 +44,7 @@ card_step left cut step marks course next log [] =
     settled step marks next log [] (λ command. stands marks (ToCard command)) (course [])
 card_step left cut step marks course next log (CardSaid answer now ∷ replies) =
     settled step marks next log (CardSaid answer now ∷ replies)
-        (λ command. card_step left step step marks (λ later. course (answer ∷ later)) next now replies) (course [])
+    (λ command. card_step left step step marks (λ later. course (answer ∷ later)) next now replies) (course [])
 card_step left cut step marks course next log (CardGone ∷ replies) =
     settled step marks next log (CardGone ∷ replies) (λ command. left cut course) (course [])
 card_step left cut step marks course next log (HostSaid reply ∷ replies) =

@@ -61,21 +61,21 @@ all_failed (template ∷ others) marks = all_failed others (mark.HasRunBehind no
 abbrev pub left_script : Ending → List (List ℕ) → List Mark → Step → (List (List ℕ) → Progress (List ℕ)) → Standing Mark
 left_script ending others marks cut course =
     by_progress (λ command. stands marks (Over ending)) (λ cause. stands marks (Over ending))
-        (λ result. stands (all_failed others (mark.HasRunBehind result ∷ marks)) (Over ending)) (course ([] ∷ []))
+    (λ result. stands (all_failed others (mark.HasRunBehind result ∷ marks)) (Over ending)) (course ([] ∷ []))
 
 -- the templates 72, behind the second cryptogram
 unfoldable pub scripts_behind : Ending → List (List ℕ) → List Mark → Rest Mark
 scripts_behind ending [] marks = over marks ending
 scripts_behind ending (template ∷ others) marks =
     card_step (left_script ending others marks) step.Script step.Script marks (template_ran template)
-        (λ result. scripts_behind ending others (mark.HasRunBehind result ∷ marks))
+    (λ result. scripts_behind ending others (mark.HasRunBehind result ∷ marks))
 
 -- the second GENERATE AC of this kind, over the data of CDOL2
 unfoldable pub second : Trade → Bool → Kind → List (List ℕ) → List Mark → Rest Mark
 second trade online asked behind marks =
     card_step (cut_off marks) step.Second step.Second marks
-        (generated 0x8D asked true (list_data 0x8D trade.card (objects_at trade marks)))
-        (λ ac. scripts_behind (decision online ac.kind) behind (mark.HasSecond ac ∷ marks))
+    (generated 0x8D asked true (list_data 0x8D trade.card (objects_at trade marks)))
+    (λ ac. scripts_behind (decision online ac.kind) behind (mark.HasSecond ac ∷ marks))
 
 -- the kind that a reply's code asks for: 00 approves
 abbrev pub kind_for : List ℕ → Kind
@@ -86,7 +86,7 @@ unfoldable pub scripts_before : Trade → ReplyData → List (List ℕ) → List
 scripts_before trade reply [] marks = second trade true (kind_for reply.code) (templates 0x72 reply.scripts) marks
 scripts_before trade reply (template ∷ others) marks =
     card_step (cut_off marks) step.Script step.Script marks (template_ran template)
-        (λ result. scripts_before trade reply others (mark.HasRunBefore result ∷ marks))
+    (λ result. scripts_before trade reply others (mark.HasRunBefore result ∷ marks))
 
 abbrev pub issuer_scripts : Trade → ReplyData → List Mark → Rest Mark
 issuer_scripts trade reply marks = scripts_before trade reply (templates 0x71 reply.scripts) marks
@@ -99,7 +99,7 @@ abbrev pub authentication_by : Trade → ReplyData → List Mark → Bool → Op
 authentication_by trade reply marks has None = issuer_scripts trade reply marks
 authentication_by trade reply marks has (Some value) =
     if has then card_step (cut_off marks) step.Authenticate step.Authenticate marks (authenticated value)
-        (λ good. issuer_scripts trade reply (mark.HasAuthenticated good ∷ marks))
+    (λ good. issuer_scripts trade reply (mark.HasAuthenticated good ∷ marks))
     else issuer_scripts trade reply marks
 
 -- EXTERNAL AUTHENTICATE, where the reply has data for it and the card the function
@@ -141,8 +141,8 @@ first_answered trade ac marks Arqc = online trade ac marks
 unfoldable pub first : Trade → Kind → List Mark → Rest Mark
 first trade asked marks =
     card_step (cut_off marks) step.First step.First marks
-        (generated 0x8C asked false (list_data 0x8C trade.card (objects_at trade marks)))
-        (λ ac. first_answered trade ac (mark.HasFirst ac ∷ marks) ac.kind)
+    (generated 0x8C asked false (list_data 0x8C trade.card (objects_at trade marks)))
+    (λ ac. first_answered trade ac (mark.HasFirst ac ∷ marks) ac.kind)
 
 -- the kind that action analysis asks for
 abbrev pub kind_wanted : Trade → List Mark → Kind
@@ -155,24 +155,24 @@ analysis trade marks = first trade (kind_wanted trade marks) (mark.HasAnalysed (
 unfoldable pub risk : Trade → List Mark → Rest Mark
 risk trade marks log replies =
     card_step (cut_off marks) step.Risk step.Risk marks
-        (risky trade.card trade.deal.settings trade.row trade.deal.purchase log)
-        (λ judged. analysis trade (mark.HasJudged judged ∷ marks)) log replies
+    (risky trade.card trade.deal.settings trade.row trade.deal.purchase log)
+    (λ judged. analysis trade (mark.HasJudged judged ∷ marks)) log replies
 
 unfoldable pub verification : Trade → List Mark → Rest Mark
 verification trade marks =
     card_step (cut_off marks) step.Verify step.Verify marks (cvm trade.card trade.deal.settings trade.deal.purchase)
-        (λ verified. risk trade (mark.HasVerified verified ∷ marks))
+    (λ verified. risk trade (mark.HasVerified verified ∷ marks))
 
 -- the card is read; processing restrictions ask it nothing
 unfoldable pub restrictions : Trade → Rest Mark
 restrictions trade =
     verification trade
-        (mark.HasRestricted (restricted trade.card trade.deal.settings trade.row trade.deal.purchase) ∷ mark.HasRead trade.card ∷ [])
+    (mark.HasRestricted (restricted trade.card trade.deal.settings trade.row trade.deal.purchase) ∷ mark.HasRead trade.card ∷ [])
 
 unfoldable pub read : Deal → AidRow → Opened → Rest Mark
 read deal row opened =
     card_step (cut_off []) step.Read step.Read [] (reading opened)
-        (λ card. restrictions (record { deal = deal; row = row; card = card }))
+    (λ card. restrictions (record { deal = deal; row = row; card = card }))
 
 -- GET PROCESSING OPTIONS; a card that refuses the application is asked for the others
 abbrev pub granted : Deal → AidRow → Rest Mark → Option Opened → Rest Mark
@@ -182,8 +182,8 @@ granted deal row others (Some opened) = read deal row opened
 unfoldable pub initiation : Deal → SelectedData → Rest Mark → Rest Mark
 initiation deal selected others =
     card_step (cut_off []) step.Initiate step.Initiate []
-        (initiating selected.pdol (terminal_objects deal selected.row (moment [])))
-        (granted deal selected.row others)
+    (initiating selected.pdol (terminal_objects deal selected.row (moment [])))
+    (granted deal selected.row others)
 
 abbrev pub opened : Deal → Rest Mark → Option SelectedData → Rest Mark
 opened deal others None = others
@@ -199,4 +199,4 @@ candidates_left deal (candidate ∷ left) =
 unfoldable pub dialogue : Deal → List Reply → Standing Mark
 dialogue deal =
     card_step (cut_off []) step.Power step.Select [] (selecting deal.settings.aids deal.purchase.confirm)
-        (λ selected. initiation deal selected (candidates_left deal selected.left)) []
+    (λ selected. initiation deal selected (candidates_left deal selected.left)) []

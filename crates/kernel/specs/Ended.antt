@@ -42,7 +42,7 @@ code_or_zeros code = unwrap_or code (0 ∷ 0 ∷ [])
 unfoldable pub presentment : Deal → ReadCard → MomentData → Option (List ℕ)
 presentment deal card moment =
     option_map (λ ac. presentment_of card deal.settings deal.purchase
-        (results_behind card moment.tvr_when_first moment.tvr_when_second) ac (code_or_zeros moment.code)) moment.last
+    (results_behind card moment.tvr_when_first moment.tvr_when_second) ac (code_or_zeros moment.code)) moment.last
 
 -- a request that may have been approved is reversed, where the payment ended otherwise
 unfoldable pub reversal : Deal → ReadCard → MomentData → Option (List ℕ)

@@ -55,20 +55,20 @@ trading_rest t trade marks (trading.Risk j) =
     card_step (cut_off marks) step.Risk step.Risk marks (judging_rest j) (λ judged. analysis trade (mark.HasJudged judged ∷ marks))
 trading_rest t trade marks (trading.First asked) =
     card_step (cut_off marks) step.First step.First marks (generating t.command.items asked false)
-        (λ ac. first_answered trade ac (mark.HasFirst ac ∷ marks) ac.kind)
+    (λ ac. first_answered trade ac (mark.HasFirst ac ∷ marks) ac.kind)
 trading_rest t trade marks trading.Online = host_step marks t.message.items (replied trade marks)
 trading_rest t trade marks trading.Authenticate =
     card_step (cut_off marks) step.Authenticate step.Authenticate marks (authenticating t.command.items)
-        (λ good. issuer_scripts trade t.reply (mark.HasAuthenticated good ∷ marks))
+    (λ good. issuer_scripts trade t.reply (mark.HasAuthenticated good ∷ marks))
 trading_rest t trade marks (trading.ScriptBefore s) =
     card_step (cut_off marks) step.Script step.Script marks (running_rest s.running)
-        (λ result. scripts_before trade t.reply (drop s.next (templates 0x71 t.reply.scripts)) (mark.HasRunBefore result ∷ marks))
+    (λ result. scripts_before trade t.reply (drop s.next (templates 0x71 t.reply.scripts)) (mark.HasRunBefore result ∷ marks))
 trading_rest t trade marks (trading.Second s) =
     card_step (cut_off marks) step.Second step.Second marks (generating t.command.items s.asked true)
-        (λ ac. scripts_behind (decision s.online ac.kind) (behind_if s.online t.reply.scripts) (mark.HasSecond ac ∷ marks))
+    (λ ac. scripts_behind (decision s.online ac.kind) (behind_if s.online t.reply.scripts) (mark.HasSecond ac ∷ marks))
 trading_rest t trade marks (trading.ScriptBehind s ending) =
     card_step (left_script ending (drop s.next (templates 0x72 t.reply.scripts)) marks) step.Script step.Script marks (running_rest s.running)
-        (λ result. scripts_behind ending (drop s.next (templates 0x72 t.reply.scripts)) (mark.HasRunBehind result ∷ marks))
+    (λ result. scripts_behind ending (drop s.next (templates 0x72 t.reply.scripts)) (mark.HasRunBehind result ∷ marks))
 trading_rest t trade marks (trading.Over ending) = over marks ending
 
 -- the command that waits is the one that the step wants answered
@@ -105,13 +105,13 @@ cut_of s = (if s.begun then step.Select else step.Power)
 abbrev pub opening_rest : Table → Entries → Opening → Rest Mark
 opening_rest t objects (opening.Select s) =
     card_step (cut_off []) (cut_of s) step.Select [] (rest_with s.search t.candidates)
-        (λ selected. initiation (deal_of t) selected (candidates_left (deal_of t) selected.left))
+    (λ selected. initiation (deal_of t) selected (candidates_left (deal_of t) selected.left))
 opening_rest t objects (opening.Initiate s) =
     card_step (cut_off []) step.Initiate step.Initiate [] (initiated s.initiating)
-        (granted (deal_of t) s.choice.row (candidates_left (deal_of t) t.candidates))
+    (granted (deal_of t) s.choice.row (candidates_left (deal_of t) t.candidates))
 opening_rest t objects (opening.Read s) =
     card_step (cut_off []) step.Read step.Read [] (reading (record { entries = objects; left = s.course }))
-        (λ card. restrictions (record { deal = deal_of t; row = s.row.now; card = card }))
+    (λ card. restrictions (record { deal = deal_of t; row = s.row.now; card = card }))
 opening_rest t objects (opening.Over ending) = over [] ending
 
 abbrev pub OpeningShows : Table → Entries → Opening → Type 0

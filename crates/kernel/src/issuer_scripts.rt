@@ -94,7 +94,7 @@ fn before_next<'s>(
     requires room { HasRoom table.old (1 + (length (templates 0x71 table.old.reply.scripts) - index) + length (templates 0x72 table.old.reply.scripts)) }
     ensures stands { (marks : List Mark) (log : List Logged) (course : List (List ℕ) → Progress (List ℕ)) (rest : List Reply → Standing Mark)
         → Begins table.old card.now marks rest (card_step (cut_off marks) step.Script step.Script marks course
-            (λ found. scripts_before (trade_of table.old row.now card.now) table.old.reply (drop index (templates 0x71 table.old.reply.scripts)) (HasRunBefore found ∷ marks)) log)
+        (λ found. scripts_before (trade_of table.old row.now card.now) table.old.reply (drop index (templates 0x71 table.old.reply.scripts)) (HasRunBefore found ∷ marks)) log)
         → RunNextLeads course [] next
         → TradingStands table.new (trade_of table.old row.now card.now) result log rest }
     ensures same { deal_of table.new ≡ deal_of table.old }
@@ -166,7 +166,7 @@ fn behind_next<'s>(
     requires room { HasRoom table.old (1 + (length (templates 0x72 table.old.reply.scripts) - index)) }
     ensures stands { (trade : Trade) (marks : List Mark) (log : List Logged) (course : List (List ℕ) → Progress (List ℕ)) (rest : List Reply → Standing Mark)
         → Begins table.old trade.card marks rest (card_step (left_script ending (drop index (templates 0x72 table.old.reply.scripts)) marks) step.Script step.Script marks course
-            (λ found. scripts_behind ending (drop index (templates 0x72 table.old.reply.scripts)) (HasRunBehind found ∷ marks)) log)
+        (λ found. scripts_behind ending (drop index (templates 0x72 table.old.reply.scripts)) (HasRunBehind found ∷ marks)) log)
         → RunNextLeads course [] next
         → TradingStands table.new trade result log rest }
     ensures same { deal_of table.new ≡ deal_of table.old }

@@ -2,13 +2,13 @@
 //! the capture (EMV 4.3 Book 3 section 8).
 #![tactic(auto)]
 
-mod issuer_scripts;
 pub mod ended;
+mod issuer_scripts;
 pub mod kernel;
 mod moment;
-mod opening;
 mod online;
 mod replies;
+mod opening;
 mod scripts;
 mod stage;
 mod table;

@@ -89,7 +89,13 @@ fn go_online<'s>(table: &mut Table<'s>, card: &CardData, row: &AidRow) -> Tradin
     if is_offline_only(table.settings) {
         return be_unable(table, card, row, false);
     }
-    put_objects(&mut table.terminal, table.settings, table.purchase, row, &table.moment);
+    put_objects(
+        &mut table.terminal,
+        table.settings,
+        table.purchase,
+        row,
+        &table.moment,
+    );
     write_online(
         &table.moment,
         &table.terminal,

@@ -6,8 +6,8 @@ ghost use Rattle.kernel.specs.Marks.{moment};
 ghost use Rattle.kernel.specs.Table.{deal_of};
 
 use crate::moment::{IssuerData, Moment};
-use app_select::Candidates;
 use apdu_core::Out;
+use app_select::Candidates;
 use arrayvec::ArrayVec;
 use auth_message::Message;
 use emv_dict::{Purchase, Settings};

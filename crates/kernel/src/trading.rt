@@ -96,7 +96,7 @@ fn verify_next<'s>(
     requires room { HasRoom table.old 8 }
     ensures stands { (marks : List Mark) (course : List (List ℕ) → Progress Verified) (rest : List Reply → Standing Mark)
         → Begins table.old card.now marks rest (card_step (cut_off marks) step.Verify step.Verify marks course
-            (λ verified. risk (record { deal = deal_of table.old; row = row.now; card = card.now }) (HasVerified verified ∷ marks)) log.now)
+        (λ verified. risk (record { deal = deal_of table.old; row = row.now; card = card.now }) (HasVerified verified ∷ marks)) log.now)
         → VerifyLeads course [] next.entry
         → TradingStands table.new (record { deal = deal_of table.old; row = row.now; card = card.now }) result log.now rest }
     ensures same { deal_of table.new ≡ deal_of table.old }
@@ -171,7 +171,7 @@ fn judge_next<'s>(
     requires room { HasRoom table.old 8 }
     ensures stands { (marks : List Mark) (log : List Logged) (course : List (List ℕ) → Progress Judged) (rest : List Reply → Standing Mark)
         → Begins table.old card.now marks rest (card_step (cut_off marks) step.Risk step.Risk marks course
-            (λ judged. analysis (record { deal = deal_of table.old; row = row.now; card = card.now }) (HasJudged judged ∷ marks)) log)
+        (λ judged. analysis (record { deal = deal_of table.old; row = row.now; card = card.now }) (HasJudged judged ∷ marks)) log)
         → JudgeLeads course [] next
         → TradingStands table.new (record { deal = deal_of table.old; row = row.now; card = card.now }) result log rest }
     ensures same { deal_of table.new ≡ deal_of table.old }
@@ -237,12 +237,7 @@ fn kind_wanted(moment: &Moment, card: &CardData, row: &AidRow, settings: &Settin
 
 /// The first GENERATE AC is asked for a cryptogram of this kind.
 #[tactic(auto, unfolding(crate::specs::Dialogue::first))]
-fn begin_first<'s>(
-    table: &mut Table<'s>,
-    card: &CardData,
-    row: &AidRow,
-    asked: Kind,
-) -> Trading<'s>
+fn begin_first<'s>(table: &mut Table<'s>, card: &CardData, row: &AidRow, asked: Kind) -> Trading<'s>
     requires deal { IsDeal (deal_of table.old) }
     requires room { HasRoom table.old 8 }
     ensures stands { (marks : List Mark) (log : List Logged) (rest : List Reply → Standing Mark)
@@ -251,7 +246,13 @@ fn begin_first<'s>(
     ensures same { deal_of table.new ≡ deal_of table.old }
     ensures room { HasRoom table.new (scripts_left table.new.reply.scripts result) }
 {
-    put_terminal(&mut table.terminal, table.settings, table.purchase, row, &table.moment);
+    put_terminal(
+        &mut table.terminal,
+        table.settings,
+        table.purchase,
+        row,
+        &table.moment,
+    );
     let mut filled = ArrayVec::new();
     if fill_list(FIRST_LIST, card, &table.terminal, &mut filled) {
         write_generate(asked, &filled, &mut table.command);

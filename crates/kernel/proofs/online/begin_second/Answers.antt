@@ -7,5 +7,5 @@ use Rattle.kernel.proofs.online.begin_second.Goals as goal
 pub returns-else-fill_list-clause-stands : goal.returns-else-fill_list-clause-stands
 returns-else-fill_list-clause-stands c = λ marks log rest begins.
     second_unfilled c.args.table.now _ (trade_of c.args.table.now c.args.row.now c.args.card.now) marks log rest c.args.state.online c.args.state.asked
-        (behind_if c.args.state.online c.args.table.now.reply.scripts) begins
-        (rw (sym begins.tied) (rw (sym c.put_terminal.ensures) c.if-fill_list.ensures)) refl
+    (behind_if c.args.state.online c.args.table.now.reply.scripts) begins
+    (rw (sym begins.tied) (rw (sym c.put_terminal.ensures) c.if-fill_list.ensures)) refl

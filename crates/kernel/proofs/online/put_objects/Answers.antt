@@ -6,10 +6,10 @@ pub returns-clause-request : goal.returns-clause-request
 returns-clause-request c =
     rw c.put_terminal.ensures
     (requested (record { settings = c.args.settings.now; purchase = c.args.purchase.now }) c.args.row.now c.args.moment.now
-        (record {
-          id = rw (sym c.settings.view_is) c.has_length.ensures;
-          country = rw (sym c.settings.view_is) c.has_length-2.ensures;
-          currency = rw (sym c.purchase.view_is) c.has_length-3.ensures;
-          date = rw (sym c.purchase.view_is) c.has_length-4.ensures;
-          number = rw (sym c.purchase.view_is) c.has_length-5.ensures;
-        }) c.requires.purchase)
+    (record {
+      id = rw (sym c.settings.view_is) c.has_length.ensures;
+      country = rw (sym c.settings.view_is) c.has_length-2.ensures;
+      currency = rw (sym c.purchase.view_is) c.has_length-3.ensures;
+      date = rw (sym c.purchase.view_is) c.has_length-4.ensures;
+      number = rw (sym c.purchase.view_is) c.has_length-5.ensures;
+    }) c.requires.purchase)

@@ -12,6 +12,6 @@ pub returns-clause-stands : goal.returns-clause-stands
 returns-clause-stands c = λ marks log rest begins.
     let trade : Trade = record { deal = deal_of c.args.table.now; row = c.args.row.now; card = c.args.card.now } in
     let asked : c.kind_wanted-asked.result ≡ kind_wanted trade marks =
-        c.kind_wanted-asked.ensures ∙ rw begins.tied refl in
+    c.kind_wanted-asked.ensures ∙ rw begins.tied refl in
     c.begin_first.ensures.stands (HasAnalysed c.kind_wanted-asked.result ∷ marks) log rest
-        (analysed trade marks c.kind_wanted-asked.result log rest c.args.table.now _ begins asked (c.has_analysed.ensures.marks marks begins.tied))
+    (analysed trade marks c.kind_wanted-asked.result log rest c.args.table.now _ begins asked (c.has_analysed.ensures.marks marks begins.tied))

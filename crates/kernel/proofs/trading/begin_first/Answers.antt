@@ -8,4 +8,4 @@ pub returns-else-fill_list-clause-stands : goal.returns-else-fill_list-clause-st
 returns-else-fill_list-clause-stands c = λ marks log rest begins.
     let trade : Trade = record { deal = deal_of c.args.table.now; row = c.args.row.now; card = c.args.card.now } in
     first_unfilled trade marks c.args.asked log rest c.args.table.now _ begins
-        (rw (sym begins.tied) (rw (sym c.put_terminal.ensures) c.if-fill_list.ensures)) refl
+    (rw (sym begins.tied) (rw (sym c.put_terminal.ensures) c.if-fill_list.ensures)) refl

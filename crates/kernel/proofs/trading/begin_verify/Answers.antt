@@ -7,4 +7,4 @@ pub returns-clause-stands : goal.returns-clause-stands
 unfolding verification
 returns-clause-stands c = λ marks rest begins.
     c.verify_next.ensures.stands marks (cvm c.args.card.now c.args.table.now.settings.now c.args.table.now.purchase.now) rest
-        (record { passed = begins.passed; tied = begins.tied; read = begins.read }) c.begin-next.ensures.leads
+    (record { passed = begins.passed; tied = begins.tied; read = begins.read }) c.begin-next.ensures.leads

@@ -13,11 +13,11 @@ pub returns-in-Done-clause-stands : goal.returns-in-Done-clause-stands
 returns-in-Done-clause-stands c = λ marks log course rest begins leads.
     let trade : Trade = record { deal = deal_of c.args.table.now; row = c.args.row.now; card = c.args.card.now } in
     c.analyse.ensures.stands (HasJudged c.in-Done.judged ∷ marks) log rest
-        (begins_next c.args.table.now _ c.args.card.now step.Risk marks _ log course (λ judged. analysis trade (HasJudged judged ∷ marks)) c.in-Done.judged rest
-            (c.has_judged.ensures.marks marks begins.tied) refl begins (rw c.in-Done.is at leads))
+    (begins_next c.args.table.now _ c.args.card.now step.Risk marks _ log course (λ judged. analysis trade (HasJudged judged ∷ marks)) c.in-Done.judged rest
+    (c.has_judged.ensures.marks marks begins.tied) refl begins (rw c.in-Done.is at leads))
 
 pub returns-in-Ended-clause-stands : goal.returns-in-Ended-clause-stands
 returns-in-Ended-clause-stands c = λ marks log course rest begins leads.
     let trade : Trade = record { deal = deal_of c.args.table.now; row = c.args.row.now; card = c.args.card.now } in
     trading_stopped c.args.table.now c.args.table.now trade step.Risk marks log course (λ judged. analysis trade (HasJudged judged ∷ marks)) c.in-Ended.cause rest
-        refl begins (rw c.in-Ended.is at leads)
+    refl begins (rw c.in-Ended.is at leads)

@@ -12,6 +12,6 @@ pub returns-clause-stands : goal.returns-clause-stands
 returns-clause-stands c = λ before now rest stands.
     let trade : Trade = record { deal = deal_of c.args.table.now; row = c.args.row.now; card = c.args.card.now } in
     c.judge_next.ensures.stands stands.marks now (λ later. rest_of c.args.judging (c.args.reply.now ∷ later)) _
-        (begins_taken c.args.table.now c.args.card.now step.Risk stands.marks before now (rest_of c.args.judging) (λ judged. analysis trade (HasJudged judged ∷ stands.marks))
-            c.args.table.now.command.items rest stands.passed stands.tied stands.read stands.shows c.args.reply.now)
-        (judge_shifted (rest_of c.args.judging) c.args.reply.now _ (c.take-next.ensures (rest_of c.args.judging) [] (λ later. refl)))
+    (begins_taken c.args.table.now c.args.card.now step.Risk stands.marks before now (rest_of c.args.judging) (λ judged. analysis trade (HasJudged judged ∷ stands.marks))
+    c.args.table.now.command.items rest stands.passed stands.tied stands.read stands.shows c.args.reply.now)
+    (judge_shifted (rest_of c.args.judging) c.args.reply.now _ (c.take-next.ensures (rest_of c.args.judging) [] (λ later. refl)))

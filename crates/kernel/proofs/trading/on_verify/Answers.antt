@@ -12,6 +12,6 @@ pub returns-clause-stands : goal.returns-clause-stands
 returns-clause-stands c = λ before rest stands.
     let trade : Trade = record { deal = deal_of c.args.table.now; row = c.args.row.now; card = c.args.card.now } in
     c.verify_next.ensures.stands stands.marks (λ later. rest_of c.args.verifying (c.args.reply.now ∷ later)) _
-        (begins_taken c.args.table.now c.args.card.now step.Verify stands.marks before c.args.log.now (rest_of c.args.verifying) (λ verified. risk trade (HasVerified verified ∷ stands.marks))
-            c.args.table.now.command.items rest stands.passed stands.tied stands.read stands.shows c.args.reply.now)
-        (verify_shifted (rest_of c.args.verifying) c.args.reply.now _ (c.take-next.ensures (rest_of c.args.verifying) [] (λ later. refl)))
+    (begins_taken c.args.table.now c.args.card.now step.Verify stands.marks before c.args.log.now (rest_of c.args.verifying) (λ verified. risk trade (HasVerified verified ∷ stands.marks))
+    c.args.table.now.command.items rest stands.passed stands.tied stands.read stands.shows c.args.reply.now)
+    (verify_shifted (rest_of c.args.verifying) c.args.reply.now _ (c.take-next.ensures (rest_of c.args.verifying) [] (λ later. refl)))

@@ -13,11 +13,11 @@ pub returns-in-Done-clause-stands : goal.returns-in-Done-clause-stands
 returns-in-Done-clause-stands c = λ marks course rest begins leads.
     let trade : Trade = record { deal = deal_of c.args.table.now; row = c.args.row.now; card = c.args.card.now } in
     c.begin_risk.ensures.stands (HasVerified c.in-Done.verified ∷ marks) rest
-        (begins_next c.args.table.now _ c.args.card.now step.Verify marks _ c.args.log.now course (λ verified. risk trade (HasVerified verified ∷ marks)) c.in-Done.verified rest
-            (c.has_verified.ensures.marks marks begins.tied) refl begins (rw c.in-Done.is at leads))
+    (begins_next c.args.table.now _ c.args.card.now step.Verify marks _ c.args.log.now course (λ verified. risk trade (HasVerified verified ∷ marks)) c.in-Done.verified rest
+    (c.has_verified.ensures.marks marks begins.tied) refl begins (rw c.in-Done.is at leads))
 
 pub returns-in-Ended-clause-stands : goal.returns-in-Ended-clause-stands
 returns-in-Ended-clause-stands c = λ marks course rest begins leads.
     let trade : Trade = record { deal = deal_of c.args.table.now; row = c.args.row.now; card = c.args.card.now } in
     trading_stopped c.args.table.now c.args.table.now trade step.Verify marks c.args.log.now course (λ verified. risk trade (HasVerified verified ∷ marks)) c.in-Ended.cause rest
-        refl begins (rw c.in-Ended.is at leads)
+    refl begins (rw c.in-Ended.is at leads)

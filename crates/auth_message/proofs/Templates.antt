@@ -1,0 +1,69 @@
+-- Templates that are spelled one behind the other are scripts of a reply.
+use Rattle.std.proofs.Common.{◌≡◌, ℕ, Bool, true, ◌||◌, ◌==◌, ◌+◌, ◌-◌, ◌≤◌, List, [], ◌∷◌, ◌++◌, take, length, Ok, refl, sym, ap, ◌∙◌, arith, length-append, append_assoc, append-nil, suc}
+use Rattle.std.specs.Prelude.{slice_range}
+use Rattle.std.specs.List.{list_all}
+use Rattle.ber_tlv.specs.Left.{items_behind}
+use Rattle.ber_tlv.specs.Written.{written}
+use Rattle.ber_tlv.proofs.ReadAgain.{both}
+use Rattle.ber_tlv.proofs.Reading.{no_zeros, left-end}
+use Rattle.auth_message.specs.Reply.{AreScripts, is_template, end_in, end_of, end_behind, bytes_of}
+use Rattle.auth_message.specs.Spelling.{spelled}
+use Rattle.auth_message.proofs.Opened.{stands_at}
+use Rattle.auth_message.proofs.Spelled.{placed, is_tag, are_tags, field_step, read_fields, take_whole}
+
+-- each field is a template
+abbrev pub are_templates : List (ℕ × List ℕ) → Bool
+are_templates fields = list_all (λ field. field.0 == 0x71 || field.0 == 0x72) fields
+
+placed_templates : (place : ℕ) (fields : List (ℕ × List ℕ)) → are_templates fields ≡ true → list_all is_template (placed place fields ++ []) ≡ true
+placed_templates place [] all = refl
+placed_templates place (field ∷ fields) all =
+    let facts = both (field.0 == 0x71 || field.0 == 0x72) _ all in
+    rw facts.0 (placed_templates (place + length (written field.0 field.1)) fields facts.1)
+
+placed_count : (place : ℕ) (fields : List (ℕ × List ℕ)) → length (placed place fields ++ []) ≡ length fields
+placed_count place [] = refl
+placed_count place (field ∷ fields) = ap suc (placed_count (place + length (written field.0 field.1)) fields)
+
+ends_placed : (fields : List (ℕ × List ℕ)) (front rest bytes : List ℕ) → are_tags fields ≡ true → bytes ≡ front ++ (spelled fields ++ rest)
+    → end_behind bytes (length front) (placed (length front) fields ++ []) ≡ length front + length (spelled fields)
+ends_placed [] front rest bytes are same = omega arith
+ends_placed (field ∷ fields) front rest bytes are same =
+    let facts = both (is_tag field.0) _ are in
+    let this = written field.0 field.1 in
+    let again : bytes ≡ (front ++ this) ++ (spelled fields ++ rest) = same ∙ simp append_assoc in
+    let here : bytes ≡ front ++ (this ++ (spelled fields ++ rest)) = same ∙ simp append_assoc in
+    let next : length (front ++ this) ≡ length front + length this = length-append front this in
+    let step = field_step front (spelled fields ++ rest) bytes field.0 field.1 facts.0 here in
+    let stands : end_of bytes (record { tag = field.0; value = field.1; start = length front }) ≡ length front + length this = ap end_in (stands_at bytes bytes (length front) (record { tag = field.0; value = field.1; start = length front }) (length front + length this) refl step) in
+    let others = ends_placed fields (front ++ this) rest bytes facts.1 again in
+    ap (λ n. end_behind bytes n (placed (length front + length this) fields ++ [])) stands
+    ∙ ap (λ n. end_behind bytes n (placed n fields ++ [])) (sym next) ∙ others ∙ omega (arith, length-append this (spelled fields))
+
+whole_range : (bytes : List ℕ) (count : ℕ) → count ≡ length bytes → slice_range bytes 0 count ≡ bytes
+whole_range bytes count same =
+    let all : count - 0 ≡ length bytes = omega arith in
+    ap (λ n. take n bytes) all ∙ take_whole bytes
+
+bytes_placed : (fields : List (ℕ × List ℕ)) (bytes : List ℕ) → are_tags fields ≡ true → bytes ≡ spelled fields → bytes_of bytes (placed 0 fields ++ []) ≡ bytes
+bytes_placed [] bytes are same = sym same
+bytes_placed (field ∷ fields) bytes are same =
+    let end = ends_placed (field ∷ fields) [] [] bytes are (same ∙ sym (append-nil (spelled (field ∷ fields)))) in
+    whole_range bytes _ (end ∙ omega (arith, ap length same))
+
+pub templates_are_scripts : (fields : List (ℕ × List ℕ)) → are_tags fields ≡ true → are_templates fields ≡ true → length fields ≤ 8 → length (spelled fields) ≤ 1024 → AreScripts (spelled fields)
+templates_are_scripts fields are templates few short =
+    let bytes = spelled fields in
+    let end : items_behind bytes (0 + length bytes) ≡ Ok [] = ap (items_behind bytes) (omega arith) ∙ left-end bytes (length bytes) (no_zeros bytes (length bytes) (omega arith)) in
+    record {
+      items = placed 0 fields ++ [];
+      listed = read_fields fields [] [] bytes [] are (sym (append-nil bytes)) end;
+      templates = placed_templates 0 fields templates;
+      few = omega (arith, placed_count 0 fields);
+      short = short;
+      no_padding = bytes_placed fields bytes are refl;
+    }
+
+-- no scripts
+pub none_are_scripts : AreScripts []
+none_are_scripts = templates_are_scripts [] refl refl (omega arith) (omega arith)

@@ -1,0 +1,214 @@
+//! The host's decisions.
+ghost use Rattle.std.specs.Prelude.{◌≡◌, ◌≤◌, ◌-ℤ◌, pos, length, Some};
+ghost use Rattle.std.specs.Str.{bytes_eq};
+ghost use Rattle.issuer_host.specs.Account.{IsAccount};
+ghost use Rattle.issuer_host.specs.Balance.{taken};
+ghost use Rattle.issuer_host.specs.Records.{balance_left};
+ghost use Rattle.issuer_host.specs.Reply as spec;
+ghost use Rattle.issuer_host.specs.Reply.{request_key as key_of_request, present_key as key_of_present, reversal_key as key_of_reversal, session_of, cryptogram_of, request_ac_fields, present_ac_fields, day_of, pin_is_wrong as pin_spec};
+
+use crate::account::Account;
+use crate::code::Code;
+use crate::keys::HostKeys;
+use crate::records::Records;
+use app_cryptogram::{AcFields, ac};
+use auth_message::{PresentFields, RequestFields, ReversalFields};
+use card_keys::{master_key, session_ac};
+use emv_dict::{Date, Digits, amount_of, two_digit_number};
+use host_ledger::Key;
+use pin_block::online_block;
+use triple_des::Key16;
+
+/// What names the transaction of a message.
+fn key(pan: &Digits, sequence: Option<[u8; 1]>, counter: [u8; 2]) -> Key
+    ensures { result ≡ spec.key_of pan.now sequence counter }
+{
+    let sequence = sequence_number(sequence);
+    Key {
+        pan: pan.copy(),
+        sequence,
+        counter: u16::from_be_bytes(counter),
+    }
+}
+
+/// The sequence number of an account number, 0 where there is none.
+fn sequence_number(field: Option<[u8; 1]>) -> u8
+    ensures { result ≡ spec.sequence_of field }
+{
+    match field {
+        Some(bytes) => bytes[0],
+        None => 0,
+    }
+}
+
+/// What names the transaction of a request.
+pub fn request_key(fields: &RequestFields) -> Key
+    ensures { result ≡ key_of_request fields.now }
+{
+    key(&fields.pan, fields.t5f34, fields.t9f36)
+}
+
+/// What names the transaction of a presentment.
+pub fn present_key(fields: &PresentFields) -> Key
+    ensures { result ≡ key_of_present fields.now }
+{
+    key(&fields.pan, fields.t5f34, fields.t9f36)
+}
+
+/// What names the transaction of a reversal.
+pub fn reversal_key(fields: &ReversalFields) -> Key
+    ensures { result ≡ key_of_reversal fields.now }
+{
+    key(&fields.pan, fields.t5f34, fields.t9f36)
+}
+
+/// The session key of a transaction for application cryptograms.
+pub fn session(issuer: &Key16, key: &Key) -> Key16
+    ensures { result ≡ session_of issuer.now key.now }
+{
+    session_ac(&master_key(issuer, &key.pan, key.sequence), key.counter)
+}
+
+/// Whether 9F26 is the card's cryptogram of the request's fields.
+pub fn request_is_genuine(keys: &HostKeys, key: &Key, fields: &RequestFields) -> bool
+    requires { key.now ≡ key_of_request fields.now }
+    ensures { result ≡ spec.request_is_genuine keys.now fields.now }
+{
+    let [trade] = fields.t9c;
+    let covered = AcFields {
+        amount: fields.t9f02,
+        other: fields.t9f03,
+        country: fields.t9f1a,
+        tvr: fields.t95,
+        currency: fields.t5f2a,
+        date: fields.t9a,
+        trade,
+        number: fields.t9f37,
+        aip: fields.t82,
+        counter: fields.t9f36,
+    };
+    ac(&session(&keys.ac, key), &covered, fields.t9f10) == fields.t9f26
+}
+
+/// Whether 9F26 is the card's cryptogram of the presentment's fields.
+fn present_is_genuine(keys: &HostKeys, key: &Key, fields: &PresentFields) -> bool
+    requires { key.now ≡ key_of_present fields.now }
+    ensures { result ≡ spec.present_is_genuine keys.now fields.now }
+{
+    let [trade] = fields.t9c;
+    let covered = AcFields {
+        amount: fields.t9f02,
+        other: fields.t9f03,
+        country: fields.t9f1a,
+        tvr: fields.t95,
+        currency: fields.t5f2a,
+        date: fields.t9a,
+        trade,
+        number: fields.t9f37,
+        aip: fields.t82,
+        counter: fields.t9f36,
+    };
+    ac(&session(&keys.ac, key), &covered, fields.t9f10) == fields.t9f26
+}
+
+/// The day of three bytes of digits, which need not be one of the calendar.
+fn day(bytes: [u8; 3]) -> Date
+    ensures { result ≡ day_of bytes }
+{
+    let [year, month, day] = bytes;
+    let digits = u16::from(two_digit_number(year));
+    Date {
+        year: if digits < 50 {
+            2000 + digits
+        } else {
+            1900 + digits
+        },
+        month: two_digit_number(month),
+        day: two_digit_number(day),
+    }
+}
+
+/// Whether the terminal sent a PIN block that is not the account's.
+fn pin_is_wrong(key: &Key16, account: &Account, block: Option<[u8; 8]>) -> bool
+    requires { IsAccount account.now }
+    ensures { result ≡ pin_spec key.now account.now.pin account.now.pan block }
+{
+    let Some(sent) = block else {
+        return false;
+    };
+    match &account.pin {
+        Some(pin) => online_block(key, pin, &account.pan) != sent,
+        None => true,
+    }
+}
+
+/// The decision on a genuine request: the first reason to decline it that holds.
+#[tactic(auto, unfolding(crate::specs::Reply::request_code))]
+pub fn request_code(
+    keys: &HostKeys,
+    account: &Account,
+    records: &Records,
+    key: &Key,
+    fields: &RequestFields,
+) -> Code
+    requires account { IsAccount account.now }
+    requires key { key.now ≡ key_of_request fields.now }
+    requires known { balance_left records.now account.now.pan ≡ Some (pos account.now.balance -ℤ pos (taken account.now.pan records.now.books)) }
+    ensures { result ≡ spec.request_code keys.now account.now records.now.books fields.now }
+{
+    if account.blocked {
+        return Code::Declined;
+    }
+    if fields.t5f2a != account.currency {
+        return Code::Declined;
+    }
+    if records.is_closed(key) {
+        return Code::Declined;
+    }
+    if day(fields.t5f24).is_before(&day(fields.t9a)) {
+        return Code::Expired;
+    }
+    if pin_is_wrong(&keys.pin, account, fields.tdf11) {
+        return Code::WrongPin;
+    }
+    if !records.covers(account, amount_of(fields.t9f02)) {
+        return Code::NoFunds;
+    }
+    Code::Approved
+}
+
+/// The decision on a presentment.
+#[tactic(auto, unfolding(crate::specs::Reply::present_code))]
+pub fn present_code(
+    keys: &HostKeys,
+    account: &Account,
+    records: &Records,
+    key: &Key,
+    fields: &PresentFields,
+) -> Code
+    requires { key.now ≡ key_of_present fields.now }
+    ensures { result ≡ spec.present_code keys.now account.now records.now.books fields.now }
+{
+    if !present_is_genuine(keys, key, fields) {
+        return Code::Declined;
+    }
+    if fields.t5f2a != account.currency {
+        return Code::Declined;
+    }
+    if records.is_released(key) {
+        return Code::Declined;
+    }
+    Code::Approved
+}
+
+/// The decision on a reversal.
+pub fn reversal_code(records: &Records, key: &Key, fields: &ReversalFields) -> Code
+    requires { key.now ≡ key_of_reversal fields.now }
+    ensures { result ≡ spec.reversal_code records.now.books fields.now }
+{
+    if records.is_booked(key) {
+        Code::Declined
+    } else {
+        Code::Approved
+    }
+}

@@ -1,0 +1,163 @@
+//! The host's replies to messages of which none of their kind and transaction was kept.
+ghost use Rattle.std.specs.Prelude.{◌≡◌, ◌≤◌, ◌-ℤ◌, pos, length, Some, [], if◌then◌else◌, option_map, IfSome, false};
+ghost use Rattle.std.specs.Option.{is_some};
+ghost use Rattle.auth_message.specs.Reply.{AreScripts};
+ghost use Rattle.issuer_host.specs.Account.{IsAccount};
+ghost use Rattle.issuer_host.specs.Balance.{taken};
+ghost use Rattle.issuer_host.specs.Records.{balance_left};
+ghost use Rattle.issuer_host.specs.Reply as spec;
+ghost use Rattle.issuer_host.specs.Reply.{request_key as key_of_request, present_key as key_of_present, reversal_key as key_of_reversal, said_bytes, plain as plain_said, is_served, scripts_for};
+
+use crate::account::Account;
+use crate::code::Code;
+use crate::decision::{present_code, request_code, request_is_genuine, reversal_code, session};
+use crate::keys::HostKeys;
+use crate::records::Records;
+use crate::script::{ScriptBytes, ScriptKeys, write_scripts};
+use app_cryptogram::arpc_one;
+use auth_message::{Message, PresentFields, RequestFields, ReversalFields, write_reply};
+use card_keys::{master_key, session_script};
+use host_ledger::Key;
+
+/// What a reply said.
+#[derive(Clone, Copy)]
+pub struct Answered {
+    pub code: Code,
+    /// Whether it carries issuer authentication data.
+    pub online: bool,
+}
+
+/// Writes a reply with the code alone.
+#[tactic(auto, using(auth_message::proofs::Templates::none_are_scripts))]
+pub fn plain(code: Code, out: &mut Message) -> Answered
+    ensures bytes { out.new.items ≡ said_bytes (plain_said code) }
+    ensures code { result.code ≡ code }
+    ensures online { result.online ≡ false }
+{
+    write_reply(code.bytes(), None, &[], out);
+    Answered {
+        code,
+        online: false,
+    }
+}
+
+/// Writes the reply to a request of an account number.
+pub fn request_reply(
+    keys: &HostKeys,
+    account: Option<&Account>,
+    served: bool,
+    records: &Records,
+    key: &Key,
+    fields: &RequestFields,
+    out: &mut Message,
+) -> Answered
+    requires account { IfSome account (λ a. IsAccount a.now) }
+    requires key { key.now ≡ key_of_request fields.now }
+    requires known { IfSome account (λ a. balance_left records.now a.now.pan ≡ Some (pos a.now.balance -ℤ pos (taken a.now.pan records.now.books))) }
+    requires served { IfSome account (λ a. served ≡ is_served a.now.pan records.now.books) }
+    ensures bytes { out.new.items ≡ said_bytes (spec.request_reply keys.now (option_map (λ a. a.now) account.entry) records.now.books fields.now) }
+    ensures code { result.code ≡ (spec.request_reply keys.now (option_map (λ a. a.now) account.entry) records.now.books fields.now).code }
+    ensures online { result.online ≡ is_some (spec.request_reply keys.now (option_map (λ a. a.now) account.entry) records.now.books fields.now).auth }
+{
+    let Some(account) = account else {
+        return plain(Code::UnknownAccount, out);
+    };
+    if !request_is_genuine(keys, key, fields) {
+        return plain(Code::Declined, out);
+    }
+    let code = request_code(keys, account, records, key, fields);
+    online_reply(keys, account, served, records, key, fields, code, out);
+    Answered { code, online: true }
+}
+
+/// Writes the reply to a genuine request.
+fn online_reply(
+    keys: &HostKeys,
+    account: &Account,
+    served: bool,
+    records: &Records,
+    key: &Key,
+    fields: &RequestFields,
+    code: Code,
+    out: &mut Message,
+)
+    requires account { IsAccount account.now }
+    requires key { key.now ≡ key_of_request fields.now }
+    requires served { served ≡ is_served account.now.pan records.now.books }
+    ensures { out.new.items ≡ said_bytes (spec.online_reply keys.now account.now records.now.books fields.now code) }
+{
+    let scripts = scripts(keys, account, served, records, key, fields);
+    let cryptogram = fields.t9f26;
+    let response = arpc_one(&session(&keys.ac, key), cryptogram, code.bytes());
+    write_reply(code.bytes(), Some(&response), &scripts, out);
+}
+
+/// The account's scripts, where no reply carried them yet.
+#[tactic(auto, using(crate::proofs::MadeScripts::made_are_scripts, auth_message::proofs::Templates::none_are_scripts))]
+fn scripts(
+    keys: &HostKeys,
+    account: &Account,
+    served: bool,
+    records: &Records,
+    key: &Key,
+    fields: &RequestFields,
+) -> ScriptBytes
+    requires account { IsAccount account.now }
+    requires key { key.now ≡ key_of_request fields.now }
+    requires served { served ≡ is_served account.now.pan records.now.books }
+    ensures bytes { result.items ≡ scripts_for keys.now account.now records.now.books fields.now }
+    ensures form { AreScripts result.items }
+{
+    let mut bytes = ScriptBytes::new();
+    if served {
+        return bytes;
+    }
+    let cryptogram = fields.t9f26;
+    let script_keys = ScriptKeys {
+        mac: session_script(&master_key(&keys.mac, &key.pan, key.sequence), cryptogram),
+        enc: session_script(&master_key(&keys.enc, &key.pan, key.sequence), cryptogram),
+        counter: key.counter,
+        cryptogram,
+    };
+    write_scripts(&script_keys, &account.scripts, &mut bytes);
+    bytes
+}
+
+/// Writes the reply to a presentment of an account number.
+pub fn present_reply(
+    keys: &HostKeys,
+    account: Option<&Account>,
+    records: &Records,
+    key: &Key,
+    fields: &PresentFields,
+    out: &mut Message,
+) -> Answered
+    requires { key.now ≡ key_of_present fields.now }
+    ensures bytes { out.new.items ≡ said_bytes (spec.present_reply keys.now (option_map (λ a. a.now) account.entry) records.now.books fields.now) }
+    ensures code { result.code ≡ (spec.present_reply keys.now (option_map (λ a. a.now) account.entry) records.now.books fields.now).code }
+    ensures online { result.online ≡ is_some (spec.present_reply keys.now (option_map (λ a. a.now) account.entry) records.now.books fields.now).auth }
+{
+    match account {
+        Some(account) => plain(present_code(keys, account, records, key, fields), out),
+        None => plain(Code::UnknownAccount, out),
+    }
+}
+
+/// Writes the reply to a reversal of an account number.
+pub fn reversal_reply(
+    account: Option<&Account>,
+    records: &Records,
+    key: &Key,
+    fields: &ReversalFields,
+    out: &mut Message,
+) -> Answered
+    requires { key.now ≡ key_of_reversal fields.now }
+    ensures bytes { out.new.items ≡ said_bytes (spec.reversal_reply (option_map (λ a. a.now) account.entry) records.now.books fields.now) }
+    ensures code { result.code ≡ (spec.reversal_reply (option_map (λ a. a.now) account.entry) records.now.books fields.now).code }
+    ensures online { result.online ≡ is_some (spec.reversal_reply (option_map (λ a. a.now) account.entry) records.now.books fields.now).auth }
+{
+    match account {
+        Some(_) => plain(reversal_code(records, key, fields), out),
+        None => plain(Code::UnknownAccount, out),
+    }
+}
