@@ -7,11 +7,16 @@ mod issuer_scripts;
 pub mod kernel;
 mod moment;
 mod online;
-mod replies;
 mod opening;
+mod replies;
 mod scripts;
 mod stage;
 mod table;
 pub mod tally;
 mod terminal;
 mod trading;
+mod turns;
+
+pub use ended::{Capture, Ended};
+pub use kernel::{Kernel, Next};
+pub use tally::Tally;
