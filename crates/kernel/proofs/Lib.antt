@@ -12,4 +12,4 @@ mod Deciding
 mod Requested
 mod Scripting
 mod Keeping
-mod Replying
+mod Hearing

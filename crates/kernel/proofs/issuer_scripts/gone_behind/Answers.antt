@@ -3,7 +3,7 @@ use Rattle.kernel.specs.Dialogue.{scripts_behind}
 use Rattle.kernel.specs.Marks.{HasRunBehind}
 use Rattle.kernel.specs.Scripts.{templates}
 use Rattle.script_run.specs.Ran.{rest_of}
-use Rattle.kernel.proofs.Replying.{script_left}
+use Rattle.kernel.proofs.Hearing.{script_left}
 use Rattle.kernel.proofs.issuer_scripts.gone_behind.Goals as goal
 
 pub returns-clause-stands : goal.returns-clause-stands

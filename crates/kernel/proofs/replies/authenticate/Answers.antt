@@ -1,6 +1,6 @@
 use Rattle.std.proofs.Common.{refl, sym, ◌∙◌}
 use Rattle.kernel.specs.Trades.{trade_of}
-use Rattle.kernel.proofs.Replying.{asks_authentication}
+use Rattle.kernel.proofs.Hearing.{asks_authentication}
 use Rattle.kernel.proofs.replies.authenticate.Goals as goal
 
 pub returns-then-has_authentication-clause-stands : goal.returns-then-has_authentication-clause-stands

@@ -2,7 +2,7 @@ use Rattle.std.proofs.Common.{◌≡◌, refl, sym, ◌∙◌, ◌∷◌, [], Li
 use Rattle.kernel.specs.Marks.{HasSecond}
 use Rattle.kernel.specs.Scripts.{templates}
 use Rattle.kernel.specs.Stages.{behind_if}
-use Rattle.kernel.proofs.Replying.{settles}
+use Rattle.kernel.proofs.Hearing.{settles}
 use Rattle.kernel.proofs.Scripting.{behind_end}
 use Rattle.kernel.proofs.replies.finish.Goals as goal
 

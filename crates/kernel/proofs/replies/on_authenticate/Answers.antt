@@ -5,7 +5,7 @@ use Rattle.kernel.specs.Marks.{HasAuthenticated}
 use Rattle.kernel.specs.Stages.{authenticating}
 use Rattle.kernel.specs.Trades.{trade_of}
 use Rattle.kernel.proofs.Following.{trading_stopped, begins_next}
-use Rattle.kernel.proofs.Replying.{verdict_given, verdict_refused}
+use Rattle.kernel.proofs.Hearing.{verdict_given, verdict_refused}
 use Rattle.kernel.proofs.Taking.{begins_taken}
 use Rattle.kernel.proofs.replies.on_authenticate.Goals as goal
 

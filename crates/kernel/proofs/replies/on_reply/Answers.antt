@@ -1,6 +1,6 @@
 use Rattle.kernel.specs.Trades.{trade_of}
 use Rattle.kernel.proofs.Keeping.{sound_reply}
-use Rattle.kernel.proofs.Replying.{unread, heard}
+use Rattle.kernel.proofs.Hearing.{unread, heard}
 use Rattle.kernel.proofs.replies.on_reply.Goals as goal
 
 pub take_reply-requires-clause-sound : goal.take_reply-requires-clause-sound

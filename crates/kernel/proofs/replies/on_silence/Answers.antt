@@ -1,5 +1,5 @@
 use Rattle.kernel.specs.Trades.{trade_of}
-use Rattle.kernel.proofs.Replying.{silent}
+use Rattle.kernel.proofs.Hearing.{silent}
 use Rattle.kernel.proofs.replies.on_silence.Goals as goal
 
 pub returns-clause-stands : goal.returns-clause-stands

@@ -3,7 +3,7 @@ use Rattle.auth_message.specs.Reply.{ReplyData}
 use Rattle.kernel.specs.Marks.{HasReply}
 use Rattle.kernel.specs.Scripts.{kept}
 use Rattle.kernel.specs.Trades.{trade_of}
-use Rattle.kernel.proofs.Replying.{reply_kept}
+use Rattle.kernel.proofs.Hearing.{reply_kept}
 use Rattle.kernel.proofs.replies.take_reply.Goals as goal
 
 pub returns-clause-stands : goal.returns-clause-stands
