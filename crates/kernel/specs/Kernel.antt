@@ -9,7 +9,7 @@ use Rattle.kernel.specs.Course.{Standing}
 use Rattle.kernel.specs.Dialogue.{dialogue}
 use Rattle.kernel.specs.Fits.{OpeningFits}
 use Rattle.kernel.specs.Marks.{Mark}
-use Rattle.kernel.specs.Reply.{Reply, HostSaid, HostSilent, Deed, ToCard, ToHost, Over}
+use Rattle.kernel.specs.Reply.{Reply, Deed, ToCard, ToHost, Over}
 use Rattle.kernel.specs.Stages.{OpeningStands, TradingStands, HasRoom, scripts_left}
 use Rattle.kernel.specs.Table.{IsDeal, deal_of}
 use Rattle.kernel.specs.Terminal.{Deal}
@@ -34,11 +34,6 @@ pub record KernelData : Type 0 where
 
 abbrev pub deal_in : KernelData → Deal
 deal_in k = deal_of k.table
-
--- what the host said, or that it was silent
-abbrev pub host_reply : Option (List ℕ) → Reply
-host_reply None = HostSilent
-host_reply (Some reply) = HostSaid reply
 
 -- what a stage waits for
 abbrev pub opening_next : Opening → Next

@@ -15,7 +15,6 @@ mod table;
 pub mod tally;
 mod terminal;
 mod trading;
-mod turns;
 
 pub use ended::{Capture, Ended};
 pub use kernel::{Kernel, Next};
