@@ -65,7 +65,7 @@ asks_authentication t t2 trade marks log rest value begins auth has command kept
       ∙ ap (λ (found : Option (List ℕ)). authentication_by trade t.reply marks (has_authentication trade.card) found log later) auth
       ∙ ap (λ (test : Bool). authentication_by trade t.reply marks test (Some value) log later) has
       ∙ same (cut_off marks) step.Authenticate step.Authenticate marks (authenticated value) (authenticating t2.command.items) (λ good. issuer_scripts trade t.reply (HasAuthenticated good ∷ marks)) log later
-          (λ at one two equal. refl) (authenticating_same value t2.command.items command)
+      (λ at one two equal. refl) (authenticating_same value t2.command.items command)
       ∙ ap (λ (reply : ReplyData). card_step (cut_off marks) step.Authenticate step.Authenticate marks (authenticating t2.command.items) (λ good. issuer_scripts trade reply (HasAuthenticated good ∷ marks)) log later) (sym kept_reply);
   tied = kept_moment ∙ begins.tied;
   read = begins.read;
@@ -94,5 +94,5 @@ failed-card (template ∷ others) marks = failed-card others (HasRunBehind (0 �
 pub script_left : (t2 : Table) → (trade : Trade) → (ending : Ending) → (others : List (List ℕ)) → (marks : List Mark) → (log : List Logged) → (course : List (List ℕ) → Progress (List ℕ)) → (next : List ℕ → Rest Mark) → (command found : List ℕ) → (rest : List Reply → Standing Mark) → ((later : List Reply) → rest later ≡ card_step (left_script ending others marks) step.Script step.Script marks course next log later) → latest card_of None marks ≡ Some trade.card → course [] ≡ Wants command → course ([] ∷ []) ≡ Done found [] → t2.moment ≡ moment (all_failed others (HasRunBehind found ∷ marks)) → TradingStands t2 trade (trading.Over ending) log (λ later. rest (CardGone ∷ later))
 script_left t2 trade ending others marks log course next command found rest passed read wants fails tied =
     stands_over t2 trade (all_failed others (HasRunBehind found ∷ marks)) log (λ later. rest (CardGone ∷ later)) ending
-        (λ later. passed (CardGone ∷ later) ∙ gone (left_script ending others marks) step.Script step.Script marks course next log command wants later ∙ rw fails refl)
-        tied (failed-card others (HasRunBehind found ∷ marks) ∙ read)
+    (λ later. passed (CardGone ∷ later) ∙ gone (left_script ending others marks) step.Script step.Script marks course next log command wants later ∙ rw fails refl)
+    tied (failed-card others (HasRunBehind found ∷ marks) ∙ read)

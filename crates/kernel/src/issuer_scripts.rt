@@ -208,11 +208,7 @@ pub(crate) fn on_script_behind<'s>(
 }
 
 /// The card is gone in a script behind the second GENERATE AC: this script failed, and each one behind it.
-pub(crate) fn gone_behind<'s>(
-    table: &mut Table<'s>,
-    state: AtScript,
-    ending: Ending,
-) -> Trading<'s>
+pub(crate) fn gone_behind<'s>(table: &mut Table<'s>, state: AtScript, ending: Ending) -> Trading<'s>
     requires room { HasRoom table.old (1 + (length (templates 0x72 table.old.reply.scripts) - state.next)) }
     ensures stands { (trade : Trade) (log : List Logged) (rest : List Reply → Standing Mark)
         → TradingStands table.old trade (stage.ScriptBehind state ending) log rest
