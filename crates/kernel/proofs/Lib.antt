@@ -11,3 +11,5 @@ pub mod Finishing
 mod Deciding
 mod Requested
 mod Scripting
+mod Keeping
+mod Hearing

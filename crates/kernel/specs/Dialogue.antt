@@ -33,7 +33,7 @@ use Rattle.kernel.specs.Course.{Standing, Rest, stands, over, by_progress, card_
 use Rattle.kernel.specs.Marks as mark
 use Rattle.kernel.specs.Marks.{Mark, moment}
 use Rattle.kernel.specs.Reply.{Reply, ToCard, Over}
-use Rattle.kernel.specs.Scripts.{templates}
+use Rattle.kernel.specs.Scripts.{templates, kept}
 use Rattle.kernel.specs.Terminal.{Deal, terminal_objects}
 
 -- a transaction once the card is read: what was dealt, the terminal's row of the application, and the card
@@ -115,7 +115,7 @@ unable_online trade sent marks =
     second trade false (kind_unable trade marks) [] (mark.WasUnable sent (kind_unable trade marks) ∷ marks)
 
 abbrev pub reply_read : Trade → List Mark → Result ReplyData MessageFault → Rest Mark
-reply_read trade marks (Ok reply) = authentication trade reply (mark.HasReply reply ∷ marks)
+reply_read trade marks (Ok reply) = authentication trade (kept reply) (mark.HasReply reply ∷ marks)
 reply_read trade marks (Err fault) = unable_online trade true marks
 
 -- silence, or a reply with a fault, makes the terminal unable too

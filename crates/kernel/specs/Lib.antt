@@ -12,3 +12,4 @@ pub mod Fits
 pub mod Kernel
 pub mod Tally
 pub mod Shown
+pub mod Sound

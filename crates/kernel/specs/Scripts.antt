@@ -1,5 +1,6 @@
 -- The script templates of a reply (EMV 4.3 Book 3 section 10.10).
-use Rattle.std.specs.Prelude.{◌≡◌, ℕ, ◌≤◌, ◌==◌, List, [], length, map, filter, Result, Ok, Err}
+use Rattle.std.specs.Prelude.{◌≡◌, ℕ, ◌≤◌, ◌==◌, Bool, false, nat_le, if◌then◌else◌, List, [], length, map, filter, Result, Ok, Err}
+use Rattle.auth_message.specs.Reply.{ReplyData}
 use Rattle.ber_tlv.specs.Item.{ItemData}
 use Rattle.ber_tlv.specs.Left.{items_of}
 use Rattle.ber_tlv.specs.declared.item.TlvFault.{TlvFault}
@@ -17,3 +18,15 @@ pub record AreFew (scripts : List ℕ) : Type 0 where
   pub items : List ItemData
   pub listed : items_of scripts ≡ Ok items
   pub few : length items ≤ 8
+
+abbrev pub are_few : Result (List ItemData) TlvFault → Bool
+are_few (Ok items) = nat_le (length items) 8
+are_few (Err fault) = false
+
+-- at most 8 objects, as the scripts of each reply are
+abbrev pub sound_scripts : List ℕ → List ℕ
+sound_scripts scripts = (if are_few (items_of scripts) then scripts else [])
+
+-- a reply as it is kept for the steps behind it
+abbrev pub kept : ReplyData → ReplyData
+kept reply = record { code = reply.code; auth = reply.auth; scripts = sound_scripts reply.scripts }

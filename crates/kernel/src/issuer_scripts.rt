@@ -5,8 +5,8 @@ ghost use Rattle.emv_dict.specs.Progress.{Progress};
 ghost use Rattle.emv_dict.specs.declared.ending.Step.TheVariants as step;
 ghost use Rattle.emv_dict.specs.declared.purchase.Logged.{Logged};
 ghost use Rattle.kernel.specs.Course.{Standing, card_step, cut_off};
-ghost use Rattle.kernel.specs.Dialogue.{Trade, scripts_before, scripts_behind, left_script, kind_for as kind_of_code};
-ghost use Rattle.kernel.specs.Marks.{Mark, HasRunBefore, HasRunBehind};
+ghost use Rattle.kernel.specs.Dialogue.{Trade, scripts_before, scripts_behind, left_script, all_failed, kind_for as kind_of_code};
+ghost use Rattle.kernel.specs.Marks.{Mark, HasRunBefore, HasRunBehind, moment as moment_of};
 ghost use Rattle.kernel.specs.Reply.{Reply, CardSaid, CardGone};
 ghost use Rattle.kernel.specs.Scripts.{templates};
 ghost use Rattle.kernel.specs.Stages.{TradingStands, Begins, HasRoom, scripts_left};
@@ -205,4 +205,39 @@ pub(crate) fn on_script_behind<'s>(
     let AtScript { running, next } = state;
     let gone_on = running.take(reply);
     behind_next(table, ending, gone_on, next)
+}
+
+/// The card is gone in a script behind the second GENERATE AC: this script failed, and each one behind it.
+pub(crate) fn gone_behind<'s>(table: &mut Table<'s>, state: AtScript, ending: Ending) -> Trading<'s>
+    requires room { HasRoom table.old (1 + (length (templates 0x72 table.old.reply.scripts) - state.next)) }
+    ensures stands { (trade : Trade) (log : List Logged) (rest : List Reply → Standing Mark)
+        → TradingStands table.old trade (stage.ScriptBehind state ending) log rest
+        → TradingStands table.new trade result log (λ later. rest (CardGone ∷ later)) }
+    ensures same { deal_of table.new ≡ deal_of table.old }
+    ensures room { HasRoom table.new (scripts_left table.new.reply.scripts result) }
+{
+    let AtScript { running, next } = state;
+    let found = running.gone();
+    table.moment.has_run_behind(found);
+    fail_behind(&mut table.moment, &table.reply, next);
+    Trading::Over(ending)
+}
+
+/// The result of a script that wasn't run.
+const NOT_RUN: [u8; 5] = [0; 5];
+
+/// The scripts behind the second GENERATE AC fail, from the one that has so many before it on.
+fn fail_behind(moment: &mut Moment, reply: &HostReply, index: usize)
+    requires room { length moment.old.scripts + (length (templates 0x72 reply.now.scripts) - index) ≤ 8 }
+    ensures marks { (marks : List Mark) → moment.old ≡ moment_of marks
+        → moment.new ≡ moment_of (all_failed (drop index (templates 0x72 reply.now.scripts)) marks) }
+    ensures room { length moment.new.scripts ≤ 8 }
+{
+    match template_of(reply, BEHIND, index) {
+        Some(_) => {
+            moment.has_run_behind(NOT_RUN);
+            fail_behind(moment, reply, index + 1);
+        }
+        None => {}
+    }
 }

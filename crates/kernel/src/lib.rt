@@ -8,9 +8,14 @@ pub mod kernel;
 mod moment;
 mod online;
 mod opening;
+mod replies;
 mod scripts;
 mod stage;
 mod table;
 pub mod tally;
 mod terminal;
 mod trading;
+
+pub use ended::{Capture, Ended};
+pub use kernel::{Kernel, Next};
+pub use tally::Tally;

@@ -274,7 +274,7 @@ fn unable_code(kind: Kind) -> [u8; 2]
 }
 
 /// A copy of the issuer authentication data.
-fn kept(given: Option<&[u8]>) -> Option<IssuerData>
+pub(crate) fn kept(given: Option<&[u8]>) -> Option<IssuerData>
     requires { IfSome given (λ value. length value.now ≤ 16) }
     ensures { option_map (λ value. value.items) result ≡ option_map (λ value. value.now) given.entry }
 {

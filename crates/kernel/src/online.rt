@@ -161,7 +161,12 @@ fn write_online(
 
 /// The terminal is unable to go online, behind a request that was `sent` or without one, and asks for the
 /// second cryptogram at once.
-fn be_unable<'s>(table: &mut Table<'s>, card: &CardData, row: &AidRow, sent: bool) -> Trading<'s>
+pub(crate) fn be_unable<'s>(
+    table: &mut Table<'s>,
+    card: &CardData,
+    row: &AidRow,
+    sent: bool,
+) -> Trading<'s>
     requires deal { IsDeal (deal_of table.old) }
     requires room { HasRoom table.old 8 }
     ensures stands { (marks : List Mark) (log : List Logged) (rest : List Reply → Standing Mark)

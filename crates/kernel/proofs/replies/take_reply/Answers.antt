@@ -1,0 +1,12 @@
+use Rattle.std.proofs.Common.{◌∷◌, ap, sym, ◌∙◌}
+use Rattle.auth_message.specs.Reply.{ReplyData}
+use Rattle.kernel.specs.Marks.{HasReply}
+use Rattle.kernel.specs.Scripts.{kept}
+use Rattle.kernel.specs.Trades.{trade_of}
+use Rattle.kernel.proofs.Hearing.{reply_kept}
+use Rattle.kernel.proofs.replies.take_reply.Goals as goal
+
+pub returns-clause-stands : goal.returns-clause-stands
+returns-clause-stands c = λ marks log rest begins.
+    c.authenticate.ensures.stands (HasReply c.args.said ∷ marks) log rest (ap (λ (r : ReplyData). r.auth) (c.keep.ensures.kept ∙ ap kept (sym c.said.view_is)))
+    (reply_kept c.args.table.now _ (trade_of c.args.table.now c.args.row.now c.args.card.now) marks log rest c.args.said begins c.keep.ensures.kept (c.has_reply.ensures.marks marks begins.tied))
