@@ -13,3 +13,5 @@ mod Requested
 mod Scripting
 mod Keeping
 mod Hearing
+mod Leaving
+mod Took

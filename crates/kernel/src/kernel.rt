@@ -25,6 +25,7 @@ use std::marker::Model;
 use std::mem;
 
 mod finish;
+mod taking;
 
 /// What a terminal waits for.
 #[derive(Clone, Copy, PartialEq, Eq, Debug)]
@@ -136,35 +137,5 @@ fn bytes_by<'a>(table: &'a Table<'_>, next: Next) -> &'a [u8]
         Next::ToCard => table.command.as_slice(),
         Next::ToHost => table.message.as_slice(),
         Next::Ended => &[],
-    }
-}
-
-/// The card's answer before it is read. Once it is read, the trading begins.
-fn on_opening<'s>(
-    table: &mut Table<'s>,
-    objects: &mut Env,
-    held: &mut Option<CardData>,
-    state: Opening<'s>,
-    reply: &[u8],
-    log: &[Logged],
-) -> Stage<'s>
-    requires deal { IsDeal (deal_of table.old) }
-    requires fits { OpeningFits table.old objects.old state }
-    requires held { held.old ≡ None }
-    requires log { All (λ logged. logged.amount ≤ most_amount) log.now }
-    ensures stands { (before : List LoggedRow) (rest : List Reply → Standing Mark)
-        → OpeningStands table.old objects.old state.entry before rest
-        → StageGoes table.new objects.new held.new result log.now (λ later. rest (CardSaid reply.now log.now ∷ later)) }
-    ensures same { deal_of table.new ≡ deal_of table.old }
-    ensures fits { StageFits table.new objects.new held.new result }
-{
-    match opening::on_answer(table, objects, state, reply) {
-        OpeningNext::On(state) => Stage::Opening(state),
-        OpeningNext::Read(row) => {
-            let card = CardData::new(mem::replace(objects, Env::new()));
-            let trading = begin_trading(table, &card, row, log);
-            *held = Some(card);
-            Stage::Trading(AtTrading { row, trading })
-        }
     }
 }

@@ -15,6 +15,7 @@ mod table;
 pub mod tally;
 mod terminal;
 mod trading;
+mod turns;
 
 pub use ended::{Capture, Ended};
 pub use kernel::{Kernel, Next};
