@@ -26,6 +26,7 @@ use Rattle.issuer_host.specs.Records.{Agrees}
 use Rattle.issuer_host.specs.Reply.{request_key, present_key, reversal_key, new_request, new_present, new_reversal}
 use Rattle.issuer_host.proofs.Agreement.{with_request, with_presentment, with_reversal, held_entry, booked_entry, released_entry, request_agrees, request_declined, presentment_agrees, presentment_declined, reversal_agrees, reversal_declined}
 use Rattle.issuer_host.proofs.Approved.{request_open, present_open, reversal_open}
+use Rattle.issuer_host.proofs.Totals.{other_way}
 
 -- an entry that is kept leaves the entries apart
 still_absent : (key : Key) (kept : Entry) (es : List Entry) → same_key key kept.key ≡ false → entry_at key es ≡ None → entry_at key (with_entry kept es) ≡ None
@@ -33,18 +34,11 @@ still_absent key kept es other none = others_again kept es key (λ e. let yes : 
 
 stay_apart : (kept : Entry) (es : List Entry) → AreApart es → AreApart (with_entry kept es)
 stay_apart kept [] apart = (refl, tt)
-stay_apart kept (e ∷ es) apart = by (same_key kept.key e.key) refl
+stay_apart kept (e ∷ es) apart = by (stay_apart kept es apart.1) (same_key kept.key e.key) refl
   where
-    by : (b : Bool) → same_key kept.key e.key ≡ b → AreApart (cond b (kept ∷ es) (e ∷ with_entry kept es))
-    by true one = (ap (λ k. entry_at k es) (same kept.key e.key one) ∙ apart.0, apart.1)
-    by false other = (still_absent e.key kept es (turned other) apart.0, stay_apart kept es apart.1)
-      where
-        turned : same_key kept.key e.key ≡ false → same_key e.key kept.key ≡ false
-        turned no = turn (same_key e.key kept.key) refl
-          where
-            turn : (c : Bool) → same_key e.key kept.key ≡ c → c ≡ false
-            turn false is = refl
-            turn true is = let yes : same_key kept.key e.key ≡ true = ap (λ k. same_key kept.key k) (same e.key kept.key is) ∙ own_key kept.key in absurd cc
+    by : AreApart (with_entry kept es) → (b : Bool) → same_key kept.key e.key ≡ b → AreApart (cond b (kept ∷ es) (e ∷ with_entry kept es))
+    by rest true one = (ap (λ k. entry_at k es) (same kept.key e.key one) ∙ apart.0, apart.1)
+    by rest false other = (still_absent e.key kept es (other_way kept.key e.key other) apart.0, rest)
 
 abbrev pub ledger_of : List Entry → LedgerData
 ledger_of entries = record { accounts = []; entries = entries }

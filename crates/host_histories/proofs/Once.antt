@@ -105,13 +105,13 @@ record IsNew (key : Key) (messages : List Kept) (new : Kept) : Type 0 where
 
 new_books : (key : Key) (messages : List Kept) (new : Kept) (r found : Option Kept) → kept_at key messages ≡ found → was_approved found ≡ false → was_approved (kept_at key (with_first r new messages)) ≡ true
     → IsNew key (with_first r new messages) new
-new_books key messages new (Some other) found is no yes = let again : was_approved (kept_at key messages) ≡ false = ap was_approved is ∙ no in cc
-new_books key messages new None (Some kept) is no yes = let again : was_approved (kept_at key (messages ++ new ∷ [])) ≡ false = ap was_approved (kept_last key messages new ∙ ap (last_or_found key new) is) ∙ no in cc
-new_books key messages new None None is no yes = by (same_key key new.key) refl (kept_last key messages new ∙ ap (last_or_found key new) is)
+new_books key messages new (Some other) found is before after = let again : was_approved (kept_at key messages) ≡ false = ap was_approved is ∙ before in cc
+new_books key messages new None (Some kept) is before after = let again : was_approved (kept_at key (messages ++ new ∷ [])) ≡ false = ap was_approved (kept_last key messages new ∙ ap (last_or_found key new) is) ∙ before in cc
+new_books key messages new None None is before after = by (same_key key new.key) refl (kept_last key messages new ∙ ap (last_or_found key new) is)
   where
     by : (b : Bool) → same_key key new.key ≡ b → kept_at key (messages ++ new ∷ []) ≡ cond b (Some new) None → IsNew key (messages ++ new ∷ []) new
     by false other last = let none : was_approved (kept_at key (messages ++ new ∷ [])) ≡ false = ap was_approved last in cc
-    by true one last = record { own = sym (same key new.key one); found = last; approved = sym (ap was_approved last) ∙ yes }
+    by true one last = record { own = sym (same key new.key one); found = last; approved = sym (ap was_approved last) ∙ after }
 
 -- the presentment that books the transaction
 record IsPresented (keys : HostKeys) (accounts : List AccountData) (books : Books) (message : List ℕ) (key : Key) (reading : Result Incoming MessageFault) : Type 0 where
@@ -122,23 +122,23 @@ record IsPresented (keys : HostKeys) (accounts : List AccountData) (books : Book
 
 message_books : (keys : HostKeys) (accounts : List AccountData) (books : Books) (message : List ℕ) (key : Key) (reading : Result Incoming MessageFault)
     → is_booked books key ≡ false → is_booked (kept_in keys accounts books message reading) key ≡ true → IsPresented keys accounts books message key reading
-message_books keys accounts books message key (Err fault) no yes = cc
-message_books keys accounts books message key (Ok (Request f)) no yes = cc
-message_books keys accounts books message key (Ok (Reverse f)) no yes = cc
-message_books keys accounts books message key (Ok (Present f)) no yes =
-    let new = new_books key books.presentments (new_present keys accounts books message f) (kept_at (present_key f) books.presentments) (kept_at key books.presentments) refl no yes in
+message_books keys accounts books message key (Err fault) before after = cc
+message_books keys accounts books message key (Ok (Request f)) before after = cc
+message_books keys accounts books message key (Ok (Reverse f)) before after = cc
+message_books keys accounts books message key (Ok (Present f)) before after =
+    let new = new_books key books.presentments (new_present keys accounts books message f) (kept_at (present_key f) books.presentments) (kept_at key books.presentments) refl before after in
     record { fields = f; read = refl; own = new.own; booking = record { found = new.found; approved = new.approved } }
 
 takes_amount : (keys : HostKeys) (accounts : List AccountData) (messages : List (List ℕ)) (key : Key) (place : ℕ) → IsBooking keys accounts messages key place → TakesAmount keys accounts messages key place
 unfolding books_with
 takes_amount keys accounts messages key place booking =
-    let before = books_after keys accounts messages place in
+    let books = books_after keys accounts messages place in
     let message = get_or messages place [] in
     let next : place + 1 ≡ suc place = omega arith in
     let split : take (place + 1) messages ≡ take place messages ++ message ∷ [] = ap (λ n. take n messages) next ∙ take-suc messages place [] booking.within in
-    let grown : books_after keys accounts messages (place + 1) ≡ kept_in keys accounts before message (message_of message) = ap (books_of keys accounts) split ∙ books_grow keys accounts no_books (take place messages) message in
-    let presented = message_books keys accounts before message key (message_of message) booking.before (ap (λ b. is_booked b key) (sym grown) ∙ booking.after) in
-    let kept = new_present keys accounts before message presented.fields in
+    let grown : books_after keys accounts messages (place + 1) ≡ kept_in keys accounts books message (message_of message) = ap (books_of keys accounts) split ∙ books_grow keys accounts no_books (take place messages) message in
+    let presented = message_books keys accounts books message key (message_of message) booking.before (ap (λ b. is_booked b key) (sym grown) ∙ booking.after) in
+    let kept = new_present keys accounts books message presented.fields in
     let now : Booking key (books_after keys accounts messages (place + 1)) kept = subst (λ b. Booking key b kept) (sym grown) presented.booking in
     record {
       fields = presented.fields;
