@@ -15,3 +15,4 @@ mod Keeping
 mod Hearing
 mod Leaving
 mod Took
+mod Falling

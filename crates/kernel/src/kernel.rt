@@ -1,5 +1,5 @@
 //! The dialogue of a terminal, a reply at a time.
-ghost use Rattle.std.specs.Prelude.{◌≡◌, ◌≤◌, ◌∷◌, ◌++◌, [], ℕ, List, option_map, None};
+ghost use Rattle.std.specs.Prelude.{◌≡◌, ◌≤◌, ◌+◌, ◌∷◌, ◌++◌, [], ℕ, List, option_map, None};
 ghost use Rattle.std.specs.List.{All};
 ghost use Rattle.emv_dict.specs.Settings.{IsSettings, IsPurchase, most_amount};
 ghost use Rattle.emv_dict.specs.declared.purchase.Logged.{Logged as LoggedRow};
@@ -8,6 +8,7 @@ ghost use Rattle.kernel.specs.Fits.{OpeningFits};
 ghost use Rattle.kernel.specs.Dialogue.{dialogue};
 ghost use Rattle.kernel.specs.Kernel.{KernelStands, StageFits, StageGoes, deal_in, next_of, told_next, told_bytes};
 ghost use Rattle.kernel.specs.Kernel as spec;
+ghost use Rattle.kernel.specs.Rank.{rank_of};
 ghost use Rattle.kernel.specs.Marks.{Mark, latest, card_of};
 ghost use Rattle.kernel.specs.Stages.{OpeningStands};
 ghost use Rattle.kernel.specs.Table.{IsDeal, deal_of};
@@ -67,6 +68,8 @@ impl<'s> Kernel<'s> {
         requires purchase { IsPurchase purchase.now }
         ensures stands { KernelStands result [] }
         ensures deal { deal_in result ≡ record { settings = settings.now; purchase = purchase.now } }
+        // A dialogue ends after at most 20,000 replies and one more for each PIN entry.
+        ensures few { rank_of result ≤ 20000 + length purchase.now.pins }
     {
         let mut table = Table::new(settings, purchase);
         let objects = Env::new();

@@ -1,5 +1,5 @@
 //! One reply once the card is read, in whatever step waits for it.
-ghost use Rattle.std.specs.Prelude.{◌≡◌, ◌≤◌, ◌∷◌, List, option_map};
+ghost use Rattle.std.specs.Prelude.{◌≡◌, ◌≤◌, ◌<◌, ◌∷◌, List, option_map};
 ghost use Rattle.std.specs.List.{All};
 ghost use Rattle.emv_dict.specs.Settings.{IsAidRow, most_amount};
 ghost use Rattle.emv_dict.specs.declared.purchase.Logged.{Logged as LoggedRow};
@@ -7,6 +7,7 @@ ghost use Rattle.kernel.specs.Course.{Standing};
 ghost use Rattle.kernel.specs.Dialogue.{Trade};
 ghost use Rattle.kernel.specs.Kernel.{trading_next};
 ghost use Rattle.kernel.specs.Marks.{Mark};
+ghost use Rattle.kernel.specs.Rank.{trading_rank};
 ghost use Rattle.kernel.specs.Reply.{Reply, CardSaid, CardGone, from_host};
 ghost use Rattle.kernel.specs.Stages.{TradingStands, HasRoom, scripts_left};
 ghost use Rattle.kernel.specs.Table.{IsDeal, deal_of};
@@ -40,6 +41,7 @@ pub(crate) fn on_card<'s>(
         → TradingStands table.old (trade_of table.old row.now card.now) trading.entry before rest
         → TradingStands table.new (trade_of table.old row.now card.now) result log.now (λ later. rest (CardSaid reply.now log.now ∷ later)) }
     ensures same { deal_of table.new ≡ deal_of table.old }
+    ensures nearer { trading_rank table.new.reply.scripts result < trading_rank table.old.reply.scripts trading }
     ensures room { HasRoom table.new (scripts_left table.new.reply.scripts result) }
 {
     match trading {
@@ -61,7 +63,9 @@ pub(crate) fn on_gone<'s>(table: &mut Table<'s>, trading: Trading<'s>) -> Tradin
     ensures stands { (trade : Trade) (log : List LoggedRow) (rest : List Reply → Standing Mark)
         → TradingStands table.old trade trading.entry log rest
         → TradingStands table.new trade result log (λ later. rest (CardGone ∷ later)) }
+    ensures ended { trading_next result ≡ next.Ended }
     ensures same { deal_of table.new ≡ deal_of table.old }
+    ensures nearer { trading_rank table.new.reply.scripts result < trading_rank table.old.reply.scripts trading }
     ensures room { HasRoom table.new (scripts_left table.new.reply.scripts result) }
 {
     match trading {
@@ -91,6 +95,7 @@ pub(crate) fn on_host<'s>(
         → TradingStands table.old (trade_of table.old row.now card.now) trading.entry log rest
         → TradingStands table.new (trade_of table.old row.now card.now) result log (λ later. rest (from_host (option_map (λ reply. reply.now) reply) ∷ later)) }
     ensures same { deal_of table.new ≡ deal_of table.old }
+    ensures nearer { trading_rank table.new.reply.scripts result < trading_rank table.old.reply.scripts trading }
     ensures room { HasRoom table.new (scripts_left table.new.reply.scripts result) }
 {
     match trading {

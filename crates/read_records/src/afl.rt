@@ -41,6 +41,19 @@ pub(crate) fn read_afl(afl: &[u8]) -> Result<Groups, u8>
     }
 }
 
+/// The group of four bytes.
+fn group_of(file: u8, first: u8, last: u8, authenticated: u8) -> Group
+    ensures exact { result ≡ record { file = file; first = first; last = last; authenticated = authenticated } }
+    ensures small { result.last < 256 }
+{
+    Group {
+        file,
+        first,
+        last,
+        authenticated,
+    }
+}
+
 /// The groups of four bytes, one behind another.
 fn groups_in(afl: &[u8]) -> Groups
     requires { length afl.now < 256 }
@@ -50,12 +63,7 @@ fn groups_in(afl: &[u8]) -> Groups
     let mut groups = Groups::new();
     let mut rest = afl;
     while let [file, first, last, authenticated, behind @ ..] = rest {
-        groups.push(Group {
-            file: *file,
-            first: *first,
-            last: *last,
-            authenticated: *authenticated,
-        });
+        groups.push(group_of(*file, *first, *last, *authenticated));
         rest = behind;
     }
     groups

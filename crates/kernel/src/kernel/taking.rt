@@ -1,5 +1,5 @@
 //! A kernel takes the replies of the card and of the host.
-ghost use Rattle.std.specs.Prelude.{◌≡◌, ◌≤◌, ◌∷◌, ◌++◌, [], List, Option, None, option_map};
+ghost use Rattle.std.specs.Prelude.{◌≡◌, ◌≤◌, ◌<◌, ◌∷◌, ◌++◌, [], List, Option, None, option_map};
 ghost use Rattle.std.specs.List.{All};
 ghost use Rattle.emv_dict.specs.Settings.{most_amount};
 ghost use Rattle.emv_dict.specs.declared.purchase.Logged.{Logged as LoggedRow};
@@ -9,6 +9,7 @@ ghost use Rattle.object_lists.specs.CardRead.{ReadCard};
 ghost use Rattle.kernel.specs.Fits.{OpeningFits};
 ghost use Rattle.kernel.specs.Kernel.{KernelStands, StageFits, StageGoes, TradingFits, TradingGoes, deal_in, next_of, stage_next, trading_next};
 ghost use Rattle.kernel.specs.Marks.{Mark};
+ghost use Rattle.kernel.specs.Rank.{rank_of, stage_rank, opening_rank, trading_rank};
 ghost use Rattle.kernel.specs.Reply.{Reply, CardSaid, CardGone, HostSaid, HostSilent, from_host};
 ghost use Rattle.kernel.specs.Stages.{OpeningStands};
 ghost use Rattle.kernel.specs.Table.{IsDeal, deal_of};
@@ -37,6 +38,7 @@ impl<'s> Kernel<'s> {
         ensures stands { (replies : List Reply) → KernelStands self.old replies
             → KernelStands self.new (replies ++ CardSaid reply.now log.now ∷ []) }
         ensures deal { deal_in self.new ≡ deal_in self.old }
+        ensures nearer { rank_of self.new < rank_of self.old }
     {
         let stage = mem::replace(&mut self.stage, Stage::Opening(Opening::Over(TAKEN_OUT)));
         self.stage = stage_said(
@@ -56,7 +58,8 @@ impl<'s> Kernel<'s> {
         ensures stands { (replies : List Reply) → KernelStands self.old replies
             → KernelStands self.new (replies ++ CardGone ∷ []) }
         ensures deal { deal_in self.new ≡ deal_in self.old }
-        ensures over { next_of self.new ≡ next.Ended }
+        ensures nearer { rank_of self.new < rank_of self.old }
+        ensures ended { next_of self.new ≡ next.Ended }
     {
         let stage = mem::replace(&mut self.stage, Stage::Opening(Opening::Over(TAKEN_OUT)));
         self.stage = stage_gone(&mut self.table, stage);
@@ -69,6 +72,7 @@ impl<'s> Kernel<'s> {
         ensures stands { (replies : List Reply) → KernelStands self.old replies
             → KernelStands self.new (replies ++ from_host (option_map (λ reply. reply.now) reply) ∷ []) }
         ensures deal { deal_in self.new ≡ deal_in self.old }
+        ensures nearer { rank_of self.new < rank_of self.old }
     {
         let stage = mem::replace(&mut self.stage, Stage::Opening(Opening::Over(TAKEN_OUT)));
         self.stage = stage_heard(&mut self.table, &self.card, stage, reply);
@@ -82,6 +86,7 @@ impl<'s> Kernel<'s> {
         ensures stands { (replies : List Reply) → KernelStands self.entry replies
             → KernelStands result (replies ++ CardSaid reply.now log.now ∷ []) }
         ensures deal { deal_in result ≡ deal_in self.entry }
+        ensures nearer { rank_of result < rank_of self.entry }
     {
         let mut kernel = self;
         kernel.take_card(reply, log);
@@ -94,7 +99,8 @@ impl<'s> Kernel<'s> {
         ensures stands { (replies : List Reply) → KernelStands self.entry replies
             → KernelStands result (replies ++ CardGone ∷ []) }
         ensures deal { deal_in result ≡ deal_in self.entry }
-        ensures over { next_of result ≡ next.Ended }
+        ensures nearer { rank_of result < rank_of self.entry }
+        ensures ended { next_of result ≡ next.Ended }
     {
         let mut kernel = self;
         kernel.take_gone();
@@ -107,6 +113,7 @@ impl<'s> Kernel<'s> {
         ensures stands { (replies : List Reply) → KernelStands self.entry replies
             → KernelStands result (replies ++ HostSaid reply.now ∷ []) }
         ensures deal { deal_in result ≡ deal_in self.entry }
+        ensures nearer { rank_of result < rank_of self.entry }
     {
         let mut kernel = self;
         kernel.take_host(Some(reply));
@@ -119,6 +126,7 @@ impl<'s> Kernel<'s> {
         ensures stands { (replies : List Reply) → KernelStands self.entry replies
             → KernelStands result (replies ++ HostSilent ∷ []) }
         ensures deal { deal_in result ≡ deal_in self.entry }
+        ensures nearer { rank_of result < rank_of self.entry }
     {
         let mut kernel = self;
         kernel.take_host(None);
@@ -143,6 +151,7 @@ fn on_opening<'s>(
         → OpeningStands table.old objects.old state.entry before rest
         → StageGoes table.new objects.new held.new result log.now (λ later. rest (CardSaid reply.now log.now ∷ later)) }
     ensures same { deal_of table.new ≡ deal_of table.old }
+    ensures nearer { stage_rank table.new result < opening_rank table.old state }
     ensures fits { StageFits table.new objects.new held.new result }
 {
     match opening::on_answer(table, objects, state, reply) {
@@ -173,6 +182,7 @@ fn stage_said<'s>(
         → StageGoes table.old objects.old held.old stage.entry before rest
         → StageGoes table.new objects.new held.new result log.now (λ later. rest (CardSaid reply.now log.now ∷ later)) }
     ensures same { deal_of table.new ≡ deal_of table.old }
+    ensures nearer { stage_rank table.new result < stage_rank table.old stage }
     ensures fits { StageFits table.new objects.new held.new result }
 {
     match stage {
@@ -197,6 +207,7 @@ fn trading_said<'s>(
         → TradingGoes table.old held.now at.entry before rest
         → TradingGoes table.new held.now result log.now (λ later. rest (CardSaid reply.now log.now ∷ later)) }
     ensures same { deal_of table.new ≡ deal_of table.old }
+    ensures nearer { trading_rank table.new.reply.scripts result.trading < trading_rank table.old.reply.scripts at.trading }
     ensures fits { TradingFits table.new held.now result }
 {
     let Some(card) = held else {
@@ -215,8 +226,9 @@ fn stage_gone<'s>(table: &mut Table<'s>, stage: Stage<'s>) -> Stage<'s>
         → StageGoes table.old objects held stage.entry before rest
         → StageGoes table.new objects held result before (λ later. rest (CardGone ∷ later)) }
     ensures same { deal_of table.new ≡ deal_of table.old }
+    ensures nearer { stage_rank table.new result < stage_rank table.old stage }
     ensures fits { (objects : Entries) (held : Option ReadCard) → StageFits table.old objects held stage.entry → StageFits table.new objects held result }
-    ensures over { stage_next result ≡ next.Ended }
+    ensures ended { stage_next result ≡ next.Ended }
 {
     match stage {
         Stage::Opening(state) => Stage::Opening(opening::on_gone(state)),
@@ -242,6 +254,7 @@ fn stage_heard<'s>(
         → StageGoes table.old objects held.now stage.entry log rest
         → StageGoes table.new objects held.now result log (λ later. rest (from_host (option_map (λ reply. reply.now) reply) ∷ later)) }
     ensures same { deal_of table.new ≡ deal_of table.old }
+    ensures nearer { stage_rank table.new result < stage_rank table.old stage }
     ensures fits { (objects : Entries) → StageFits table.new objects held.now result }
 {
     match stage {
@@ -264,6 +277,7 @@ fn trading_heard<'s>(
         → TradingGoes table.old held.now at.entry log rest
         → TradingGoes table.new held.now result log (λ later. rest (from_host (option_map (λ reply. reply.now) reply) ∷ later)) }
     ensures same { deal_of table.new ≡ deal_of table.old }
+    ensures nearer { trading_rank table.new.reply.scripts result.trading < trading_rank table.old.reply.scripts at.trading }
     ensures fits { TradingFits table.new held.now result }
 {
     let Some(card) = held else {
