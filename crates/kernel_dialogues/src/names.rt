@@ -225,8 +225,8 @@ const NAMES: [(&str, &str); 55] = [
 
 /// The text of this name, or the word itself where it is none.
 pub fn text_of(word: &str) -> &str {
-    for (name, text) in NAMES {
-        if name == word {
+    for (name, text) in &NAMES {
+        if *name == word {
             return text;
         }
     }

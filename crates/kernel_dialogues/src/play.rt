@@ -9,6 +9,7 @@ use arrayvec::ArrayVec;
 use auth_message::Message;
 use emv_dict::Logged;
 use kernel::{Capture, Ended, Kernel, Next, Tally};
+use online_step::Ac;
 use report_text::{EndParts, Line, Text, write_line};
 use std::alloc::Global;
 
@@ -24,7 +25,7 @@ struct Parts<'t> {
 /// Plays the dialogue of a line: its name, the words by which the terminal and the purchase differ from the
 /// base, `: `, the commands and the messages with their replies between ` > `, ` = `, the end as a report
 /// prints it, and behind ` | ` what is captured. Bytes are hexadecimal digits or a name, and `-` stands for
-/// none. A host's exchange begins with `host`; a card can be `gone`, and a host says `none`.
+/// none. A host's exchange begins with `host`; a card can be `gone`, and a silent host says `none`.
 pub fn play(alloc: Global, line: &str) -> Result<(), Difference> {
     let parts = parts_of(line)?;
     let deal = Deal::read(parts.deal);
@@ -33,7 +34,18 @@ pub fn play(alloc: Global, line: &str) -> Result<(), Difference> {
     let log = deal.log(alloc)?;
     let mut kernel = Kernel::begin(&settings, &purchase);
     let replies = exchange_all(&mut kernel, parts.exchanges, &log)?;
-    end(kernel, replies, &parts)
+    match kernel.next() {
+        Next::Ended => {}
+        Next::ToCard | Next::ToHost => return Err(Difference::Deed(replies)),
+    }
+    let mut tally = Tally::new();
+    let ended = kernel.into_ended(&mut tally);
+    compare(ended, &parts)?;
+    if tally.counts() == counts_of(parts.end, replies) {
+        Ok(())
+    } else {
+        Err(Difference::Tally)
+    }
 }
 
 fn parts_of(line: &str) -> Result<Parts<'_>, Difference> {
@@ -90,12 +102,8 @@ fn is_taken(kernel: &mut Kernel<'_>, exchange: &str, log: &[Logged], bytes: &mut
     true
 }
 
-/// Compares the end.
-fn end(kernel: Kernel<'_>, replies: u64, parts: &Parts<'_>) -> Result<(), Difference> {
-    if kernel.next() != Next::Ended {
-        return Err(Difference::Deed(replies));
-    }
-    let mut tally = Tally::new();
+/// Compares the end record.
+fn compare(ended: Ended, parts: &Parts<'_>) -> Result<(), Difference> {
     let Ended {
         ending,
         tvr,
@@ -107,26 +115,34 @@ fn end(kernel: Kernel<'_>, replies: u64, parts: &Parts<'_>) -> Result<(), Differ
         last,
         scripts,
         capture,
-    } = kernel.into_ended(&mut tally);
+    } = ended;
+    if !is_captured(capture, parts.capture) {
+        return Err(Difference::Capture);
+    }
     let end = EndParts {
         ending,
         tvr,
         tsi,
         cvm,
         arc: code,
-        atc_ac: last.map(|ac| (ac.counter, ac.cryptogram)),
+        atc_ac: counter_and_cryptogram(&last),
         scripts,
     };
-    if !is_captured(capture, parts.capture) {
-        return Err(Difference::Capture);
+    if is_end(end, parts.end) {
+        Ok(())
+    } else {
+        Err(Difference::End)
     }
-    if !is_end(end, parts.end) {
-        return Err(Difference::End);
+}
+
+fn counter_and_cryptogram(last: &Option<Ac>) -> Option<(u16, [u8; 8])> {
+    match last {
+        Some(ac) => {
+            let cryptogram = ac.cryptogram;
+            Some((ac.counter, cryptogram))
+        }
+        None => None,
     }
-    if tally.counts() != counts_of(parts.end, replies) {
-        return Err(Difference::Tally);
-    }
-    Ok(())
 }
 
 /// Whether this is what is captured, nothing where there is none.
