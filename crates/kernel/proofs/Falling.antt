@@ -1,5 +1,5 @@
 -- How many replies may still be taken, as steps follow one another.
-use Rattle.std.proofs.Common.{◌≡◌, refl, sym, ap, ◌∙◌, ℕ, zero, suc, ◌+◌, ◌*◌, ◌≤◌, ◌<◌, ◌==◌, Bool, true, false, List, [], ◌∷◌, length, filter, map, drop, slice_get, Some, None, Result, Ok, Err, arith, if◌then◌else◌}
+use Rattle.std.proofs.Common.{◌≡◌, refl, sym, ap, ◌∙◌, ℕ, zero, suc, ◌+◌, ◌*◌, ◌≤◌, ◌<◌, ◌==◌, Bool, true, false, List, [], ◌∷◌, length, filter, map, Some, None, Result, Ok, Err, arith, if◌then◌else◌}
 use Rattle.std.proofs.lemmas.Bool.Decides.{nat_tests}
 use Rattle.std.specs.Prelude.{cond}
 use Rattle.app_select.specs.Candidates.{CandidateData}
@@ -22,10 +22,10 @@ use Rattle.kernel.specs.declared.stage.Opening.{Opening}
 use Rattle.kernel.specs.declared.stage.Opening.TheVariants as at
 use Rattle.kernel.specs.declared.table.Table.{Table}
 
--- the bytes of all objects
-all_bytes : List ItemData → ℕ
+-- the bytes of all objects: those of each value, and one for its tag
+abbrev all_bytes : List ItemData → ℕ
 all_bytes [] = 0
-all_bytes (item ∷ items) = length item.value + all_bytes items
+all_bytes (item ∷ items) = 1 + length item.value + all_bytes items
 
 values_fit : (bytes : List ℕ) (place : ℕ) (items : List ItemData) → Items bytes place items → all_bytes items + place ≤ length bytes
 values_fit bytes place [] zeros = let up = zeros.upward in omega arith
@@ -40,18 +40,15 @@ values_fit bytes place (item ∷ items) stand =
 -- no object has two tags
 tags_apart : (items : List ItemData) → bytes_in (map (λ item. item.value) (filter (λ item. item.tag == 0x71) items)) + bytes_in (map (λ item. item.value) (filter (λ item. item.tag == 0x72) items)) ≤ all_bytes items
 tags_apart [] = omega arith
-tags_apart (item ∷ items) = by (item.tag == 0x71) (item.tag == 0x72) refl refl (tags_apart items)
+tags_apart (item ∷ items) = by (item.tag == 0x71) (item.tag == 0x72) refl refl (filter (λ item. item.tag == 0x71) items) (filter (λ item. item.tag == 0x72) items) (tags_apart items)
   where
-    kept : (tag : ℕ) → List ItemData
-    kept tag = filter (λ item. item.tag == tag) items
-    bytes : List ItemData → ℕ
-    bytes chosen = bytes_in (map (λ item. item.value) chosen)
-    by : (a b : Bool) → (item.tag == 0x71) ≡ a → (item.tag == 0x72) ≡ b → bytes (kept 0x71) + bytes (kept 0x72) ≤ all_bytes items
-        → bytes (cond a (item ∷ kept 0x71) (kept 0x71)) + bytes (cond b (item ∷ kept 0x72) (kept 0x72)) ≤ all_bytes (item ∷ items)
-    by true true x y rest = absurd (grind (arith, nat_tests))
-    by true false x y rest = omega arith
-    by false true x y rest = omega arith
-    by false false x y rest = omega arith
+    by : (a b : Bool) → (item.tag == 0x71) ≡ a → (item.tag == 0x72) ≡ b → (one two : List ItemData)
+        → bytes_in (map (λ item. item.value) one) + bytes_in (map (λ item. item.value) two) ≤ all_bytes items
+        → bytes_in (map (λ item. item.value) (cond a (item ∷ one) one)) + bytes_in (map (λ item. item.value) (cond b (item ∷ two) two)) ≤ all_bytes (item ∷ items)
+    by true true x y one two rest = absurd (grind (arith, nat_tests))
+    by true false x y one two rest = omega arith
+    by false true x y one two rest = omega arith
+    by false false x y one two rest = omega arith
 
 read_bytes : (bytes : List ℕ) (read : Result (List ItemData) TlvFault) → items_of bytes ≡ read → bytes_in (with_tag 0x71 read) + bytes_in (with_tag 0x72 read) ≤ length bytes
 read_bytes bytes (Ok items) is =
@@ -64,12 +61,6 @@ read_bytes bytes (Err fault) is = omega arith
 pub scripts_bytes : (scripts : List ℕ) → bytes_in (templates 0x71 scripts) + bytes_in (templates 0x72 scripts) ≤ length scripts
 unfolding templates
 scripts_bytes scripts = read_bytes scripts (items_of scripts) refl
-
--- the bytes from a template on are its own and those behind it
-pub bytes_from : (all : List (List ℕ)) (index : ℕ) (template : List ℕ) → slice_get all index ≡ Some template → bytes_in (drop index all) ≡ length template + bytes_in (drop (index + 1) all)
-bytes_from [] index template is = cc
-bytes_from (first ∷ others) zero template is = let same : first ≡ template = cc in ap (λ (t : List ℕ). length t + bytes_in others) same
-bytes_from (first ∷ others) (suc index) template is = let more : suc index + 1 ≡ suc (index + 1) = omega arith in rw more (bytes_from others index template is)
 
 -- a search that takes an answer
 pub search_falls : (next : SearchNext) (candidates : List CandidateData) (left : ℕ) → answers_left_next next candidates < left → search_rank next candidates < 2 * left

@@ -16,3 +16,4 @@ mod Hearing
 mod Leaving
 mod Took
 mod Falling
+mod Growing

@@ -1,5 +1,5 @@
 -- A kernel that has taken one reply more.
-use Rattle.std.proofs.Common.{◌≡◌, refl, sym, ap, ◌∙◌, ◌+◌, ◌-◌, ◌^◌, min, ℕ, List, [], ◌∷◌, ◌++◌, length}
+use Rattle.std.proofs.Common.{◌≡◌, refl, sym, ap, ◌∙◌, ◌+◌, ◌-◌, ◌^◌, min, ℕ, List, [], ◌∷◌, ◌++◌, length, arith}
 use Rattle.std.proofs.lemmas.List.{append_assoc, length-append}
 use Rattle.emv_dict.specs.declared.purchase.Logged.{Logged}
 use Rattle.env_map.specs.Entries.{Entries}
@@ -39,7 +39,7 @@ goes_alike t objects held (stage.Trading at) log rest other alike goes = record 
 
 -- a count that stops at the greatest number
 count_more : (most n taken now : ℕ) → taken ≡ min n most → now ≡ min (taken + 1) most → now ≡ min (n + 1) most
-count_more most n taken now is more = grind (arith, nat_tests)
+count_more most n taken now is more = omega arith
 
 -- the reply joins those that were taken
 pub kernel_took : (k k2 : KernelData) → (reply : Reply) → (log : List Logged → List Logged) → (replies : List Reply)

@@ -14,3 +14,4 @@ pub mod Rank
 pub mod Tally
 pub mod Shown
 pub mod Sound
+pub mod Laws

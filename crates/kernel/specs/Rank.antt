@@ -19,10 +19,10 @@ use Rattle.kernel.specs.declared.stage.Trading.{Trading}
 use Rattle.kernel.specs.declared.stage.Trading.TheVariants as trading
 use Rattle.kernel.specs.declared.table.Table.{Table}
 
--- scripts ask no more commands than they have bytes
+-- scripts ask no more commands than they have bytes: those of each value, and one for its tag
 abbrev pub bytes_in : List (List ℕ) → ℕ
 bytes_in [] = 0
-bytes_in (template ∷ others) = length template + bytes_in others
+bytes_in (template ∷ others) = 1 + length template + bytes_in others
 
 -- the most bytes that scripts have
 abbrev pub most_scripts : ℕ
@@ -36,9 +36,9 @@ trading_rank scripts (trading.First asked) = 4 + most_scripts
 trading_rank scripts trading.Online = 3 + most_scripts
 trading_rank scripts trading.Authenticate = 2 + (bytes_in (templates 0x71 scripts) + bytes_in (templates 0x72 scripts))
 trading_rank scripts (trading.ScriptBefore s) =
-    length s.running.commands + 1 + (bytes_in (drop s.next (templates 0x71 scripts)) + bytes_in (templates 0x72 scripts))
+    length s.running.commands + 2 + (bytes_in (drop s.next (templates 0x71 scripts)) + bytes_in (templates 0x72 scripts))
 trading_rank scripts (trading.Second s) = 1 + bytes_in (behind_if s.online scripts)
-trading_rank scripts (trading.ScriptBehind s ending) = length s.running.commands + bytes_in (drop s.next (templates 0x72 scripts))
+trading_rank scripts (trading.ScriptBehind s ending) = length s.running.commands + 1 + bytes_in (drop s.next (templates 0x72 scripts))
 trading_rank scripts (trading.Over ending) = 0
 
 -- behind reading

@@ -100,7 +100,7 @@ fn before_next<'s>(
         → RunNextLeads course [] next
         → TradingStands table.new (trade_of table.old row.now card.now) result log rest }
     ensures same { deal_of table.new ≡ deal_of table.old }
-    ensures few { trading_rank table.new.reply.scripts result ≤ left_next next + 1 + (bytes_in (drop index (templates 0x71 table.old.reply.scripts)) + bytes_in (templates 0x72 table.old.reply.scripts)) }
+    ensures few { trading_rank table.new.reply.scripts result ≤ left_next next + 2 + (bytes_in (drop index (templates 0x71 table.old.reply.scripts)) + bytes_in (templates 0x72 table.old.reply.scripts)) }
     ensures room { HasRoom table.new (scripts_left table.new.reply.scripts result) }
 {
     match next {
@@ -132,7 +132,7 @@ pub(crate) fn on_script_before<'s>(
         → TradingStands table.old (trade_of table.old row.now card.now) (stage.ScriptBefore state) before rest
         → TradingStands table.new (trade_of table.old row.now card.now) result now (λ later. rest (CardSaid reply.now now ∷ later)) }
     ensures same { deal_of table.new ≡ deal_of table.old }
-    ensures nearer { trading_rank table.new.reply.scripts result < length state.running.commands + 1 + (bytes_in (drop state.next (templates 0x71 table.old.reply.scripts)) + bytes_in (templates 0x72 table.old.reply.scripts)) }
+    ensures nearer { trading_rank table.new.reply.scripts result < length state.running.commands + 2 + (bytes_in (drop state.next (templates 0x71 table.old.reply.scripts)) + bytes_in (templates 0x72 table.old.reply.scripts)) }
     ensures room { HasRoom table.new (scripts_left table.new.reply.scripts result) }
 {
     let AtScript { running, next } = state;
@@ -175,7 +175,7 @@ fn behind_next<'s>(
         → RunNextLeads course [] next
         → TradingStands table.new trade result log rest }
     ensures same { deal_of table.new ≡ deal_of table.old }
-    ensures few { trading_rank table.new.reply.scripts result ≤ left_next next + bytes_in (drop index (templates 0x72 table.old.reply.scripts)) }
+    ensures few { trading_rank table.new.reply.scripts result ≤ left_next next + 1 + bytes_in (drop index (templates 0x72 table.old.reply.scripts)) }
     ensures room { HasRoom table.new (scripts_left table.new.reply.scripts result) }
 {
     match next {
@@ -206,7 +206,7 @@ pub(crate) fn on_script_behind<'s>(
         → TradingStands table.old trade (stage.ScriptBehind state ending) before rest
         → TradingStands table.new trade result now (λ later. rest (CardSaid reply.now now ∷ later)) }
     ensures same { deal_of table.new ≡ deal_of table.old }
-    ensures nearer { trading_rank table.new.reply.scripts result < length state.running.commands + bytes_in (drop state.next (templates 0x72 table.old.reply.scripts)) }
+    ensures nearer { trading_rank table.new.reply.scripts result < length state.running.commands + 1 + bytes_in (drop state.next (templates 0x72 table.old.reply.scripts)) }
     ensures room { HasRoom table.new (scripts_left table.new.reply.scripts result) }
 {
     let AtScript { running, next } = state;
@@ -221,6 +221,7 @@ pub(crate) fn gone_behind<'s>(table: &mut Table<'s>, state: AtScript, ending: En
         → TradingStands table.old trade (stage.ScriptBehind state ending) log rest
         → TradingStands table.new trade result log (λ later. rest (CardGone ∷ later)) }
     ensures same { deal_of table.new ≡ deal_of table.old }
+    ensures over { result ≡ stage.Over ending }
     ensures room { HasRoom table.new (scripts_left table.new.reply.scripts result) }
 {
     let AtScript { running, next } = state;

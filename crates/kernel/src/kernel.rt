@@ -1,5 +1,5 @@
 //! The dialogue of a terminal, a reply at a time.
-ghost use Rattle.std.specs.Prelude.{◌≡◌, ◌≤◌, ◌+◌, ◌∷◌, ◌++◌, [], ℕ, List, option_map, None};
+ghost use Rattle.std.specs.Prelude.{◌≡◌, ◌≤◌, ◌+◌, ◌∷◌, ◌++◌, [], ℕ, List, length, option_map, None};
 ghost use Rattle.std.specs.List.{All};
 ghost use Rattle.emv_dict.specs.Settings.{IsSettings, IsPurchase, most_amount};
 ghost use Rattle.emv_dict.specs.declared.purchase.Logged.{Logged as LoggedRow};

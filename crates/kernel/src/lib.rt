@@ -5,6 +5,7 @@
 pub mod ended;
 mod issuer_scripts;
 pub mod kernel;
+pub mod laws;
 mod moment;
 mod online;
 mod opening;

@@ -78,7 +78,7 @@ fn ask_search<'s>(
         → ((later : List (List ℕ)) → course later ≡ rest_with search.entry table.old.candidates later)
         → OpeningStands table.new objects.now result log rest }
     ensures same { deal_of table.new ≡ deal_of table.old }
-    ensures few { opening_rank table.new result ≤ 2 * answers_left search table.old.candidates + (most_records + rank_behind table.old) }
+    ensures few { opening_rank table.new result ≤ 2 * answers_left search.entry table.old.candidates + (most_records + rank_behind table.old) }
     ensures fits { OpeningFits table.new objects.now result }
 {
     search.ask(&mut table.command);
@@ -96,7 +96,7 @@ fn search_next<'s>(table: &mut Table<'s>, objects: &Env, next: SearchNext<'s>) -
         → SearchNextLeads table.old.candidates course [] next.entry
         → OpeningStands table.new objects.now result log rest }
     ensures same { deal_of table.new ≡ deal_of table.old }
-    ensures few { opening_rank table.new result ≤ search_rank next table.old.candidates + (most_records + rank_behind table.old) }
+    ensures few { opening_rank table.new result ≤ search_rank next.entry table.old.candidates + (most_records + rank_behind table.old) }
     ensures fits { OpeningFits table.new objects.now result }
 {
     match next {
@@ -232,7 +232,7 @@ fn on_select<'s>(
         → OpeningStands table.old objects.now (stage.Select state.entry) before rest
         → OpeningStands table.new objects.now result now (λ later. rest (CardSaid reply.now now ∷ later)) }
     ensures same { deal_of table.new ≡ deal_of table.old }
-    ensures nearer { opening_rank table.new result < 2 * answers_left state.search table.old.candidates + (most_records + rank_behind table.old) }
+    ensures nearer { opening_rank table.new result < 2 * answers_left state.entry.search table.old.candidates + (most_records + rank_behind table.old) }
     ensures fits { OpeningFits table.new objects.now result }
 {
     let AtSelect { search, begun: _ } = state;
@@ -273,7 +273,7 @@ fn on_read<'s>(
         → OpeningStands table.old objects.old (stage.Read state.entry) before rest
         → NextStands table.new objects.new result now (λ later. rest (CardSaid reply.now now ∷ later)) }
     ensures same { deal_of table.new ≡ deal_of table.old }
-    ensures nearer { next_rank table.new result < length state.course + rank_behind table.old }
+    ensures nearer { next_rank table.new result < length state.entry.course + rank_behind table.old }
     ensures fits { NextFits table.new objects.new result }
 {
     let AtRead { course, row } = state;
@@ -290,18 +290,19 @@ pub(crate) fn on_answer<'s>(
 ) -> OpeningNext<'s>
     requires deal { IsDeal (deal_of table.old) }
     requires fits { OpeningFits table.old objects.old state }
+    requires waits { opening_next state ≡ waits.ToCard }
     ensures stands { (before now : List Logged) (rest : List Reply → Standing Mark)
         → OpeningStands table.old objects.old state.entry before rest
         → NextStands table.new objects.new result now (λ later. rest (CardSaid reply.now now ∷ later)) }
     ensures same { deal_of table.new ≡ deal_of table.old }
-    ensures nearer { next_rank table.new result < opening_rank table.old state }
+    ensures nearer { next_rank table.new result < opening_rank table.old state.entry }
     ensures fits { NextFits table.new objects.new result }
 {
     match state {
         Opening::Select(state) => OpeningNext::On(on_select(table, objects, state, reply)),
         Opening::Initiate(state) => OpeningNext::On(on_initiate(table, objects, state, reply)),
         Opening::Read(state) => on_read(table, objects, state, reply),
-        Opening::Over(ending) => OpeningNext::On(Opening::Over(ending)),
+        Opening::Over(_) => unreachable!(),
     }
 }
 

@@ -93,6 +93,7 @@ fn keep(reply: &mut HostReply, said: &Said<'_>)
     requires { IsSound said.now }
     ensures kept { reply.new ≡ kept_reply said.now }
     ensures few { length (templates 0x71 reply.new.scripts) + length (templates 0x72 reply.new.scripts) ≤ 8 }
+    ensures short { length reply.new.scripts ≤ most_scripts }
 {
     reply.code = said.code;
     reply.issuer_data = kept(said.auth);

@@ -104,7 +104,7 @@ fn verify_next<'s>(
         → VerifyLeads course [] next.entry
         → TradingStands table.new (record { deal = deal_of table.old; row = row.now; card = card.now }) result log.now rest }
     ensures same { deal_of table.new ≡ deal_of table.old }
-    ensures few { trading_rank table.new.reply.scripts result ≤ 6 + most_scripts + entries_left next }
+    ensures few { trading_rank table.new.reply.scripts result ≤ 6 + most_scripts + entries_left next.entry }
     ensures room { HasRoom table.new (scripts_left table.new.reply.scripts result) }
 {
     match next {
@@ -137,7 +137,7 @@ pub(crate) fn on_verify<'s>(
         → TradingStands table.old (record { deal = deal_of table.old; row = row.now; card = card.now }) (stage.Verify verifying.entry) before rest
         → TradingStands table.new (record { deal = deal_of table.old; row = row.now; card = card.now }) result log.now (λ later. rest (CardSaid reply.now log.now ∷ later)) }
     ensures same { deal_of table.new ≡ deal_of table.old }
-    ensures nearer { trading_rank table.new.reply.scripts result < length verifying.pins + 6 + most_scripts }
+    ensures nearer { trading_rank table.new.reply.scripts result < length verifying.entry.pins + 6 + most_scripts }
     ensures room { HasRoom table.new (scripts_left table.new.reply.scripts result) }
 {
     let next = verifying.take(reply);

@@ -41,7 +41,7 @@ pub(crate) fn on_card<'s>(
         → TradingStands table.old (trade_of table.old row.now card.now) trading.entry before rest
         → TradingStands table.new (trade_of table.old row.now card.now) result log.now (λ later. rest (CardSaid reply.now log.now ∷ later)) }
     ensures same { deal_of table.new ≡ deal_of table.old }
-    ensures nearer { trading_rank table.new.reply.scripts result < trading_rank table.old.reply.scripts trading }
+    ensures nearer { trading_rank table.new.reply.scripts result < trading_rank table.old.reply.scripts trading.entry }
     ensures room { HasRoom table.new (scripts_left table.new.reply.scripts result) }
 {
     match trading {
@@ -65,7 +65,7 @@ pub(crate) fn on_gone<'s>(table: &mut Table<'s>, trading: Trading<'s>) -> Tradin
         → TradingStands table.new trade result log (λ later. rest (CardGone ∷ later)) }
     ensures ended { trading_next result ≡ next.Ended }
     ensures same { deal_of table.new ≡ deal_of table.old }
-    ensures nearer { trading_rank table.new.reply.scripts result < trading_rank table.old.reply.scripts trading }
+    ensures nearer { trading_rank table.new.reply.scripts result < trading_rank table.old.reply.scripts trading.entry }
     ensures room { HasRoom table.new (scripts_left table.new.reply.scripts result) }
 {
     match trading {
@@ -93,9 +93,9 @@ pub(crate) fn on_host<'s>(
     requires waits { trading_next trading ≡ next.ToHost }
     ensures stands { (log : List LoggedRow) (rest : List Reply → Standing Mark)
         → TradingStands table.old (trade_of table.old row.now card.now) trading.entry log rest
-        → TradingStands table.new (trade_of table.old row.now card.now) result log (λ later. rest (from_host (option_map (λ reply. reply.now) reply) ∷ later)) }
+        → TradingStands table.new (trade_of table.old row.now card.now) result log (λ later. rest (from_host (option_map (λ reply. reply.now) reply.entry) ∷ later)) }
     ensures same { deal_of table.new ≡ deal_of table.old }
-    ensures nearer { trading_rank table.new.reply.scripts result < trading_rank table.old.reply.scripts trading }
+    ensures nearer { trading_rank table.new.reply.scripts result < trading_rank table.old.reply.scripts trading.entry }
     ensures room { HasRoom table.new (scripts_left table.new.reply.scripts result) }
 {
     match trading {

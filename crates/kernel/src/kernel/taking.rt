@@ -7,7 +7,7 @@ ghost use Rattle.kernel.specs.Course.{Standing};
 ghost use Rattle.env_map.specs.Entries.{Entries};
 ghost use Rattle.object_lists.specs.CardRead.{ReadCard};
 ghost use Rattle.kernel.specs.Fits.{OpeningFits};
-ghost use Rattle.kernel.specs.Kernel.{KernelStands, StageFits, StageGoes, TradingFits, TradingGoes, deal_in, next_of, stage_next, trading_next};
+ghost use Rattle.kernel.specs.Kernel.{KernelStands, StageFits, StageGoes, TradingFits, TradingGoes, deal_in, next_of, stage_next, opening_next, trading_next};
 ghost use Rattle.kernel.specs.Marks.{Mark};
 ghost use Rattle.kernel.specs.Rank.{rank_of, stage_rank, opening_rank, trading_rank};
 ghost use Rattle.kernel.specs.Reply.{Reply, CardSaid, CardGone, HostSaid, HostSilent, from_host};
@@ -70,7 +70,7 @@ impl<'s> Kernel<'s> {
     pub fn take_host(&mut self, reply: Option<&[u8]>)
         requires waits { next_of self.old ≡ next.ToHost }
         ensures stands { (replies : List Reply) → KernelStands self.old replies
-            → KernelStands self.new (replies ++ from_host (option_map (λ reply. reply.now) reply) ∷ []) }
+            → KernelStands self.new (replies ++ from_host (option_map (λ reply. reply.now) reply.entry) ∷ []) }
         ensures deal { deal_in self.new ≡ deal_in self.old }
         ensures nearer { rank_of self.new < rank_of self.old }
     {
@@ -146,12 +146,13 @@ fn on_opening<'s>(
     requires deal { IsDeal (deal_of table.old) }
     requires fits { OpeningFits table.old objects.old state }
     requires held { held.old ≡ None }
+    requires waits { opening_next state ≡ next.ToCard }
     requires log { All (λ logged. logged.amount ≤ most_amount) log.now }
     ensures stands { (before : List LoggedRow) (rest : List Reply → Standing Mark)
         → OpeningStands table.old objects.old state.entry before rest
         → StageGoes table.new objects.new held.new result log.now (λ later. rest (CardSaid reply.now log.now ∷ later)) }
     ensures same { deal_of table.new ≡ deal_of table.old }
-    ensures nearer { stage_rank table.new result < opening_rank table.old state }
+    ensures nearer { stage_rank table.new result < opening_rank table.old state.entry }
     ensures fits { StageFits table.new objects.new held.new result }
 {
     match opening::on_answer(table, objects, state, reply) {
@@ -182,7 +183,7 @@ fn stage_said<'s>(
         → StageGoes table.old objects.old held.old stage.entry before rest
         → StageGoes table.new objects.new held.new result log.now (λ later. rest (CardSaid reply.now log.now ∷ later)) }
     ensures same { deal_of table.new ≡ deal_of table.old }
-    ensures nearer { stage_rank table.new result < stage_rank table.old stage }
+    ensures nearer { stage_rank table.new result < stage_rank table.old stage.entry }
     ensures fits { StageFits table.new objects.new held.new result }
 {
     match stage {
@@ -207,7 +208,7 @@ fn trading_said<'s>(
         → TradingGoes table.old held.now at.entry before rest
         → TradingGoes table.new held.now result log.now (λ later. rest (CardSaid reply.now log.now ∷ later)) }
     ensures same { deal_of table.new ≡ deal_of table.old }
-    ensures nearer { trading_rank table.new.reply.scripts result.trading < trading_rank table.old.reply.scripts at.trading }
+    ensures nearer { trading_rank table.new.reply.scripts result.trading < trading_rank table.old.reply.scripts at.entry.trading }
     ensures fits { TradingFits table.new held.now result }
 {
     let Some(card) = held else {
@@ -220,13 +221,13 @@ fn trading_said<'s>(
 
 /// The card is gone at any stage.
 fn stage_gone<'s>(table: &mut Table<'s>, stage: Stage<'s>) -> Stage<'s>
-    requires fits { (objects : Entries) (held : Option ReadCard) × StageFits table.old objects held stage }
+    requires fits { (objects : Entries) × (held : Option ReadCard) × StageFits table.old objects held stage }
     requires waits { stage_next stage ≡ next.ToCard }
     ensures stands { (objects : Entries) (held : Option ReadCard) (before : List LoggedRow) (rest : List Reply → Standing Mark)
         → StageGoes table.old objects held stage.entry before rest
         → StageGoes table.new objects held result before (λ later. rest (CardGone ∷ later)) }
     ensures same { deal_of table.new ≡ deal_of table.old }
-    ensures nearer { stage_rank table.new result < stage_rank table.old stage }
+    ensures nearer { stage_rank table.new result < stage_rank table.old stage.entry }
     ensures fits { (objects : Entries) (held : Option ReadCard) → StageFits table.old objects held stage.entry → StageFits table.new objects held result }
     ensures ended { stage_next result ≡ next.Ended }
 {
@@ -248,13 +249,13 @@ fn stage_heard<'s>(
     reply: Option<&[u8]>,
 ) -> Stage<'s>
     requires deal { IsDeal (deal_of table.old) }
-    requires fits { (objects : Entries) → StageFits table.old objects held.now stage }
+    requires fits { (objects : Entries) × StageFits table.old objects held.now stage }
     requires waits { stage_next stage ≡ next.ToHost }
     ensures stands { (objects : Entries) (log : List LoggedRow) (rest : List Reply → Standing Mark)
         → StageGoes table.old objects held.now stage.entry log rest
-        → StageGoes table.new objects held.now result log (λ later. rest (from_host (option_map (λ reply. reply.now) reply) ∷ later)) }
+        → StageGoes table.new objects held.now result log (λ later. rest (from_host (option_map (λ reply. reply.now) reply.entry) ∷ later)) }
     ensures same { deal_of table.new ≡ deal_of table.old }
-    ensures nearer { stage_rank table.new result < stage_rank table.old stage }
+    ensures nearer { stage_rank table.new result < stage_rank table.old stage.entry }
     ensures fits { (objects : Entries) → StageFits table.new objects held.now result }
 {
     match stage {
@@ -275,9 +276,9 @@ fn trading_heard<'s>(
     requires waits { trading_next at.trading ≡ next.ToHost }
     ensures stands { (log : List LoggedRow) (rest : List Reply → Standing Mark)
         → TradingGoes table.old held.now at.entry log rest
-        → TradingGoes table.new held.now result log (λ later. rest (from_host (option_map (λ reply. reply.now) reply) ∷ later)) }
+        → TradingGoes table.new held.now result log (λ later. rest (from_host (option_map (λ reply. reply.now) reply.entry) ∷ later)) }
     ensures same { deal_of table.new ≡ deal_of table.old }
-    ensures nearer { trading_rank table.new.reply.scripts result.trading < trading_rank table.old.reply.scripts at.trading }
+    ensures nearer { trading_rank table.new.reply.scripts result.trading < trading_rank table.old.reply.scripts at.entry.trading }
     ensures fits { TradingFits table.new held.now result }
 {
     let Some(card) = held else {

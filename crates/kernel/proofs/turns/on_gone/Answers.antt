@@ -1,4 +1,4 @@
-use Rattle.std.proofs.Common.{refl, false, true}
+use Rattle.std.proofs.Common.{refl, false, true, arith}
 use Rattle.cvm_list.specs.Waiting.{rest_of as verifying_rest}
 use Rattle.emv_dict.specs.declared.ending.Step.TheVariants as step
 use Rattle.risk_mgmt.specs.Asked.{rest_of as judging_rest}
@@ -40,3 +40,9 @@ returns-in-Second-clause-stands c = λ trade log rest stands.
 
 pub returns-in-ScriptBehind-clause-stands : goal.returns-in-ScriptBehind-clause-stands
 returns-in-ScriptBehind-clause-stands c = λ trade log rest stands. c.gone_behind.ensures.stands trade log rest (rw c.in-ScriptBehind.is at stands)
+
+pub returns-in-ScriptBehind-clause-ended : goal.returns-in-ScriptBehind-clause-ended
+returns-in-ScriptBehind-clause-ended c = rw c.gone_behind.ensures.over refl
+
+pub returns-in-ScriptBehind-clause-nearer : goal.returns-in-ScriptBehind-clause-nearer
+returns-in-ScriptBehind-clause-nearer c = rw (c.gone_behind.ensures.over, c.in-ScriptBehind.is) (omega arith)
