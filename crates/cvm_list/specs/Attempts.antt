@@ -1,5 +1,5 @@
 -- What a rule comes to before the card is asked.
-use Rattle.std.specs.Prelude.{◌≡◌, ℕ, ◌==◌, Bool, true, false, ◌&&◌, IsTrue, List, ◌∷◌}
+use Rattle.std.specs.Prelude.{◌≡◌, ℕ, ◌+◌, ◌==◌, Bool, true, false, ◌&&◌, IsTrue, List, ◌∷◌, length}
 use Rattle.std.specs.List.{All}
 use Rattle.emv_dict.specs.Digits.{HasPinLength}
 use Rattle.cvm_list.specs.Rules.{method_of, supports}
@@ -17,3 +17,8 @@ AttemptIs caps rule pins (attempt.Ask pin others) = (pins ≡ pin.now ∷ others
 abbrev pub LeavesPins : Attempt → Type 0
 LeavesPins (attempt.Known outcome left) = All HasPinLength left.now
 LeavesPins (attempt.Ask pin others) = HasPinLength pin.now × All HasPinLength others.now
+
+-- the entries that it takes or leaves
+abbrev pub entries_of : Attempt → ℕ
+entries_of (attempt.Known outcome left) = length left.now
+entries_of (attempt.Ask pin others) = 1 + length others.now

@@ -5,7 +5,7 @@ ghost use Rattle.emv_dict.specs.Progress.{Progress, Leads, Wants};
 ghost use Rattle.cvm_list.specs.Begun as spec;
 ghost use Rattle.cvm_list.specs.Cvm.{course, nothing_found as found_before, verdict};
 ghost use Rattle.cvm_list.specs.Laws.{AsksForNone, IsPassedOver};
-ghost use Rattle.cvm_list.specs.NextIs.{NextLeads};
+ghost use Rattle.cvm_list.specs.NextIs.{NextLeads, entries_left};
 ghost use Rattle.cvm_list.specs.Plain.{plain_result};
 ghost use Rattle.cvm_list.specs.Rules.{rules_of, method_of as rule_method};
 ghost use Rattle.cvm_list.specs.Settled.{rest_behind_rule};
@@ -70,6 +70,7 @@ impl<'s> Verifying<'s> {
         ensures leads { NextLeads (spec.cvm card.now settings.now purchase.now) [] result }
         // A card that asks for no verification sets no bit.
         ensures passed_over { AsksForNone card.now → IsPassedOver result }
+        ensures few { entries_left result ≤ length purchase.now.pins }
     {
         if card.aip[0] & 0x10 == 0 {
             return VerifyNext::Done(passed(Tvr::default()));
@@ -90,8 +91,10 @@ impl<'s> Verifying<'s> {
 
     /// Goes on with the card's answer.
     pub fn take(self, reply: &[u8]) -> VerifyNext<'s>
-        ensures { (whole : List (List ℕ) → Progress Verified) (answers : List (List ℕ))
+        ensures leads { (whole : List (List ℕ) → Progress Verified) (answers : List (List ℕ))
             → Leads whole answers (rest_of self.entry) → NextLeads whole (answers ++ reply.now ∷ []) result }
+        // Each command takes an entry.
+        ensures nearer { entries_left result < length self.entry.pins }
     {
         let Verifying {
             found,
@@ -152,7 +155,8 @@ fn write_verify(pin: &Digits, out: &mut Out)
 /// Tries the rules from a place on, until the card is to be asked or verification ends.
 fn walk<'s>(found: Found, caps: u8, rules: Rules, at: usize, pins: &'s [Digits]) -> VerifyNext<'s>
     requires { All HasPinLength pins.now }
-    ensures { NextLeads (λ later. verdict found (course caps (drop at rules.items) pins.now later) later) [] result }
+    ensures leads { NextLeads (λ later. verdict found (course caps (drop at rules.items) pins.now later) later) [] result }
+    ensures few { entries_left result ≤ length pins.now }
 {
     if at >= rules.len() {
         return VerifyNext::Done(verified(found));
@@ -193,7 +197,8 @@ fn go_on<'s>(
     pins: &'s [Digits],
 ) -> VerifyNext<'s>
     requires { All HasPinLength pins.now }
-    ensures { NextLeads (rest_behind_rule found outcome (course caps (drop at rules.items)) pins.now) [] result }
+    ensures leads { NextLeads (rest_behind_rule found outcome (course caps (drop at rules.items)) pins.now) [] result }
+    ensures few { entries_left result ≤ length pins.now }
 {
     match settle(found, outcome) {
         Settled::GoesOn(found) => walk(found, caps, rules, at, pins),
@@ -211,8 +216,9 @@ fn with_list<'s>(
     requires least { 8 ≤ length list.now }
     requires most { length list.now ≤ 255 }
     requires pins { All HasPinLength purchase.now.pins }
-    ensures { NextLeads (spec.by_rules (rules_of (drop 8 list.now))
+    ensures leads { NextLeads (spec.by_rules (rules_of (drop 8 list.now))
         (spec.situation list.now (option_map (λ given. given.now) currency.entry) settings.now purchase.now) purchase.now) [] result }
+    ensures few { entries_left result ≤ length purchase.now.pins }
 {
     if list.len() < 10 {
         return VerifyNext::Done(passed(Tvr::ICC_DATA_MISSING));

@@ -13,3 +13,7 @@ mod Requested
 mod Scripting
 mod Keeping
 mod Hearing
+mod Leaving
+mod Took
+mod Falling
+mod Growing

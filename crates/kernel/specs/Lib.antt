@@ -10,6 +10,8 @@ pub mod Table
 pub mod Stages
 pub mod Fits
 pub mod Kernel
+pub mod Rank
 pub mod Tally
 pub mod Shown
 pub mod Sound
+pub mod Laws

@@ -1,5 +1,5 @@
 -- What a terminal is told, and what it does next.
-use Rattle.std.specs.Prelude.{ℕ, List}
+use Rattle.std.specs.Prelude.{ℕ, List, Option, Some, None}
 use Rattle.emv_dict.specs.declared.ending.Ending.{Ending}
 use Rattle.emv_dict.specs.declared.purchase.Logged.{Logged}
 
@@ -16,3 +16,8 @@ pub data Deed : Type 0 where
   ToCard : (command : List ℕ) → Deed
   ToHost : (message : List ℕ) → Deed
   Over : (ending : Ending) → Deed
+
+-- what a terminal is told by the host, where it replies and where it doesn't
+abbrev pub from_host : Option (List ℕ) → Reply
+from_host (Some reply) = HostSaid reply
+from_host None = HostSilent

@@ -7,13 +7,14 @@ ghost use Rattle.emv_dict.specs.declared.purchase.Logged.{Logged};
 ghost use Rattle.kernel.specs.Course.{Standing, card_step, cut_off};
 ghost use Rattle.kernel.specs.Dialogue.{Trade, scripts_before, scripts_behind, left_script, all_failed, kind_for as kind_of_code};
 ghost use Rattle.kernel.specs.Marks.{Mark, HasRunBefore, HasRunBehind, moment as moment_of};
+ghost use Rattle.kernel.specs.Rank.{trading_rank, bytes_in};
 ghost use Rattle.kernel.specs.Reply.{Reply, CardSaid, CardGone};
 ghost use Rattle.kernel.specs.Scripts.{templates};
 ghost use Rattle.kernel.specs.Stages.{TradingStands, Begins, HasRoom, scripts_left};
 ghost use Rattle.kernel.specs.Table.{IsDeal, deal_of};
 ghost use Rattle.kernel.specs.Trades.{trade_of};
 ghost use Rattle.kernel.specs.declared.stage.Trading.TheVariants as stage;
-ghost use Rattle.script_run.specs.Leading.{RunNextLeads};
+ghost use Rattle.script_run.specs.Leading.{RunNextLeads, left_next};
 
 use crate::moment::Moment;
 use crate::online::begin_second;
@@ -66,6 +67,7 @@ pub(crate) fn run_before<'s>(
         → Begins table.old card.now marks rest (scripts_before (trade_of table.old row.now card.now) table.old.reply (drop index (templates 0x71 table.old.reply.scripts)) marks log)
         → TradingStands table.new (trade_of table.old row.now card.now) result log rest }
     ensures same { deal_of table.new ≡ deal_of table.old }
+    ensures few { trading_rank table.new.reply.scripts result ≤ 1 + (bytes_in (drop index (templates 0x71 table.old.reply.scripts)) + bytes_in (templates 0x72 table.old.reply.scripts)) }
     ensures room { HasRoom table.new (scripts_left table.new.reply.scripts result) }
 {
     match template_of(&table.reply, BEFORE, index) {
@@ -98,6 +100,7 @@ fn before_next<'s>(
         → RunNextLeads course [] next
         → TradingStands table.new (trade_of table.old row.now card.now) result log rest }
     ensures same { deal_of table.new ≡ deal_of table.old }
+    ensures few { trading_rank table.new.reply.scripts result ≤ left_next next + 2 + (bytes_in (drop index (templates 0x71 table.old.reply.scripts)) + bytes_in (templates 0x72 table.old.reply.scripts)) }
     ensures room { HasRoom table.new (scripts_left table.new.reply.scripts result) }
 {
     match next {
@@ -129,6 +132,7 @@ pub(crate) fn on_script_before<'s>(
         → TradingStands table.old (trade_of table.old row.now card.now) (stage.ScriptBefore state) before rest
         → TradingStands table.new (trade_of table.old row.now card.now) result now (λ later. rest (CardSaid reply.now now ∷ later)) }
     ensures same { deal_of table.new ≡ deal_of table.old }
+    ensures nearer { trading_rank table.new.reply.scripts result < length state.running.commands + 2 + (bytes_in (drop state.next (templates 0x71 table.old.reply.scripts)) + bytes_in (templates 0x72 table.old.reply.scripts)) }
     ensures room { HasRoom table.new (scripts_left table.new.reply.scripts result) }
 {
     let AtScript { running, next } = state;
@@ -144,6 +148,7 @@ pub(crate) fn run_behind<'s>(table: &mut Table<'s>, ending: Ending, index: usize
         → Begins table.old trade.card marks rest (scripts_behind ending (drop index (templates 0x72 table.old.reply.scripts)) marks log)
         → TradingStands table.new trade result log rest }
     ensures same { deal_of table.new ≡ deal_of table.old }
+    ensures few { trading_rank table.new.reply.scripts result ≤ bytes_in (drop index (templates 0x72 table.old.reply.scripts)) }
     ensures room { HasRoom table.new (scripts_left table.new.reply.scripts result) }
 {
     match template_of(&table.reply, BEHIND, index) {
@@ -170,6 +175,7 @@ fn behind_next<'s>(
         → RunNextLeads course [] next
         → TradingStands table.new trade result log rest }
     ensures same { deal_of table.new ≡ deal_of table.old }
+    ensures few { trading_rank table.new.reply.scripts result ≤ left_next next + 1 + bytes_in (drop index (templates 0x72 table.old.reply.scripts)) }
     ensures room { HasRoom table.new (scripts_left table.new.reply.scripts result) }
 {
     match next {
@@ -200,6 +206,7 @@ pub(crate) fn on_script_behind<'s>(
         → TradingStands table.old trade (stage.ScriptBehind state ending) before rest
         → TradingStands table.new trade result now (λ later. rest (CardSaid reply.now now ∷ later)) }
     ensures same { deal_of table.new ≡ deal_of table.old }
+    ensures nearer { trading_rank table.new.reply.scripts result < length state.running.commands + 1 + bytes_in (drop state.next (templates 0x72 table.old.reply.scripts)) }
     ensures room { HasRoom table.new (scripts_left table.new.reply.scripts result) }
 {
     let AtScript { running, next } = state;
@@ -214,6 +221,7 @@ pub(crate) fn gone_behind<'s>(table: &mut Table<'s>, state: AtScript, ending: En
         → TradingStands table.old trade (stage.ScriptBehind state ending) log rest
         → TradingStands table.new trade result log (λ later. rest (CardGone ∷ later)) }
     ensures same { deal_of table.new ≡ deal_of table.old }
+    ensures over { result ≡ stage.Over ending }
     ensures room { HasRoom table.new (scripts_left table.new.reply.scripts result) }
 {
     let AtScript { running, next } = state;

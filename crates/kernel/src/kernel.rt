@@ -1,5 +1,5 @@
 //! The dialogue of a terminal, a reply at a time.
-ghost use Rattle.std.specs.Prelude.{◌≡◌, ◌≤◌, ◌∷◌, ◌++◌, [], ℕ, List, option_map, None};
+ghost use Rattle.std.specs.Prelude.{◌≡◌, ◌≤◌, ◌+◌, ◌∷◌, ◌++◌, [], ℕ, List, length, option_map, None};
 ghost use Rattle.std.specs.List.{All};
 ghost use Rattle.emv_dict.specs.Settings.{IsSettings, IsPurchase, most_amount};
 ghost use Rattle.emv_dict.specs.declared.purchase.Logged.{Logged as LoggedRow};
@@ -8,6 +8,7 @@ ghost use Rattle.kernel.specs.Fits.{OpeningFits};
 ghost use Rattle.kernel.specs.Dialogue.{dialogue};
 ghost use Rattle.kernel.specs.Kernel.{KernelStands, StageFits, StageGoes, deal_in, next_of, told_next, told_bytes};
 ghost use Rattle.kernel.specs.Kernel as spec;
+ghost use Rattle.kernel.specs.Rank.{rank_of};
 ghost use Rattle.kernel.specs.Marks.{Mark, latest, card_of};
 ghost use Rattle.kernel.specs.Stages.{OpeningStands};
 ghost use Rattle.kernel.specs.Table.{IsDeal, deal_of};
@@ -25,6 +26,7 @@ use std::marker::Model;
 use std::mem;
 
 mod finish;
+mod taking;
 
 /// What a terminal waits for.
 #[derive(Clone, Copy, PartialEq, Eq, Debug)]
@@ -66,6 +68,8 @@ impl<'s> Kernel<'s> {
         requires purchase { IsPurchase purchase.now }
         ensures stands { KernelStands result [] }
         ensures deal { deal_in result ≡ record { settings = settings.now; purchase = purchase.now } }
+        // A dialogue ends after at most 20,000 replies and one more for each PIN entry.
+        ensures few { rank_of result ≤ 20000 + length purchase.now.pins }
     {
         let mut table = Table::new(settings, purchase);
         let objects = Env::new();
@@ -136,35 +140,5 @@ fn bytes_by<'a>(table: &'a Table<'_>, next: Next) -> &'a [u8]
         Next::ToCard => table.command.as_slice(),
         Next::ToHost => table.message.as_slice(),
         Next::Ended => &[],
-    }
-}
-
-/// The card's answer before it is read. Once it is read, the trading begins.
-fn on_opening<'s>(
-    table: &mut Table<'s>,
-    objects: &mut Env,
-    held: &mut Option<CardData>,
-    state: Opening<'s>,
-    reply: &[u8],
-    log: &[Logged],
-) -> Stage<'s>
-    requires deal { IsDeal (deal_of table.old) }
-    requires fits { OpeningFits table.old objects.old state }
-    requires held { held.old ≡ None }
-    requires log { All (λ logged. logged.amount ≤ most_amount) log.now }
-    ensures stands { (before : List LoggedRow) (rest : List Reply → Standing Mark)
-        → OpeningStands table.old objects.old state.entry before rest
-        → StageGoes table.new objects.new held.new result log.now (λ later. rest (CardSaid reply.now log.now ∷ later)) }
-    ensures same { deal_of table.new ≡ deal_of table.old }
-    ensures fits { StageFits table.new objects.new held.new result }
-{
-    match opening::on_answer(table, objects, state, reply) {
-        OpeningNext::On(state) => Stage::Opening(state),
-        OpeningNext::Read(row) => {
-            let card = CardData::new(mem::replace(objects, Env::new()));
-            let trading = begin_trading(table, &card, row, log);
-            *held = Some(card);
-            Stage::Trading(AtTrading { row, trading })
-        }
     }
 }

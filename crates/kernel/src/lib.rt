@@ -5,6 +5,7 @@
 pub mod ended;
 mod issuer_scripts;
 pub mod kernel;
+pub mod laws;
 mod moment;
 mod online;
 mod opening;
@@ -15,6 +16,7 @@ mod table;
 pub mod tally;
 mod terminal;
 mod trading;
+mod turns;
 
 pub use ended::{Capture, Ended};
 pub use kernel::{Kernel, Next};

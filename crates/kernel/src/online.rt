@@ -1,11 +1,12 @@
 //! The steps from the first cryptogram to the second one (EMV 4.3 Book 3 sections 10.8, 10.9 and 10.11).
-ghost use Rattle.std.specs.Prelude.{◌≡◌, ◌∷◌, ◌≤◌, List, ℕ, Some, None, IsSome, length, option_map};
+ghost use Rattle.std.specs.Prelude.{◌≡◌, ◌∷◌, ◌≤◌, ◌<◌, ◌+◌, List, ℕ, Some, None, IsSome, length, option_map};
 ghost use Rattle.action_analysis.specs.Analysed as spec;
 ghost use Rattle.emv_dict.specs.Settings.{IsSettings, IsPurchase};
 ghost use Rattle.emv_dict.specs.declared.purchase.Logged.{Logged};
 ghost use Rattle.kernel.specs.Course.{Standing};
 ghost use Rattle.kernel.specs.Dialogue.{first_answered, online, unable_online, second, authentication, decision as decision_of, kind_for as kind_of_code, is_offline_only as offline_test, has_authentication as authentication_test};
 ghost use Rattle.kernel.specs.Marks.{Mark, HasFirst, HasReply, latest, ac_of};
+ghost use Rattle.kernel.specs.Rank.{trading_rank, bytes_in, most_scripts};
 ghost use Rattle.kernel.specs.Reply.{Reply, CardSaid, HostSaid, HostSilent};
 ghost use Rattle.kernel.specs.Scripts.{templates};
 ghost use Rattle.kernel.specs.Stages.{TradingStands, Begins, HasRoom, scripts_left, behind_if};
@@ -47,6 +48,7 @@ pub(crate) fn on_first<'s>(
         → TradingStands table.old (trade_of table.old row.now card.now) (stage.First asked) before rest
         → TradingStands table.new (trade_of table.old row.now card.now) result now (λ later. rest (CardSaid reply.now now ∷ later)) }
     ensures same { deal_of table.new ≡ deal_of table.old }
+    ensures nearer { trading_rank table.new.reply.scripts result < 4 + most_scripts }
     ensures room { HasRoom table.new (scripts_left table.new.reply.scripts result) }
 {
     match read_ac(reply, asked, false) {
@@ -63,6 +65,7 @@ fn decide<'s>(table: &mut Table<'s>, card: &CardData, row: &AidRow, ac: Ac) -> T
         → Begins table.old card.now marks rest (first_answered (trade_of table.old row.now card.now) ac (HasFirst ac ∷ marks) ac.kind log)
         → TradingStands table.new (trade_of table.old row.now card.now) result log rest }
     ensures same { deal_of table.new ≡ deal_of table.old }
+    ensures few { trading_rank table.new.reply.scripts result ≤ 3 + most_scripts }
     ensures room { HasRoom table.new (scripts_left table.new.reply.scripts result) }
 {
     let kind = ac.kind;
@@ -84,6 +87,7 @@ fn go_online<'s>(table: &mut Table<'s>, card: &CardData, row: &AidRow) -> Tradin
         → Begins table.old card.now marks rest (online (trade_of table.old row.now card.now) ac marks log)
         → TradingStands table.new (trade_of table.old row.now card.now) result log rest }
     ensures same { deal_of table.new ≡ deal_of table.old }
+    ensures few { trading_rank table.new.reply.scripts result ≤ 3 + most_scripts }
     ensures room { HasRoom table.new (scripts_left table.new.reply.scripts result) }
 {
     if is_offline_only(table.settings) {
@@ -173,6 +177,7 @@ pub(crate) fn be_unable<'s>(
         → Begins table.old card.now marks rest (unable_online (trade_of table.old row.now card.now) sent marks log)
         → TradingStands table.new (trade_of table.old row.now card.now) result log rest }
     ensures same { deal_of table.new ≡ deal_of table.old }
+    ensures few { trading_rank table.new.reply.scripts result ≤ 1 }
     ensures room { HasRoom table.new (scripts_left table.new.reply.scripts result) }
 {
     let asked = kind_unable(&table.moment, card, row, table.settings);
@@ -211,6 +216,7 @@ pub(crate) fn begin_second<'s>(
         → Begins table.old card.now marks rest (second (trade_of table.old row.now card.now) state.online state.asked (behind_if state.online table.old.reply.scripts) marks log)
         → TradingStands table.new (trade_of table.old row.now card.now) result log rest }
     ensures same { deal_of table.new ≡ deal_of table.old }
+    ensures few { trading_rank table.new.reply.scripts result ≤ 1 + bytes_in (behind_if state.online table.old.reply.scripts) }
     ensures room { HasRoom table.new (scripts_left table.new.reply.scripts result) }
 {
     put_terminal(

@@ -1,7 +1,7 @@
 //! The steps before the card is read: application selection, initiation and reading (EMV 4.3 Book 1
 //! section 12 and Book 3 sections 10.1 and 10.2).
-ghost use Rattle.std.specs.Prelude.{◌≡◌, ⊤, [], ◌∷◌, ℕ, List, Option, option_map, if◌then◌else◌};
-ghost use Rattle.app_select.specs.Leading.{HasRoom, rest_with, selected_with};
+ghost use Rattle.std.specs.Prelude.{◌≡◌, ◌≤◌, ◌<◌, ◌+◌, ◌*◌, ⊤, [], ◌∷◌, ℕ, List, length, Option, option_map, if◌then◌else◌};
+ghost use Rattle.app_select.specs.Leading.{HasRoom, rest_with, selected_with, answers_left};
 ghost use Rattle.app_select.specs.NextLeads.{SearchNextLeads, NextHasRoom};
 ghost use Rattle.app_select.specs.Selecting.{SelectedData};
 ghost use Rattle.emv_dict.specs.Progress.{Progress};
@@ -11,18 +11,22 @@ ghost use Rattle.emv_dict.specs.declared.purchase.Logged.{Logged};
 ghost use Rattle.env_map.specs.Entries.{Entries};
 ghost use Rattle.object_lists.specs.CardRead.{ReadCard};
 ghost use Rattle.object_lists.specs.Forms.{HasForms};
+ghost use Rattle.read_records.specs.Afl.{most_records};
 ghost use Rattle.read_records.specs.Checked.{HasOptions};
 ghost use Rattle.read_records.specs.DataRead.{reading};
-ghost use Rattle.read_records.specs.Leading.{OptionsNextLeads, CourseNextLeads, IsBegun};
+ghost use Rattle.read_records.specs.Leading.{OptionsNextLeads, CourseNextLeads, IsBegun, begun_next, left_next};
 ghost use Rattle.read_records.specs.Options.{Opened};
 ghost use Rattle.kernel.specs.Course.{Standing, card_step, cut_off};
 ghost use Rattle.kernel.specs.Dialogue.{dialogue, initiation, candidates_left, granted, restrictions};
 ghost use Rattle.kernel.specs.Fits.{OpeningFits, SelectFits, InitiateFits, ReadFits, NextFits, NextStands, selected_then};
+ghost use Rattle.kernel.specs.Kernel.{opening_next};
 ghost use Rattle.kernel.specs.Marks.{Mark, moment};
+ghost use Rattle.kernel.specs.Rank.{opening_rank, next_rank, search_rank, rank_behind};
 ghost use Rattle.kernel.specs.Reply.{Reply, CardSaid, CardGone};
 ghost use Rattle.kernel.specs.Stages.{OpeningStands, cut_of};
 ghost use Rattle.kernel.specs.Table.{IsDeal, deal_of};
 ghost use Rattle.kernel.specs.declared.table.Table.{Table};
+ghost use Rattle.kernel.specs.declared.kernel.Next.TheVariants as waits;
 ghost use Rattle.kernel.specs.declared.stage.Opening.TheVariants as stage;
 
 use crate::stage::{AtInitiate, AtRead, AtSelect, Opening};
@@ -51,6 +55,7 @@ pub(crate) fn begin<'s>(table: &mut Table<'s>, objects: &Env) -> Opening<'s>
     requires moment { table.old.moment ≡ moment [] }
     ensures stands { OpeningStands table.new objects.now result [] (dialogue (deal_of table.old)) }
     ensures same { deal_of table.new ≡ deal_of table.old }
+    ensures few { opening_rank table.new result ≤ 2 * 512 + (most_records + rank_behind table.old) }
     ensures fits { OpeningFits table.new objects.now result }
 {
     let purchase = table.purchase;
@@ -73,6 +78,7 @@ fn ask_search<'s>(
         → ((later : List (List ℕ)) → course later ≡ rest_with search.entry table.old.candidates later)
         → OpeningStands table.new objects.now result log rest }
     ensures same { deal_of table.new ≡ deal_of table.old }
+    ensures few { opening_rank table.new result ≤ 2 * answers_left search.entry table.old.candidates + (most_records + rank_behind table.old) }
     ensures fits { OpeningFits table.new objects.now result }
 {
     search.ask(&mut table.command);
@@ -90,6 +96,7 @@ fn search_next<'s>(table: &mut Table<'s>, objects: &Env, next: SearchNext<'s>) -
         → SearchNextLeads table.old.candidates course [] next.entry
         → OpeningStands table.new objects.now result log rest }
     ensures same { deal_of table.new ≡ deal_of table.old }
+    ensures few { opening_rank table.new result ≤ search_rank next.entry table.old.candidates + (most_records + rank_behind table.old) }
     ensures fits { OpeningFits table.new objects.now result }
 {
     match next {
@@ -110,6 +117,7 @@ fn initiate<'s>(table: &mut Table<'s>, objects: &Env, choice: Choice<'s>) -> Ope
         ≡ initiation (deal_of table.old) (selected_with choice.entry table.old.candidates) (candidates_left (deal_of table.old) table.old.candidates) log later)
         → OpeningStands table.new objects.now result log rest }
     ensures same { deal_of table.new ≡ deal_of table.old }
+    ensures few { opening_rank table.new result ≤ 1 + 2 * length table.old.candidates + (most_records + rank_behind table.old) }
     ensures fits { OpeningFits table.new objects.now result }
 {
     put_terminal(
@@ -139,12 +147,14 @@ fn initiate_next<'s>(
     requires refused { next ≡ OptionsNext.Refused → objects.now ≡ [] }
     requires begun { IsBegun next → HasOptions objects.now }
     requires moment { table.old.moment ≡ moment [] }
+    requires few { length (begun_next next) ≤ most_records }
     ensures stands { (log : List Logged) (course : List (List ℕ) → Progress (Option Opened)) (rest : List Reply → Standing Mark)
         → ((later : List Reply) → rest later ≡ card_step (cut_off []) step.Initiate step.Initiate [] course
         (granted (deal_of table.old) choice.entry.row (candidates_left (deal_of table.old) table.old.candidates)) log later)
         → OptionsNextLeads objects.now course [] next
         → OpeningStands table.new objects.now result log rest }
     ensures same { deal_of table.new ≡ deal_of table.old }
+    ensures few { opening_rank table.new result ≤ 2 * length table.old.candidates + (most_records + rank_behind table.old) }
     ensures fits { OpeningFits table.new objects.now result }
 {
     match next {
@@ -173,6 +183,7 @@ fn ask_record<'s>(
         → ((later : List (List ℕ)) → begun later ≡ reading (record { entries = objects.now; left = course }) later)
         → OpeningStands table.new objects.now result log rest }
     ensures same { deal_of table.new ≡ deal_of table.old }
+    ensures few { opening_rank table.new result ≤ length course + rank_behind table.old }
     ensures fits { OpeningFits table.new objects.now result }
 {
     course.ask(&mut table.command);
@@ -196,6 +207,7 @@ fn read_next<'s>(
         → CourseNextLeads objects.now course [] next
         → NextStands table.new objects.now result log rest }
     ensures same { deal_of table.new ≡ deal_of table.old }
+    ensures few { next_rank table.new result ≤ length (left_next next) + rank_behind table.old }
     ensures fits { NextFits table.new objects.now result }
 {
     match next {
@@ -220,6 +232,7 @@ fn on_select<'s>(
         → OpeningStands table.old objects.now (stage.Select state.entry) before rest
         → OpeningStands table.new objects.now result now (λ later. rest (CardSaid reply.now now ∷ later)) }
     ensures same { deal_of table.new ≡ deal_of table.old }
+    ensures nearer { opening_rank table.new result < 2 * answers_left state.entry.search table.old.candidates + (most_records + rank_behind table.old) }
     ensures fits { OpeningFits table.new objects.now result }
 {
     let AtSelect { search, begun: _ } = state;
@@ -240,6 +253,7 @@ fn on_initiate<'s>(
         → OpeningStands table.old objects.old (stage.Initiate state.entry) before rest
         → OpeningStands table.new objects.new result now (λ later. rest (CardSaid reply.now now ∷ later)) }
     ensures same { deal_of table.new ≡ deal_of table.old }
+    ensures nearer { opening_rank table.new result < 1 + 2 * length table.old.candidates + (most_records + rank_behind table.old) }
     ensures fits { OpeningFits table.new objects.new result }
 {
     let AtInitiate { initiating, choice } = state;
@@ -259,6 +273,7 @@ fn on_read<'s>(
         → OpeningStands table.old objects.old (stage.Read state.entry) before rest
         → NextStands table.new objects.new result now (λ later. rest (CardSaid reply.now now ∷ later)) }
     ensures same { deal_of table.new ≡ deal_of table.old }
+    ensures nearer { next_rank table.new result < length state.entry.course + rank_behind table.old }
     ensures fits { NextFits table.new objects.new result }
 {
     let AtRead { course, row } = state;
@@ -275,17 +290,19 @@ pub(crate) fn on_answer<'s>(
 ) -> OpeningNext<'s>
     requires deal { IsDeal (deal_of table.old) }
     requires fits { OpeningFits table.old objects.old state }
+    requires waits { opening_next state ≡ waits.ToCard }
     ensures stands { (before now : List Logged) (rest : List Reply → Standing Mark)
         → OpeningStands table.old objects.old state.entry before rest
         → NextStands table.new objects.new result now (λ later. rest (CardSaid reply.now now ∷ later)) }
     ensures same { deal_of table.new ≡ deal_of table.old }
+    ensures nearer { next_rank table.new result < opening_rank table.old state.entry }
     ensures fits { NextFits table.new objects.new result }
 {
     match state {
         Opening::Select(state) => OpeningNext::On(on_select(table, objects, state, reply)),
         Opening::Initiate(state) => OpeningNext::On(on_initiate(table, objects, state, reply)),
         Opening::Read(state) => on_read(table, objects, state, reply),
-        Opening::Over(ending) => OpeningNext::On(Opening::Over(ending)),
+        Opening::Over(_) => unreachable!(),
     }
 }
 
@@ -295,6 +312,8 @@ pub(crate) fn on_gone<'s>(state: Opening<'s>) -> Opening<'s>
         → OpeningStands table objects state.entry before rest
         → OpeningStands table objects result before (λ later. rest (CardGone ∷ later)) }
     ensures fits { (table : Table) (objects : Entries) → OpeningFits table objects result }
+    ensures over { (table : Table) → opening_rank table result ≡ 0 }
+    ensures ended { opening_next result ≡ waits.Ended }
 {
     match state {
         Opening::Select(state) => Opening::Over(Ending::CutOff(step_of(&state))),

@@ -1,12 +1,13 @@
 //! The host's reply, issuer authentication, and the second cryptogram (EMV 4.3 Book 3 sections 10.9 and
 //! 10.11).
-ghost use Rattle.std.specs.Prelude.{◌≡◌, ◌∷◌, ◌+◌, ◌≤◌, List, ℕ, Ok, Err, MatchResult, IfOk, IfSome, length, option_map};
+ghost use Rattle.std.specs.Prelude.{◌≡◌, ◌∷◌, ◌+◌, ◌≤◌, ◌<◌, List, ℕ, Ok, Err, MatchResult, IfOk, IfSome, length, option_map};
 ghost use Rattle.auth_message.specs.Reply.{reply_of};
 ghost use Rattle.ber_tlv.specs.Left.{items_of};
 ghost use Rattle.emv_dict.specs.declared.purchase.Logged.{Logged};
 ghost use Rattle.kernel.specs.Course.{Standing};
 ghost use Rattle.kernel.specs.Dialogue.{Trade, authentication, scripts_behind, decision, has_authentication as authentication_test};
 ghost use Rattle.kernel.specs.Marks.{Mark, HasReply, HasSecond};
+ghost use Rattle.kernel.specs.Rank.{trading_rank, bytes_in, most_scripts};
 ghost use Rattle.kernel.specs.Reply.{Reply, CardSaid, HostSaid, HostSilent};
 ghost use Rattle.kernel.specs.Scripts.{templates, are_few as few_test, kept as kept_reply};
 ghost use Rattle.kernel.specs.Sound.{IsSound, IsIssuerData};
@@ -37,6 +38,7 @@ pub(crate) fn on_silence<'s>(table: &mut Table<'s>, card: &CardData, row: &AidRo
         → TradingStands table.old (trade_of table.old row.now card.now) stage.Online log rest
         → TradingStands table.new (trade_of table.old row.now card.now) result log (λ later. rest (HostSilent ∷ later)) }
     ensures same { deal_of table.new ≡ deal_of table.old }
+    ensures nearer { trading_rank table.new.reply.scripts result < 3 + most_scripts }
     ensures room { HasRoom table.new (scripts_left table.new.reply.scripts result) }
 {
     be_unable(table, card, row, true)
@@ -55,6 +57,7 @@ pub(crate) fn on_reply<'s>(
         → TradingStands table.old (trade_of table.old row.now card.now) stage.Online log rest
         → TradingStands table.new (trade_of table.old row.now card.now) result log (λ later. rest (HostSaid reply.now ∷ later)) }
     ensures same { deal_of table.new ≡ deal_of table.old }
+    ensures nearer { trading_rank table.new.reply.scripts result < 3 + most_scripts }
     ensures room { HasRoom table.new (scripts_left table.new.reply.scripts result) }
 {
     match read_reply(reply) {
@@ -77,6 +80,7 @@ fn take_reply<'s>(
         → Begins table.old card.now marks rest (authentication (trade_of table.old row.now card.now) (kept_reply said.entry) (HasReply said.entry ∷ marks) log)
         → TradingStands table.new (trade_of table.old row.now card.now) result log rest }
     ensures same { deal_of table.new ≡ deal_of table.old }
+    ensures few { trading_rank table.new.reply.scripts result ≤ 2 + most_scripts }
     ensures room { HasRoom table.new (scripts_left table.new.reply.scripts result) }
 {
     table.moment.has_reply(&said);
@@ -89,6 +93,7 @@ fn keep(reply: &mut HostReply, said: &Said<'_>)
     requires { IsSound said.now }
     ensures kept { reply.new ≡ kept_reply said.now }
     ensures few { length (templates 0x71 reply.new.scripts) + length (templates 0x72 reply.new.scripts) ≤ 8 }
+    ensures short { length reply.new.scripts ≤ most_scripts }
 {
     reply.code = said.code;
     reply.issuer_data = kept(said.auth);
@@ -129,6 +134,7 @@ fn authenticate<'s>(
         → Begins table.old card.now marks rest (authentication (trade_of table.old row.now card.now) table.old.reply marks log)
         → TradingStands table.new (trade_of table.old row.now card.now) result log rest }
     ensures same { deal_of table.new ≡ deal_of table.old }
+    ensures few { trading_rank table.new.reply.scripts result ≤ 2 + (bytes_in (templates 0x71 table.old.reply.scripts) + bytes_in (templates 0x72 table.old.reply.scripts)) }
     ensures room { HasRoom table.new (scripts_left table.new.reply.scripts result) }
 {
     match auth {
@@ -164,6 +170,7 @@ pub(crate) fn on_authenticate<'s>(
         → TradingStands table.old (trade_of table.old row.now card.now) stage.Authenticate before rest
         → TradingStands table.new (trade_of table.old row.now card.now) result now (λ later. rest (CardSaid reply.now now ∷ later)) }
     ensures same { deal_of table.new ≡ deal_of table.old }
+    ensures nearer { trading_rank table.new.reply.scripts result < 2 + (bytes_in (templates 0x71 table.old.reply.scripts) + bytes_in (templates 0x72 table.old.reply.scripts)) }
     ensures room { HasRoom table.new (scripts_left table.new.reply.scripts result) }
 {
     match read_verdict(reply) {
@@ -182,6 +189,7 @@ pub(crate) fn on_second<'s>(table: &mut Table<'s>, state: AtSecond, reply: &[u8]
         → TradingStands table.old trade (stage.Second state) before rest
         → TradingStands table.new trade result now (λ later. rest (CardSaid reply.now now ∷ later)) }
     ensures same { deal_of table.new ≡ deal_of table.old }
+    ensures nearer { trading_rank table.new.reply.scripts result < 1 + bytes_in (behind_if state.online table.old.reply.scripts) }
     ensures room { HasRoom table.new (scripts_left table.new.reply.scripts result) }
 {
     match read_ac(reply, state.asked, true) {
@@ -197,6 +205,7 @@ fn finish<'s>(table: &mut Table<'s>, online: bool, ac: Ac) -> Trading<'s>
         → Begins table.old trade.card marks rest (scripts_behind (decision online ac.kind) (behind_if online table.old.reply.scripts) (HasSecond ac ∷ marks) log)
         → TradingStands table.new trade result log rest }
     ensures same { deal_of table.new ≡ deal_of table.old }
+    ensures few { trading_rank table.new.reply.scripts result ≤ bytes_in (behind_if online table.old.reply.scripts) }
     ensures room { HasRoom table.new (scripts_left table.new.reply.scripts result) }
 {
     let ending = ending_of(online, &ac);

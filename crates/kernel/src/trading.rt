@@ -1,7 +1,7 @@
 //! The steps from cardholder verification to the first cryptogram (EMV 4.3 Book 3 sections 10.4 to 10.8).
-ghost use Rattle.std.specs.Prelude.{◌≡◌, ◌≤◌, [], ◌∷◌, ℕ, List, length};
+ghost use Rattle.std.specs.Prelude.{◌≡◌, ◌≤◌, ◌<◌, ◌+◌, [], ◌∷◌, ℕ, List, length};
 ghost use Rattle.std.specs.List.{All};
-ghost use Rattle.cvm_list.specs.NextIs.{NextLeads as VerifyLeads};
+ghost use Rattle.cvm_list.specs.NextIs.{NextLeads as VerifyLeads, entries_left};
 ghost use Rattle.cvm_list.specs.declared.verified.Verified.{Verified};
 ghost use Rattle.emv_dict.specs.Progress.{Progress};
 ghost use Rattle.action_analysis.specs.Analysed as spec;
@@ -12,11 +12,13 @@ ghost use Rattle.emv_dict.specs.declared.purchase.Logged.{Logged};
 ghost use Rattle.kernel.specs.Course.{Standing, card_step, cut_off};
 ghost use Rattle.kernel.specs.Dialogue.{Trade, restrictions, verification, risk, analysis, first, first_answered, unable_online, online};
 ghost use Rattle.kernel.specs.Marks.{Mark, HasVerified, HasJudged, HasRead, HasRestricted, moment};
+ghost use Rattle.kernel.specs.Rank.{trading_rank, rank_behind, most_scripts};
 ghost use Rattle.kernel.specs.Reply.{Reply, CardSaid};
 ghost use Rattle.kernel.specs.Stages.{TradingStands, Begins, HasRoom, scripts_left};
 ghost use Rattle.kernel.specs.declared.stage.Trading.TheVariants as stage;
 ghost use Rattle.kernel.specs.Table.{IsDeal, deal_of};
-ghost use Rattle.risk_mgmt.specs.Judging.{NextLeads as JudgeLeads};
+ghost use Rattle.risk_mgmt.specs.Asked.{counters_by};
+ghost use Rattle.risk_mgmt.specs.Judging.{NextLeads as JudgeLeads, counters_left};
 ghost use Rattle.risk_mgmt.specs.declared.judged.Judged.{Judged};
 
 use crate::moment::Moment;
@@ -52,6 +54,7 @@ pub(crate) fn begin_trading<'s>(
         → ((later : List Reply) → rest later ≡ restrictions (record { deal = deal_of table.old; row = row.now; card = card.now }) log.now later)
         → TradingStands table.new (record { deal = deal_of table.old; row = row.now; card = card.now }) result log.now rest }
     ensures same { deal_of table.new ≡ deal_of table.old }
+    ensures few { trading_rank table.new.reply.scripts result ≤ rank_behind table.old }
     ensures room { HasRoom table.new (scripts_left table.new.reply.scripts result) }
 {
     let bits = restrict(card, table.settings, row, table.purchase);
@@ -76,6 +79,7 @@ fn begin_verify<'s>(
         → Begins table.old card.now marks rest (verification (record { deal = deal_of table.old; row = row.now; card = card.now }) marks log.now)
         → TradingStands table.new (record { deal = deal_of table.old; row = row.now; card = card.now }) result log.now rest }
     ensures same { deal_of table.new ≡ deal_of table.old }
+    ensures few { trading_rank table.new.reply.scripts result ≤ rank_behind table.old }
     ensures room { HasRoom table.new (scripts_left table.new.reply.scripts result) }
 {
     let next = Verifying::begin(card, table.settings, table.purchase);
@@ -100,6 +104,7 @@ fn verify_next<'s>(
         → VerifyLeads course [] next.entry
         → TradingStands table.new (record { deal = deal_of table.old; row = row.now; card = card.now }) result log.now rest }
     ensures same { deal_of table.new ≡ deal_of table.old }
+    ensures few { trading_rank table.new.reply.scripts result ≤ 6 + most_scripts + entries_left next.entry }
     ensures room { HasRoom table.new (scripts_left table.new.reply.scripts result) }
 {
     match next {
@@ -132,6 +137,7 @@ pub(crate) fn on_verify<'s>(
         → TradingStands table.old (record { deal = deal_of table.old; row = row.now; card = card.now }) (stage.Verify verifying.entry) before rest
         → TradingStands table.new (record { deal = deal_of table.old; row = row.now; card = card.now }) result log.now (λ later. rest (CardSaid reply.now log.now ∷ later)) }
     ensures same { deal_of table.new ≡ deal_of table.old }
+    ensures nearer { trading_rank table.new.reply.scripts result < length verifying.entry.pins + 6 + most_scripts }
     ensures room { HasRoom table.new (scripts_left table.new.reply.scripts result) }
 {
     let next = verifying.take(reply);
@@ -154,6 +160,7 @@ fn begin_risk<'s>(
         → Begins table.old card.now marks rest (risk (record { deal = deal_of table.old; row = row.now; card = card.now }) marks log.now)
         → TradingStands table.new (record { deal = deal_of table.old; row = row.now; card = card.now }) result log.now rest }
     ensures same { deal_of table.new ≡ deal_of table.old }
+    ensures few { trading_rank table.new.reply.scripts result ≤ 6 + most_scripts }
     ensures room { HasRoom table.new (scripts_left table.new.reply.scripts result) }
 {
     let next = Judging::begin(card, table.settings, row, table.purchase, log);
@@ -175,6 +182,7 @@ fn judge_next<'s>(
         → JudgeLeads course [] next
         → TradingStands table.new (record { deal = deal_of table.old; row = row.now; card = card.now }) result log rest }
     ensures same { deal_of table.new ≡ deal_of table.old }
+    ensures few { trading_rank table.new.reply.scripts result ≤ 4 + most_scripts + counters_left next }
     ensures room { HasRoom table.new (scripts_left table.new.reply.scripts result) }
 {
     match next {
@@ -204,6 +212,7 @@ pub(crate) fn on_judge<'s>(
         → TradingStands table.old (record { deal = deal_of table.old; row = row.now; card = card.now }) (stage.Risk judging) before rest
         → TradingStands table.new (record { deal = deal_of table.old; row = row.now; card = card.now }) result now (λ later. rest (CardSaid reply.now now ∷ later)) }
     ensures same { deal_of table.new ≡ deal_of table.old }
+    ensures nearer { trading_rank table.new.reply.scripts result < counters_by judging.asking + 4 + most_scripts }
     ensures room { HasRoom table.new (scripts_left table.new.reply.scripts result) }
 {
     let next = judging.take(reply);
@@ -219,6 +228,7 @@ fn analyse<'s>(table: &mut Table<'s>, card: &CardData, row: &AidRow) -> Trading<
         → Begins table.old card.now marks rest (analysis (record { deal = deal_of table.old; row = row.now; card = card.now }) marks log)
         → TradingStands table.new (record { deal = deal_of table.old; row = row.now; card = card.now }) result log rest }
     ensures same { deal_of table.new ≡ deal_of table.old }
+    ensures few { trading_rank table.new.reply.scripts result ≤ 4 + most_scripts }
     ensures room { HasRoom table.new (scripts_left table.new.reply.scripts result) }
 {
     let asked = kind_wanted(&table.moment, card, row, table.settings);
@@ -244,6 +254,7 @@ fn begin_first<'s>(table: &mut Table<'s>, card: &CardData, row: &AidRow, asked: 
         → Begins table.old card.now marks rest (first (record { deal = deal_of table.old; row = row.now; card = card.now }) asked marks log)
         → TradingStands table.new (record { deal = deal_of table.old; row = row.now; card = card.now }) result log rest }
     ensures same { deal_of table.new ≡ deal_of table.old }
+    ensures few { trading_rank table.new.reply.scripts result ≤ 4 + most_scripts }
     ensures room { HasRoom table.new (scripts_left table.new.reply.scripts result) }
 {
     put_terminal(

@@ -1,5 +1,5 @@
 -- The application file locator (EMV 4.3 Book 3 section 10.2).
-use Rattle.std.specs.Prelude.{ℕ, zero, suc, List, [], ◌∷◌, ◌++◌, ◌+◌, ◌-◌, ◌/◌, ◌%◌, ◌==◌, ◌||◌, Bool, nat_lt, length, Option, Some, None, Result, Ok, Err, position, if◌then◌else◌}
+use Rattle.std.specs.Prelude.{ℕ, zero, suc, List, [], ◌∷◌, ◌++◌, ◌+◌, ◌*◌, ◌-◌, ◌/◌, ◌%◌, ◌==◌, ◌||◌, Bool, nat_lt, length, Option, Some, None, Result, Ok, Err, position, if◌then◌else◌}
 use Rattle.std.specs.List.{flat_map}
 use Rattle.read_records.specs.declared.afl.Group.{Group}
 
@@ -49,3 +49,7 @@ places_of groups = flat_map places_in groups
 -- those of one group and of the groups behind it
 abbrev pub places_with : Group → List Group → List RecordPlace
 places_with group groups = places_in group ++ places_of groups
+
+-- a locator has room for 63 groups, and a group names at most 256 records
+abbrev pub most_records : ℕ
+most_records = 63 * 256

@@ -38,6 +38,12 @@ IsBegun options.Refused = ⊥
 IsBegun (options.Read c) = ⊤
 IsBegun (options.Ended cause) = ⊥
 
+-- the records that it reads
+abbrev pub begun_next : OptionsNext → List RecordPlace
+begun_next options.Refused = []
+begun_next (options.Read c) = c
+begun_next (options.Ended cause) = []
+
 -- the same for initiating: reading begins over these objects, or the application is refused
 abbrev pub OptionsNextLeads : Entries → (List (List ℕ) → Progress (Option Opened)) → List (List ℕ) → OptionsNext → Type 0
 OptionsNextLeads entries whole answers options.Refused = Leads whole answers (Done None)

@@ -1,6 +1,6 @@
 -- What a card gives for GET PROCESSING OPTIONS, as a contract sees it.
-use Rattle.std.specs.Prelude.{⊤, ◌<◌, [], ◌∷◌, length}
-use Rattle.read_records.specs.Afl.{places_of}
+use Rattle.std.specs.Prelude.{⊤, ◌<◌, ◌≤◌, [], ◌∷◌, length}
+use Rattle.read_records.specs.Afl.{places_of, most_records}
 use Rattle.read_records.specs.Options.{Opened, Said as SaidData, Refused, Granted, Faulty}
 use Rattle.read_records.specs.declared.options.Options.{Options}
 use Rattle.read_records.specs.declared.options.Said.{Said}
@@ -14,10 +14,11 @@ seen_said said.Refused = Refused
 seen_said (said.Granted options) = Granted (seen_options options)
 seen_said (said.Faulty cause) = Faulty cause
 
--- there is a record to read, and the locator is as short as an answer
+-- there is a record to read, the locator is as short as an answer, and it names no more records than one can
 pub record HasRoom (options : Options) : Type 0 where
   pub some : 0 < length options.groups.items
   pub short : length options.afl.now < 256
+  pub few : length (places_of options.groups.items) ≤ most_records
 
 abbrev pub IsSound : Said → Type 0
 IsSound said.Refused = ⊤

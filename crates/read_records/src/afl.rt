@@ -1,6 +1,6 @@
-ghost use Rattle.std.specs.Prelude.{◌≡◌, ◌++◌, ◌<◌, length, position, Ok, Err, IfOk, IfSome, MatchResult};
+ghost use Rattle.std.specs.Prelude.{◌≡◌, ◌++◌, ◌<◌, ◌≤◌, ◌*◌, length, position, Ok, Err, IfOk, IfSome, MatchResult};
 ghost use Rattle.read_records.specs.Afl as spec;
-ghost use Rattle.read_records.specs.Afl.{groups_of};
+ghost use Rattle.read_records.specs.Afl.{groups_of, places_of, most_records};
 
 use arrayvec::ArrayVec;
 
@@ -29,6 +29,7 @@ pub(crate) fn read_afl(afl: &[u8]) -> Result<Groups, u8>
         (λ groups. groups_of afl.now ≡ Ok groups.items)
         (λ fault. groups_of afl.now ≡ Err fault) }
     ensures some { IfOk result (λ groups. 0 < length groups.items) }
+    ensures few { IfOk result (λ groups. length (places_of groups.items) ≤ most_records) }
 {
     if afl.is_empty() || afl.len() % 4 > 0 {
         return Err(0);
@@ -40,20 +41,29 @@ pub(crate) fn read_afl(afl: &[u8]) -> Result<Groups, u8>
     }
 }
 
+/// The group of four bytes.
+fn group_of(file: u8, first: u8, last: u8, authenticated: u8) -> Group
+    ensures exact { result ≡ record { file = file; first = first; last = last; authenticated = authenticated } }
+    ensures small { result.last < 256 }
+{
+    Group {
+        file,
+        first,
+        last,
+        authenticated,
+    }
+}
+
 /// The groups of four bytes, one behind another.
 fn groups_in(afl: &[u8]) -> Groups
     requires { length afl.now < 256 }
-    ensures { result.items ≡ spec.groups_in afl.now }
+    ensures exact { result.items ≡ spec.groups_in afl.now }
+    ensures few { length (places_of result.items) ≤ 256 * length result.items }
 {
     let mut groups = Groups::new();
     let mut rest = afl;
     while let [file, first, last, authenticated, behind @ ..] = rest {
-        groups.push(Group {
-            file: *file,
-            first: *first,
-            last: *last,
-            authenticated: *authenticated,
-        });
+        groups.push(group_of(*file, *first, *last, *authenticated));
         rest = behind;
     }
     groups

@@ -1,6 +1,7 @@
 //! GET PROCESSING OPTIONS (EMV 4.3 Book 3 section 10.1).
 ghost use Rattle.std.specs.Prelude.{◌≡◌, ◌≢◌, ℕ, List, [], ◌∷◌, ◌++◌, ◌≤◌, ◌<◌, length, Option, Some, None, MatchResult, option_map};
 ghost use Rattle.emv_dict.specs.Progress.{Progress, Wants, Stopped, Leads};
+ghost use Rattle.read_records.specs.Afl.{most_records};
 ghost use Rattle.read_records.specs.Checked.{HasOptions};
 ghost use Rattle.read_records.specs.Options.{Opened, initiated, initiating, options_command, options_data};
 ghost use Rattle.object_lists.specs.Filled.{dol_data};
@@ -59,7 +60,7 @@ pub enum InitiateNext {
 }
 
 impl Initiating {
-    ghost use Rattle.read_records.specs.Leading.{OptionsNextLeads, InitiateNextLeads, IsBegun};
+    ghost use Rattle.read_records.specs.Leading.{OptionsNextLeads, InitiateNextLeads, IsBegun, begun_next};
 
     /// Fills the card's object list (9F38) from the terminal's objects. The cause is `Dol` of 9F38, where
     /// the list can't be read or wants more than 252 bytes.
@@ -100,6 +101,7 @@ impl Initiating {
             → Leads whole answers (initiated self) → OptionsNextLeads env.new whole (answers ++ reply.now ∷ []) result }
         ensures options { IsBegun result → HasOptions env.new }
         ensures refused { result ≡ OptionsNext.Refused → env.new ≡ [] }
+        ensures few { length (begun_next result) ≤ most_records }
     {
         match read_answer(reply) {
             Said::Refused => OptionsNext::Refused,

@@ -1,6 +1,7 @@
 //! The answer to GET PROCESSING OPTIONS (EMV 4.3 Book 3 section 6.5.8.4).
 ghost use Rattle.std.specs.Prelude.{◌≡◌, ◌≤◌, ◌<◌, ℕ, List, length, Ok, Err, IfOk, IfSome, MatchResult, option_map};
 ghost use Rattle.ber_tlv.specs.Left.{items_of};
+ghost use Rattle.read_records.specs.Afl.{places_of, most_records};
 ghost use Rattle.read_records.specs.Options.{options_in, in_format_one, in_format_two, of_objects, coding_cause, opened, options_said};
 ghost use Rattle.read_records.specs.SeenOptions.{seen_options, seen_said, IsSound};
 
@@ -63,6 +64,7 @@ pub(crate) fn read_options(body: &[u8]) -> Result<Options<'_>, Cause>
         (λ cause. options_in body.now ≡ Err cause) }
     ensures some { IfOk result (λ options. 0 < length options.groups.items) }
     ensures short { IfOk result (λ options. length options.afl.now < 256) }
+    ensures few { IfOk result (λ options. length (places_of options.groups.items) ≤ most_records) }
 {
     if let Some(value) = sole_value(body, Tag(0x80)) {
         return read_format_one(value);
@@ -80,6 +82,7 @@ fn read_format_one(value: &[u8]) -> Result<Options<'_>, Cause>
         (λ cause. in_format_one value.now ≡ Err cause) }
     ensures some { IfOk result (λ options. 0 < length options.groups.items) }
     ensures short { IfOk result (λ options. length options.afl.now < 256) }
+    ensures few { IfOk result (λ options. length (places_of options.groups.items) ≤ most_records) }
 {
     match value {
         [high, low, afl @ ..] => with_groups([*high, *low], afl),
@@ -94,6 +97,7 @@ fn read_format_two<'a>(body: &[u8], template: &'a [u8]) -> Result<Options<'a>, C
         (λ cause. in_format_two body.now (items_of template.now) ≡ Err cause) }
     ensures some { IfOk result (λ options. 0 < length options.groups.items) }
     ensures short { IfOk result (λ options. length options.afl.now < 256) }
+    ensures few { IfOk result (λ options. length (places_of options.groups.items) ≤ most_records) }
 {
     let Ok(profile) = first_value(template, Tag(0x82)) else {
         return Err(coding_cause(body));
@@ -111,6 +115,7 @@ fn of_objects<'a>(profile: Option<&[u8]>, locator: Option<&'a [u8]>) -> Result<O
         (λ cause. of_objects (option_map (λ p. p.now) profile.entry) (option_map (λ l. l.now) locator.entry) ≡ Err cause) }
     ensures some { IfOk result (λ options. 0 < length options.groups.items) }
     ensures short { IfOk result (λ options. length options.afl.now < 256) }
+    ensures few { IfOk result (λ options. length (places_of options.groups.items) ≤ most_records) }
 {
     let Some(profile) = profile else {
         return Err(Cause::Missing(Tag(0x82)));
@@ -131,6 +136,7 @@ fn with_groups(aip: [u8; 2], afl: &[u8]) -> Result<Options<'_>, Cause>
         (λ cause. opened aip afl.now ≡ Err cause) }
     ensures some { IfOk result (λ options. 0 < length options.groups.items) }
     ensures short { IfOk result (λ options. length options.afl.now < 256) }
+    ensures few { IfOk result (λ options. length (places_of options.groups.items) ≤ most_records) }
 {
     match read_afl(afl) {
         Ok(groups) => Ok(Options { aip, afl, groups }),

@@ -20,3 +20,8 @@ rest_by (LastOnline counter) bits lower upper = last_asked bits lower upper coun
 -- what the rest makes of the answers to come
 abbrev pub rest_of : JudgingData → List (List ℕ) → Progress Judged
 rest_of state = rest_by state.asking state.bits state.lower state.upper
+
+-- how many counters are still asked for
+abbrev pub counters_by : Asking → ℕ
+counters_by Counter = 2
+counters_by (LastOnline counter) = 1

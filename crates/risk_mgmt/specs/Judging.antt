@@ -1,7 +1,7 @@
 -- What a state of risk management leaves to be done.
 use Rattle.std.specs.Prelude.{ℕ, List, Option}
 use Rattle.emv_dict.specs.Progress.{Progress, Leads, Stopped, Done}
-use Rattle.risk_mgmt.specs.Asked.{rest_of}
+use Rattle.risk_mgmt.specs.Asked.{rest_of, counters_by}
 use Rattle.risk_mgmt.specs.declared.judged.Judged.{Judged}
 use Rattle.risk_mgmt.specs.declared.judging.JudgeNext.{JudgeNext}
 use Rattle.risk_mgmt.specs.declared.judging.JudgeNext.TheVariants as next
@@ -10,3 +10,8 @@ abbrev pub NextLeads : (List (List ℕ) → Progress Judged) → List (List ℕ)
 NextLeads whole answers (next.Ask judging) = Leads whole answers (rest_of judging)
 NextLeads whole answers (next.Done judged) = Leads whole answers (λ later. Done judged later)
 NextLeads whole answers (next.Ended cause) = Leads whole answers (λ _. Stopped cause)
+
+abbrev pub counters_left : JudgeNext → ℕ
+counters_left (next.Ask judging) = counters_by judging.asking
+counters_left (next.Done judged) = 0
+counters_left (next.Ended cause) = 0

@@ -1,10 +1,10 @@
-ghost use Rattle.std.specs.Prelude.{◌≡◌, ◌≤◌, ◌∷◌, ◌++◌, [], ℕ, List};
+ghost use Rattle.std.specs.Prelude.{◌≡◌, ◌≤◌, ◌<◌, ◌∷◌, ◌++◌, [], ℕ, List};
 ghost use Rattle.std.specs.List.{All};
 ghost use Rattle.emv_dict.specs.Progress.{Progress, Leads, Wants};
 ghost use Rattle.emv_dict.specs.Settings.{IsAidRow, most_amount};
 ghost use Rattle.object_lists.specs.Forms.{HasIfThere, has_count};
-ghost use Rattle.risk_mgmt.specs.Asked.{rest_of};
-ghost use Rattle.risk_mgmt.specs.Judging.{NextLeads};
+ghost use Rattle.risk_mgmt.specs.Asked.{rest_of, counters_by};
+ghost use Rattle.risk_mgmt.specs.Judging.{NextLeads, counters_left};
 ghost use Rattle.risk_mgmt.specs.Risky as spec;
 
 use crate::counters::{COUNTER, LAST_ONLINE, counted, read_counter, write_get_data};
@@ -69,7 +69,8 @@ impl Judging {
         requires row { IsAidRow row.now }
         requires amount { purchase.now.amount ≤ most_amount }
         requires log { All (λ logged. logged.amount ≤ most_amount) log.now }
-        ensures { NextLeads (spec.risky card.now settings.now row.now purchase.now log.now) [] result }
+        ensures leads { NextLeads (spec.risky card.now settings.now row.now purchase.now log.now) [] result }
+        ensures few { counters_left result ≤ 2 }
     {
         let pan = card.pan.as_slice();
         if card.aip[0] & 0x08 == 0 {
@@ -113,8 +114,10 @@ impl Judging {
 
     /// Goes on with the card's answer.
     pub fn take(self, reply: &[u8]) -> JudgeNext
-        ensures { (whole : List (List ℕ) → Progress Judged) (answers : List (List ℕ))
+        ensures leads { (whole : List (List ℕ) → Progress Judged) (answers : List (List ℕ))
             → Leads whole answers (rest_of self) → NextLeads whole (answers ++ reply.now ∷ []) result }
+        // Fewer counters are left to be asked for.
+        ensures nearer { counters_left result < counters_by self.asking }
     {
         match self.asking {
             Asking::Counter => match read_counter(COUNTER, reply) {

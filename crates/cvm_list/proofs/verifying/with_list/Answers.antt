@@ -12,13 +12,13 @@ use Rattle.cvm_list.specs.declared.rule.Situation.{Situation}
 use Rattle.cvm_list.specs.declared.verified.Verified.{Verified}
 use Rattle.cvm_list.proofs.verifying.with_list.Goals as goal
 
-pub returns-then-list-lt10 : goal.returns-then-list-lt10
-returns-then-list-lt10 c later =
+pub returns-then-list-lt10-clause-leads : goal.returns-then-list-lt10-clause-leads
+returns-then-list-lt10-clause-leads c later =
     let short : length c.args.list.now < 10 = omega arith in
     no_rules c.args.list.now _ c.args.purchase.now later c.passed.result short c.passed.ensures
 
-pub returns : goal.returns
-returns c =
+pub returns-clause-leads : goal.returns-clause-leads
+returns-clause-leads c =
     let list = c.args.list.now in
     let p = c.args.purchase.now in
     let s = situation list (option_map {T = Bor (List ℕ)} {U = List ℕ} (λ given. given.now) c.args.currency) c.args.settings.now p in
@@ -35,4 +35,4 @@ returns c =
     ∙ ap (λ (x : List Rule). f nothing_found made x p.pins later) (sym c.holding_rules-rules.ensures)
     ∙ ap (λ (x : List (List ℕ)). f nothing_found made kept x later) pins
     ∙ ap (λ (x : Found). f x made kept entries later) (sym c.nothing_found.ensures))
-    c.walk.ensures
+    c.walk.ensures.leads

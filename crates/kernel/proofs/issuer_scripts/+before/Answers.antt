@@ -1,8 +1,9 @@
-use Rattle.std.proofs.Common.{refl, sym, ◌∷◌, ◌+◌, drop}
+use Rattle.std.proofs.Common.{◌≡◌, refl, sym, ap, ◌∷◌, ◌+◌, ℕ, List, length, drop, arith}
 use Rattle.emv_dict.specs.declared.ending.Step.TheVariants as step
 use Rattle.kernel.specs.Course.{cut_off}
 use Rattle.kernel.specs.Dialogue.{scripts_before}
 use Rattle.kernel.specs.Marks.{HasRunBefore}
+use Rattle.kernel.specs.Rank.{bytes_in}
 use Rattle.kernel.specs.Scripts.{templates}
 use Rattle.kernel.specs.Trades.{trade_of}
 use Rattle.script_run.specs.Ran.{template_ran}
@@ -28,3 +29,11 @@ run_before-returns-in-None-clause-stands t c = λ marks log rest begins.
     c.begin_second.ensures.stands marks log rest
     (scripts_end c.args.table.now (trade_of c.args.table.now c.args.row.now c.args.card.now) c.args.table.now.reply c.kind_for-asked.result _ marks log rest
     (drop_none _ c.args.index (sym c.in-None.ensures.template)) c.kind_for-asked.ensures begins)
+
+pub run_before-returns-in-Some-clause-few : goal.run_before-returns-in-Some-clause-few
+run_before-returns-in-Some-clause-few t c =
+    let here : bytes_in (drop c.args.index (templates 0x71 c.args.table.now.reply.scripts)) ≡ 1 + length c.in-Some.template.now + bytes_in (drop (c.args.index + 1) (templates 0x71 c.args.table.now.reply.scripts)) =
+    ap (λ (all : List (List ℕ)). bytes_in all) (drop_some _ c.args.index c.in-Some.template.now (sym c.in-Some.ensures.template)) in
+    let few = c.begin-next.ensures.few in
+    let left = c.before_next.ensures.few in
+    omega arith

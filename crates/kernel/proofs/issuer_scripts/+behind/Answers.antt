@@ -1,7 +1,8 @@
-use Rattle.std.proofs.Common.{refl, sym, ◌∷◌, ◌+◌, drop}
+use Rattle.std.proofs.Common.{◌≡◌, refl, sym, ap, ◌∷◌, ◌+◌, ℕ, List, length, drop, arith}
 use Rattle.emv_dict.specs.declared.ending.Step.TheVariants as step
 use Rattle.kernel.specs.Dialogue.{scripts_behind, left_script}
 use Rattle.kernel.specs.Marks.{HasRunBehind}
+use Rattle.kernel.specs.Rank.{bytes_in}
 use Rattle.kernel.specs.Scripts.{templates}
 use Rattle.script_run.specs.Ran.{template_ran}
 use Rattle.kernel.proofs.Scripting.{drop_some, drop_none, behind_begins, behind_end, left_next}
@@ -24,3 +25,11 @@ run_behind-returns-in-Some-clause-stands t c = λ trade marks log rest begins.
 pub run_behind-returns-in-None-clause-stands : goal.run_behind-returns-in-None-clause-stands
 run_behind-returns-in-None-clause-stands t c = λ trade marks log rest begins.
     behind_end c.args.table.now trade c.args.ending _ marks log rest (drop_none _ c.args.index (sym c.in-None.ensures.template)) begins
+
+pub run_behind-returns-in-Some-clause-few : goal.run_behind-returns-in-Some-clause-few
+run_behind-returns-in-Some-clause-few t c =
+    let here : bytes_in (drop c.args.index (templates 0x72 c.args.table.now.reply.scripts)) ≡ 1 + length c.in-Some.template.now + bytes_in (drop (c.args.index + 1) (templates 0x72 c.args.table.now.reply.scripts)) =
+    ap (λ (all : List (List ℕ)). bytes_in all) (drop_some _ c.args.index c.in-Some.template.now (sym c.in-Some.ensures.template)) in
+    let few = c.begin-next.ensures.few in
+    let left = c.behind_next.ensures.few in
+    omega arith

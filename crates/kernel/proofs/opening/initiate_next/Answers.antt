@@ -1,4 +1,4 @@
-use Rattle.std.proofs.Common.{refl, sym, ◌∙◌, []}
+use Rattle.std.proofs.Common.{refl, sym, ◌∙◌, [], arith}
 use Rattle.emv_dict.specs.declared.ending.Step.TheVariants as step
 use Rattle.kernel.specs.Table.{deal_of}
 use Rattle.std.proofs.Common.{Some, None}
@@ -6,6 +6,7 @@ use Rattle.app_select.specs.Selecting.{opening}
 use Rattle.kernel.specs.Dialogue.{read, granted, candidates_left}
 use Rattle.read_records.specs.DataRead.{reading}
 use Rattle.read_records.specs.Options.{Opened}
+use Rattle.kernel.proofs.Falling.{refused_falls}
 use Rattle.kernel.proofs.Left.{left_is_opening}
 use Rattle.kernel.proofs.Opened.{done_on, stopped_on}
 use Rattle.kernel.proofs.opening.initiate_next.Goals as goal
@@ -37,3 +38,10 @@ returns-in-Ended-clause-stands c = λ log course rest passed leads.
       tied = c.requires.moment;
       shows = tt;
     }
+
+pub returns-in-Refused-clause-few : goal.returns-in-Refused-clause-few
+returns-in-Refused-clause-few c =
+    let old = c.args.table.now.candidates in
+    let fall = refused_falls c.refuse-next.result old c.refuse-next.new.candidates (c.refuse-next.ensures.leads (opening old) [] (λ later. refl)) c.refuse-next.ensures.nearer in
+    let few = c.search_next.ensures.few in
+    omega arith

@@ -1,4 +1,4 @@
-use Rattle.std.proofs.Common.{rules, ◌≡◌, refl, [], ◌∷◌, List}
+use Rattle.std.proofs.Common.{refl, [], ◌∷◌}
 use Rattle.risk_mgmt.specs.Asked.{rest_of}
 use Rattle.emv_dict.specs.declared.ending.Step.TheVariants as step
 use Rattle.kernel.specs.Dialogue.{Trade, analysis}
@@ -14,4 +14,4 @@ returns-clause-stands c = λ before now rest stands.
     c.judge_next.ensures.stands stands.marks now (λ later. rest_of c.args.judging (c.args.reply.now ∷ later)) _
     (begins_taken c.args.table.now c.args.card.now step.Risk stands.marks before now (rest_of c.args.judging) (λ judged. analysis trade (HasJudged judged ∷ stands.marks))
     c.args.table.now.command.items rest stands.passed stands.tied stands.read stands.shows c.args.reply.now)
-    (judge_shifted (rest_of c.args.judging) c.args.reply.now _ (c.take-next.ensures (rest_of c.args.judging) [] (λ later. refl)))
+    (judge_shifted (rest_of c.args.judging) c.args.reply.now _ (c.take-next.ensures.leads (rest_of c.args.judging) [] (λ later. refl)))

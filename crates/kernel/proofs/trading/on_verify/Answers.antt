@@ -1,4 +1,4 @@
-use Rattle.std.proofs.Common.{rules, ◌≡◌, refl, [], ◌∷◌, List}
+use Rattle.std.proofs.Common.{refl, [], ◌∷◌}
 use Rattle.cvm_list.specs.Waiting.{rest_of}
 use Rattle.emv_dict.specs.declared.ending.Step.TheVariants as step
 use Rattle.kernel.specs.Dialogue.{Trade, risk}
@@ -14,4 +14,4 @@ returns-clause-stands c = λ before rest stands.
     c.verify_next.ensures.stands stands.marks (λ later. rest_of c.args.verifying (c.args.reply.now ∷ later)) _
     (begins_taken c.args.table.now c.args.card.now step.Verify stands.marks before c.args.log.now (rest_of c.args.verifying) (λ verified. risk trade (HasVerified verified ∷ stands.marks))
     c.args.table.now.command.items rest stands.passed stands.tied stands.read stands.shows c.args.reply.now)
-    (verify_shifted (rest_of c.args.verifying) c.args.reply.now _ (c.take-next.ensures (rest_of c.args.verifying) [] (λ later. refl)))
+    (verify_shifted (rest_of c.args.verifying) c.args.reply.now _ (c.take-next.ensures.leads (rest_of c.args.verifying) [] (λ later. refl)))

@@ -18,4 +18,4 @@ returns-in-Some-clause-leads c =
     let there : value_of 0x8E card.entries ≡ Some list = first_of (search rules, cc) in
     next_same (cvm card settings p) (by_rules (rules_of (drop 8 list)) (situation list currency settings p) p) c.with_list.result
     (λ later. begun card settings p list currency later asks there (sym c.value-in-Some.ensures.value))
-    c.with_list.ensures
+    c.with_list.ensures.leads

@@ -16,25 +16,25 @@ use Rattle.cvm_list.specs.declared.rule.Rule.{Rule}
 use Rattle.cvm_list.specs.declared.verified.Verified.{Verified}
 use Rattle.cvm_list.proofs.verifying.Verifying.take.Goals as goal
 
-pub returns-in-None : goal.returns-in-None
-returns-in-None c whole answers leads =
+pub returns-in-None-clause-leads : goal.returns-in-None-clause-leads
+returns-in-None-clause-leads c whole answers leads =
     let s = c.self.inside in
     let is : said_in c.args.reply.now ≡ None = sym c.read_said.ensures ∙ c.in-None.is in
     leads_more whole (rest_of c.args.self) (λ _. Stopped Answer) answers c.args.reply.now leads
     (unreadable c.args.self s.found s.caps s.rule (drop (s.at + 1) s.rules.items) s.pin.now s.pins.now c.args.reply.now c.self.view_is c.self.invariant.asks is)
 
-pub returns-in-Some-Again : goal.returns-in-Some-Again
-returns-in-Some-Again c whole answers leads =
+pub returns-in-Some-Again-clause-leads : goal.returns-in-Some-Again-clause-leads
+returns-in-Some-Again-clause-leads c whole answers leads =
     let s = c.self.inside in
     let some : Said → Option Said = λ said. Some said in
     let is : said_in c.args.reply.now ≡ Some Again = sym c.read_said.ensures ∙ c.in-Some-Again.is ∙ ap some c.in-Some-Again.field-0-is in
     leads_on whole (rest_of c.args.self) (λ later. verdict s.found (course s.caps (drop s.at s.rules.items) s.pins.now later) later) answers c.args.reply.now c.walk.result leads
     (λ later. again c.args.self s.found s.caps s.rule (drop (s.at + 1) s.rules.items) s.pin.now s.pins.now c.args.reply.now c.self.view_is c.self.invariant.asks is later
     ∙ ap (λ (rules : List Rule). verdict s.found (course s.caps rules s.pins.now later) later) (sym c.self.invariant.stands))
-    c.walk.ensures
+    c.walk.ensures.leads
 
-pub returns-in-Some-Right : goal.returns-in-Some-Right
-returns-in-Some-Right c whole answers leads =
+pub returns-in-Some-Right-clause-leads : goal.returns-in-Some-Right-clause-leads
+returns-in-Some-Right-clause-leads c whole answers leads =
     let s = c.self.inside in
     let some : Said → Option Said = λ said. Some said in
     let is : said_in c.args.reply.now ≡ Some Right = sym c.read_said.ensures ∙ c.in-Some-Right.is ∙ ap some c.in-Some-Right.field-0-is in
@@ -43,10 +43,10 @@ returns-in-Some-Right c whole answers leads =
     leads_on whole (rest_of c.args.self) (rest_behind_rule s.found c.successful-outcome.result behind s.pins.now) answers c.args.reply.now c.go_on.result leads
     (λ later. right c.args.self s.found s.caps s.rule (drop (s.at + 1) s.rules.items) s.pin.now s.pins.now c.args.reply.now c.self.view_is c.self.invariant.asks is later
     ∙ ap (λ (o : Outcome). rest_behind_rule s.found o behind s.pins.now later) (sym made))
-    c.go_on.ensures
+    c.go_on.ensures.leads
 
-pub returns-in-Some-Exceeded : goal.returns-in-Some-Exceeded
-returns-in-Some-Exceeded c whole answers leads =
+pub returns-in-Some-Exceeded-clause-leads : goal.returns-in-Some-Exceeded-clause-leads
+returns-in-Some-Exceeded-clause-leads c whole answers leads =
     let s = c.self.inside in
     let some : Said → Option Said = λ said. Some said in
     let is : said_in c.args.reply.now ≡ Some Exceeded = sym c.read_said.ensures ∙ c.in-Some-Exceeded.is ∙ ap some c.in-Some-Exceeded.field-0-is in
@@ -54,10 +54,10 @@ returns-in-Some-Exceeded c whole answers leads =
     leads_on whole (rest_of c.args.self) (rest_behind_rule s.found c.failed-outcome.result behind s.pins.now) answers c.args.reply.now c.go_on-in-Some-Exceeded.result leads
     (λ later. exceeded c.args.self s.found s.caps s.rule (drop (s.at + 1) s.rules.items) s.pin.now s.pins.now c.args.reply.now c.self.view_is c.self.invariant.asks is later
     ∙ ap (λ (o : Outcome). rest_behind_rule s.found o behind s.pins.now later) (sym c.failed-outcome.ensures))
-    c.go_on-in-Some-Exceeded.ensures
+    c.go_on-in-Some-Exceeded.ensures.leads
 
-pub returns-in-Some-Other : goal.returns-in-Some-Other
-returns-in-Some-Other c whole answers leads =
+pub returns-in-Some-Other-clause-leads : goal.returns-in-Some-Other-clause-leads
+returns-in-Some-Other-clause-leads c whole answers leads =
     let s = c.self.inside in
     let some : Said → Option Said = λ said. Some said in
     let is : said_in c.args.reply.now ≡ Some Other = sym c.read_said.ensures ∙ c.in-Some-Other.is ∙ ap some c.in-Some-Other.field-0-is in
@@ -65,4 +65,4 @@ returns-in-Some-Other c whole answers leads =
     leads_on whole (rest_of c.args.self) (rest_behind_rule s.found c.failed-outcome-in-Some-Other.result behind s.pins.now) answers c.args.reply.now c.go_on-in-Some-Other.result leads
     (λ later. other c.args.self s.found s.caps s.rule (drop (s.at + 1) s.rules.items) s.pin.now s.pins.now c.args.reply.now c.self.view_is c.self.invariant.asks is later
     ∙ ap (λ (o : Outcome). rest_behind_rule s.found o behind s.pins.now later) (sym c.failed-outcome-in-Some-Other.ensures))
-    c.go_on-in-Some-Other.ensures
+    c.go_on-in-Some-Other.ensures.leads

@@ -1,5 +1,5 @@
-use Rattle.std.proofs.Common.{rules, ◌≡◌, refl, sym, ap, ◌∙◌, ◌∷◌, List}
-use Rattle.kernel.proofs.kernel.on_opening.Goals as goal
+use Rattle.std.proofs.Common.{refl, ◌∙◌}
+use Rattle.kernel.proofs.kernel.taking.on_opening.Goals as goal
 
 pub returns-in-On-clause-stands : goal.returns-in-On-clause-stands
 returns-in-On-clause-stands c = λ before rest stands. c.in-On.ensures.stands before c.args.log.now rest stands

@@ -1,0 +1,21 @@
+use Rattle.kernel.specs.Kernel.{KernelData}
+use Rattle.kernel.specs.Reply.{CardGone}
+use Rattle.kernel.proofs.Took.{kernel_took}
+use Rattle.kernel.proofs.kernel.Kernel.take_gone.Goals as goal
+
+pub returns-clause-stands : goal.returns-clause-stands
+returns-clause-stands c = λ replies is.
+    let i = c.self.inside in
+    let k : KernelData = record { table = i.table; objects = i.objects; card = i.card; stage = i.stage; taken = i.taken } in
+    kernel_took k _ (CardGone) (λ before. before) replies c.stage_gone-self-inside.ensures.same c.saturating_add-self-inside.ensures
+    (λ before rest goes. c.stage_gone-self-inside.ensures.stands i.objects i.card before rest (rw c.replace-stage.ensures.value goes))
+    (rw (← c.self.view_is) at is)
+
+pub stage_gone-self-inside-requires-clause-fits : goal.stage_gone-self-inside-requires-clause-fits
+stage_gone-self-inside-requires-clause-fits c = (c.self.inside.objects, c.self.inside.card, rw c.replace-stage.ensures.value c.self.invariant.stage)
+
+pub invariant_of-self : goal.invariant_of-self
+invariant_of-self c = record {
+  deal = rw c.stage_gone-self-inside.ensures.same c.self.invariant.deal;
+  stage = c.stage_gone-self-inside.ensures.fits c.self.inside.objects c.self.inside.card (rw c.replace-stage.ensures.value c.self.invariant.stage);
+}

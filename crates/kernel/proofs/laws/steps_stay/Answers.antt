@@ -1,0 +1,5 @@
+use Rattle.kernel.proofs.Growing.{steps_stay}
+use Rattle.kernel.proofs.laws.steps_stay.Goals as goal
+
+pub returns : goal.returns
+returns c deal replies more = steps_stay deal replies more

@@ -1,0 +1,290 @@
+//! A kernel takes the replies of the card and of the host.
+ghost use Rattle.std.specs.Prelude.{◌≡◌, ◌≤◌, ◌<◌, ◌∷◌, ◌++◌, [], List, Option, None, option_map};
+ghost use Rattle.std.specs.List.{All};
+ghost use Rattle.emv_dict.specs.Settings.{most_amount};
+ghost use Rattle.emv_dict.specs.declared.purchase.Logged.{Logged as LoggedRow};
+ghost use Rattle.kernel.specs.Course.{Standing};
+ghost use Rattle.env_map.specs.Entries.{Entries};
+ghost use Rattle.object_lists.specs.CardRead.{ReadCard};
+ghost use Rattle.kernel.specs.Fits.{OpeningFits};
+ghost use Rattle.kernel.specs.Kernel.{KernelStands, StageFits, StageGoes, TradingFits, TradingGoes, deal_in, next_of, stage_next, opening_next, trading_next};
+ghost use Rattle.kernel.specs.Marks.{Mark};
+ghost use Rattle.kernel.specs.Rank.{rank_of, stage_rank, opening_rank, trading_rank};
+ghost use Rattle.kernel.specs.Reply.{Reply, CardSaid, CardGone, HostSaid, HostSilent, from_host};
+ghost use Rattle.kernel.specs.Stages.{OpeningStands};
+ghost use Rattle.kernel.specs.Table.{IsDeal, deal_of};
+ghost use Rattle.kernel.specs.declared.kernel.Next.TheVariants as next;
+
+use super::Kernel;
+use crate::opening;
+use crate::opening::OpeningNext;
+use crate::stage::{AtTrading, Opening, Stage};
+use crate::table::Table;
+use crate::trading::begin_trading;
+use crate::turns::{on_card, on_gone, on_host};
+use emv_dict::{Ending, Logged, Step};
+use env_map::Env;
+use object_lists::CardData;
+use std::mem;
+
+/// What stands in place of a stage while it is taken out.
+const TAKEN_OUT: Ending = Ending::CutOff(Step::Power);
+
+impl<'s> Kernel<'s> {
+    /// Takes the card's answer, with the terminal's log of earlier purchases as it is now.
+    pub fn take_card(&mut self, reply: &[u8], log: &[Logged])
+        requires waits { next_of self.old ≡ next.ToCard }
+        requires log { All (λ logged. logged.amount ≤ most_amount) log.now }
+        ensures stands { (replies : List Reply) → KernelStands self.old replies
+            → KernelStands self.new (replies ++ CardSaid reply.now log.now ∷ []) }
+        ensures deal { deal_in self.new ≡ deal_in self.old }
+        ensures nearer { rank_of self.new < rank_of self.old }
+    {
+        let stage = mem::replace(&mut self.stage, Stage::Opening(Opening::Over(TAKEN_OUT)));
+        self.stage = stage_said(
+            &mut self.table,
+            &mut self.objects,
+            &mut self.card,
+            stage,
+            reply,
+            log,
+        );
+        self.taken = self.taken.saturating_add(1);
+    }
+
+    /// The card is gone.
+    pub fn take_gone(&mut self)
+        requires waits { next_of self.old ≡ next.ToCard }
+        ensures stands { (replies : List Reply) → KernelStands self.old replies
+            → KernelStands self.new (replies ++ CardGone ∷ []) }
+        ensures deal { deal_in self.new ≡ deal_in self.old }
+        ensures nearer { rank_of self.new < rank_of self.old }
+        ensures ended { next_of self.new ≡ next.Ended }
+    {
+        let stage = mem::replace(&mut self.stage, Stage::Opening(Opening::Over(TAKEN_OUT)));
+        self.stage = stage_gone(&mut self.table, stage);
+        self.taken = self.taken.saturating_add(1);
+    }
+
+    /// Takes the host's reply, or its silence.
+    pub fn take_host(&mut self, reply: Option<&[u8]>)
+        requires waits { next_of self.old ≡ next.ToHost }
+        ensures stands { (replies : List Reply) → KernelStands self.old replies
+            → KernelStands self.new (replies ++ from_host (option_map (λ reply. reply.now) reply.entry) ∷ []) }
+        ensures deal { deal_in self.new ≡ deal_in self.old }
+        ensures nearer { rank_of self.new < rank_of self.old }
+    {
+        let stage = mem::replace(&mut self.stage, Stage::Opening(Opening::Over(TAKEN_OUT)));
+        self.stage = stage_heard(&mut self.table, &self.card, stage, reply);
+        self.taken = self.taken.saturating_add(1);
+    }
+
+    /// As `take_card`, by value.
+    pub fn card_says(self, reply: &[u8], log: &[Logged]) -> Kernel<'s>
+        requires waits { next_of self ≡ next.ToCard }
+        requires log { All (λ logged. logged.amount ≤ most_amount) log.now }
+        ensures stands { (replies : List Reply) → KernelStands self.entry replies
+            → KernelStands result (replies ++ CardSaid reply.now log.now ∷ []) }
+        ensures deal { deal_in result ≡ deal_in self.entry }
+        ensures nearer { rank_of result < rank_of self.entry }
+    {
+        let mut kernel = self;
+        kernel.take_card(reply, log);
+        kernel
+    }
+
+    /// As `take_gone`, by value.
+    pub fn card_gone(self) -> Kernel<'s>
+        requires waits { next_of self ≡ next.ToCard }
+        ensures stands { (replies : List Reply) → KernelStands self.entry replies
+            → KernelStands result (replies ++ CardGone ∷ []) }
+        ensures deal { deal_in result ≡ deal_in self.entry }
+        ensures nearer { rank_of result < rank_of self.entry }
+        ensures ended { next_of result ≡ next.Ended }
+    {
+        let mut kernel = self;
+        kernel.take_gone();
+        kernel
+    }
+
+    /// The host's reply, by value.
+    pub fn host_says(self, reply: &[u8]) -> Kernel<'s>
+        requires waits { next_of self ≡ next.ToHost }
+        ensures stands { (replies : List Reply) → KernelStands self.entry replies
+            → KernelStands result (replies ++ HostSaid reply.now ∷ []) }
+        ensures deal { deal_in result ≡ deal_in self.entry }
+        ensures nearer { rank_of result < rank_of self.entry }
+    {
+        let mut kernel = self;
+        kernel.take_host(Some(reply));
+        kernel
+    }
+
+    /// The host doesn't reply, by value.
+    pub fn host_silent(self) -> Kernel<'s>
+        requires waits { next_of self ≡ next.ToHost }
+        ensures stands { (replies : List Reply) → KernelStands self.entry replies
+            → KernelStands result (replies ++ HostSilent ∷ []) }
+        ensures deal { deal_in result ≡ deal_in self.entry }
+        ensures nearer { rank_of result < rank_of self.entry }
+    {
+        let mut kernel = self;
+        kernel.take_host(None);
+        kernel
+    }
+}
+
+/// The card's answer before it is read. Once it is read, the trading begins.
+fn on_opening<'s>(
+    table: &mut Table<'s>,
+    objects: &mut Env,
+    held: &mut Option<CardData>,
+    state: Opening<'s>,
+    reply: &[u8],
+    log: &[Logged],
+) -> Stage<'s>
+    requires deal { IsDeal (deal_of table.old) }
+    requires fits { OpeningFits table.old objects.old state }
+    requires held { held.old ≡ None }
+    requires waits { opening_next state ≡ next.ToCard }
+    requires log { All (λ logged. logged.amount ≤ most_amount) log.now }
+    ensures stands { (before : List LoggedRow) (rest : List Reply → Standing Mark)
+        → OpeningStands table.old objects.old state.entry before rest
+        → StageGoes table.new objects.new held.new result log.now (λ later. rest (CardSaid reply.now log.now ∷ later)) }
+    ensures same { deal_of table.new ≡ deal_of table.old }
+    ensures nearer { stage_rank table.new result < opening_rank table.old state.entry }
+    ensures fits { StageFits table.new objects.new held.new result }
+{
+    match opening::on_answer(table, objects, state, reply) {
+        OpeningNext::On(state) => Stage::Opening(state),
+        OpeningNext::Read(row) => {
+            let card = CardData::new(mem::replace(objects, Env::new()));
+            let trading = begin_trading(table, &card, row, log);
+            *held = Some(card);
+            Stage::Trading(AtTrading { row, trading })
+        }
+    }
+}
+
+/// The card's answer at any stage.
+fn stage_said<'s>(
+    table: &mut Table<'s>,
+    objects: &mut Env,
+    held: &mut Option<CardData>,
+    stage: Stage<'s>,
+    reply: &[u8],
+    log: &[Logged],
+) -> Stage<'s>
+    requires deal { IsDeal (deal_of table.old) }
+    requires fits { StageFits table.old objects.old held.old stage }
+    requires waits { stage_next stage ≡ next.ToCard }
+    requires log { All (λ logged. logged.amount ≤ most_amount) log.now }
+    ensures stands { (before : List LoggedRow) (rest : List Reply → Standing Mark)
+        → StageGoes table.old objects.old held.old stage.entry before rest
+        → StageGoes table.new objects.new held.new result log.now (λ later. rest (CardSaid reply.now log.now ∷ later)) }
+    ensures same { deal_of table.new ≡ deal_of table.old }
+    ensures nearer { stage_rank table.new result < stage_rank table.old stage.entry }
+    ensures fits { StageFits table.new objects.new held.new result }
+{
+    match stage {
+        Stage::Opening(state) => on_opening(table, objects, held, state, reply, log),
+        Stage::Trading(at) => Stage::Trading(trading_said(table, held, at, reply, log)),
+    }
+}
+
+/// The card's answer once it is read.
+fn trading_said<'s>(
+    table: &mut Table<'s>,
+    held: &Option<CardData>,
+    at: AtTrading<'s>,
+    reply: &[u8],
+    log: &[Logged],
+) -> AtTrading<'s>
+    requires deal { IsDeal (deal_of table.old) }
+    requires fits { TradingFits table.old held.now at }
+    requires waits { trading_next at.trading ≡ next.ToCard }
+    requires log { All (λ logged. logged.amount ≤ most_amount) log.now }
+    ensures stands { (before : List LoggedRow) (rest : List Reply → Standing Mark)
+        → TradingGoes table.old held.now at.entry before rest
+        → TradingGoes table.new held.now result log.now (λ later. rest (CardSaid reply.now log.now ∷ later)) }
+    ensures same { deal_of table.new ≡ deal_of table.old }
+    ensures nearer { trading_rank table.new.reply.scripts result.trading < trading_rank table.old.reply.scripts at.entry.trading }
+    ensures fits { TradingFits table.new held.now result }
+{
+    let Some(card) = held else {
+        unreachable!();
+    };
+    let AtTrading { row, trading } = at;
+    let trading = on_card(table, card, row, log, trading, reply);
+    AtTrading { row, trading }
+}
+
+/// The card is gone at any stage.
+fn stage_gone<'s>(table: &mut Table<'s>, stage: Stage<'s>) -> Stage<'s>
+    requires fits { (objects : Entries) × (held : Option ReadCard) × StageFits table.old objects held stage }
+    requires waits { stage_next stage ≡ next.ToCard }
+    ensures stands { (objects : Entries) (held : Option ReadCard) (before : List LoggedRow) (rest : List Reply → Standing Mark)
+        → StageGoes table.old objects held stage.entry before rest
+        → StageGoes table.new objects held result before (λ later. rest (CardGone ∷ later)) }
+    ensures same { deal_of table.new ≡ deal_of table.old }
+    ensures nearer { stage_rank table.new result < stage_rank table.old stage.entry }
+    ensures fits { (objects : Entries) (held : Option ReadCard) → StageFits table.old objects held stage.entry → StageFits table.new objects held result }
+    ensures ended { stage_next result ≡ next.Ended }
+{
+    match stage {
+        Stage::Opening(state) => Stage::Opening(opening::on_gone(state)),
+        Stage::Trading(at) => {
+            let AtTrading { row, trading } = at;
+            let trading = on_gone(table, trading);
+            Stage::Trading(AtTrading { row, trading })
+        }
+    }
+}
+
+/// The host's reply, or its silence, at the stage that waits for it.
+fn stage_heard<'s>(
+    table: &mut Table<'s>,
+    held: &Option<CardData>,
+    stage: Stage<'s>,
+    reply: Option<&[u8]>,
+) -> Stage<'s>
+    requires deal { IsDeal (deal_of table.old) }
+    requires fits { (objects : Entries) × StageFits table.old objects held.now stage }
+    requires waits { stage_next stage ≡ next.ToHost }
+    ensures stands { (objects : Entries) (log : List LoggedRow) (rest : List Reply → Standing Mark)
+        → StageGoes table.old objects held.now stage.entry log rest
+        → StageGoes table.new objects held.now result log (λ later. rest (from_host (option_map (λ reply. reply.now) reply.entry) ∷ later)) }
+    ensures same { deal_of table.new ≡ deal_of table.old }
+    ensures nearer { stage_rank table.new result < stage_rank table.old stage.entry }
+    ensures fits { (objects : Entries) → StageFits table.new objects held.now result }
+{
+    match stage {
+        Stage::Opening(_) => unreachable!(),
+        Stage::Trading(at) => Stage::Trading(trading_heard(table, held, at, reply)),
+    }
+}
+
+/// The host's reply, or its silence, once the card is read.
+fn trading_heard<'s>(
+    table: &mut Table<'s>,
+    held: &Option<CardData>,
+    at: AtTrading<'s>,
+    reply: Option<&[u8]>,
+) -> AtTrading<'s>
+    requires deal { IsDeal (deal_of table.old) }
+    requires fits { TradingFits table.old held.now at }
+    requires waits { trading_next at.trading ≡ next.ToHost }
+    ensures stands { (log : List LoggedRow) (rest : List Reply → Standing Mark)
+        → TradingGoes table.old held.now at.entry log rest
+        → TradingGoes table.new held.now result log (λ later. rest (from_host (option_map (λ reply. reply.now) reply.entry) ∷ later)) }
+    ensures same { deal_of table.new ≡ deal_of table.old }
+    ensures nearer { trading_rank table.new.reply.scripts result.trading < trading_rank table.old.reply.scripts at.entry.trading }
+    ensures fits { TradingFits table.new held.now result }
+{
+    let Some(card) = held else {
+        unreachable!();
+    };
+    let AtTrading { row, trading } = at;
+    let trading = on_host(table, card, row, trading, reply);
+    AtTrading { row, trading }
+}
