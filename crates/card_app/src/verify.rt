@@ -13,7 +13,7 @@ use apdu_core::status::{
     AUTHENTICATION_BLOCKED, CONDITIONS_NOT_SATISFIED, DATA_NOT_FOUND, WRONG_LENGTH,
     WRONG_PARAMETERS,
 };
-use card_cryptogram::Phase;
+use card_cryptogram::{Phase, block_of};
 use card_files::{AppImage, Image};
 use card_state::{AppState, CardState};
 
@@ -25,16 +25,6 @@ fn has_pin(state: &AppState) -> bool
     ensures { result ≡ spec.has_pin state.now }
 {
     state.pin != [0; 8]
-}
-
-/// Eight bytes as a block.
-fn block_of(bytes: &[u8]) -> [u8; 8]
-    requires { length bytes.now ≡ 8 }
-    ensures { result ≡ bytes.now }
-{
-    let mut block = [0; 8];
-    block.copy_from_slice(bytes);
-    block
 }
 
 /// The comparison that the application's PIN wants.
