@@ -1,3 +1,2 @@
 mod Allowing
-mod Comparing
 mod Continuing

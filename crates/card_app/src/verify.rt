@@ -7,7 +7,7 @@ ghost use Rattle.card_app.specs.Pin as spec;
 ghost use Rattle.card_cryptogram.specs.declared.phase.Phase.TheVariants.{Started};
 
 use crate::apps::{app_at, state_at};
-use crate::reply::{Comparison, Reply, refused};
+use crate::reply::{Reply, refused};
 use apdu_core::Command;
 use apdu_core::status::{
     AUTHENTICATION_BLOCKED, CONDITIONS_NOT_SATISFIED, DATA_NOT_FOUND, WRONG_LENGTH,
@@ -15,6 +15,7 @@ use apdu_core::status::{
 };
 use card_cryptogram::{Phase, block_of};
 use card_files::{AppImage, Image};
+use card_pages::Comparison;
 use card_state::{AppState, CardState};
 
 /// P2 of a plain PIN block.

@@ -19,7 +19,7 @@ use emv_dict::Kind;
 pub const UNABLE_TO_GO_ONLINE: [u8; 2] = *b"Y3";
 
 /// Whether a transaction may start: neither the card nor the application is blocked, and a transaction
-/// counter is left (EMV 4.3 Book 3 section 6.5.5: the counter is never taken twice).
+/// counter is left.
 pub fn may_start(state: &AppState, card_blocked: bool) -> bool
     ensures exact { result ≡ spec.may_start state.now card_blocked }
     ensures allowed { IsTrue result → MayDecide state.now Started }
