@@ -1,5 +1,5 @@
 -- What a card decides and answers to any bytes (ISO/IEC 7816-4; EMV 4.3 Book 3 section 6.5).
-use Rattle.std.specs.Prelude.{ℕ, ◌==◌, ◌&&◌, ◌||◌, not, Bool, if◌then◌else◌, List, Option, Some, None}
+use Rattle.std.specs.Prelude.{ℕ, ◌==◌, ◌&&◌, not, Bool, if◌then◌else◌, List, Option, Some, None}
 use Rattle.apdu_core.specs.Command.{CommandData, command_of}
 use Rattle.card_files.specs.Files.{opening_of}
 use Rattle.card_files.specs.Views.{AppData}
@@ -10,6 +10,7 @@ use Rattle.card_app.specs.Cryptograms.{generate_row, authenticate_row}
 use Rattle.card_app.specs.Files.{select_row, record_row, data_row}
 use Rattle.card_app.specs.Options.{options_of}
 use Rattle.card_app.specs.Orders.{script_row}
+use Rattle.card_cryptogram.specs.Asked.{is_class}
 use Rattle.card_cryptogram.specs.Orders.{plain_order, pin_order, limit_order}
 use Rattle.card_app.specs.Pin.{verify_of}
 use Rattle.card_app.specs.Replies.{with_app}
@@ -44,9 +45,6 @@ verify_in image state (Done app first) body = refused 0x6985
 unfoldable pub verify_row : List AppData → CardState → Phase → CommandData → ReplyData
 verify_row image state phase c =
     if not (c.p1 == 0 && c.p2 == 0x80) then refused 0x6A86 else verify_in image state phase c.body
-
-abbrev pub is_class : ℕ → Bool
-is_class class = class == 0x00 || (class == 0x04 || (class == 0x80 || class == 0x84))
 
 -- the row of a command of a known class; an unknown instruction is refused
 unfoldable pub instruction_row : List AppData → CardState → Phase → CommandData → ReplyData

@@ -61,3 +61,11 @@ pub record ChipCutAt (old new : ChipSeen) (session : List Exchange) (ds : List D
 
 abbrev pub ChipCut : ChipSeen → ChipSeen → List Exchange → List Decided → Option Tear → ℕ → List ℕ → Type 0
 ChipCut old new session ds plan made command = (at : Cut) × ChipCutAt old new session ds plan made command at
+
+-- on, for some session and some decisions
+abbrev pub IsChipOn : ChipSeen → Type 0
+IsChipOn seen = (session : List Exchange) × (ds : List Decided) × (plan : Option Tear) × (made : ℕ) × ChipOn seen session ds plan made
+
+-- off, for some decisions
+abbrev pub IsChipOff : ChipSeen → Type 0
+IsChipOff seen = (kept : List Decided) × (pending : Option Decided) × ChipOff seen kept pending

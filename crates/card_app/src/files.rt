@@ -14,7 +14,7 @@ use apdu_core::status::{
     WRONG_LENGTH, WRONG_PARAMETERS,
 };
 use ber_tlv::Tag;
-use card_cryptogram::{Body, Phase, is_record_named, put};
+use card_cryptogram::{Body, Phase, is_record_named, put, replace};
 use card_files::{AppImage, Image};
 use card_state::{AppState, CardState};
 
@@ -44,22 +44,11 @@ fn give_record(image: &Image, app: u8, sfi: u8, number: u8, out: &mut Body) -> u
 {
     match image.record(app, sfi, number) {
         Some(bytes) => {
-            copy(bytes, out);
+            replace(bytes, out);
             NO_ERROR
         }
         None if image.has_file(app, sfi) => RECORD_NOT_FOUND,
         None => FILE_NOT_FOUND,
-    }
-}
-
-/// Replaces `out` by these bytes.
-fn copy(bytes: &[u8], out: &mut Body)
-    requires { length bytes.now ≤ 256 }
-    ensures { out.new.items ≡ bytes.now }
-{
-    out.clear();
-    if out.try_extend_from_slice(bytes).is_err() {
-        unreachable!();
     }
 }
 

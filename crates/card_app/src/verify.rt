@@ -15,18 +15,11 @@ use apdu_core::status::{
 };
 use card_cryptogram::{Phase, block_of};
 use card_files::{AppImage, Image};
-use card_pages::Comparison;
+use card_pages::{Comparison, has_pin};
 use card_state::{AppState, CardState};
 
 /// P2 of a plain PIN block.
 const PLAIN: u8 = 0x80;
-
-/// Whether the application has a PIN: its block isn't eight zero bytes.
-fn has_pin(state: &AppState) -> bool
-    ensures { result ≡ spec.has_pin state.now }
-{
-    state.pin != [0; 8]
-}
 
 /// The comparison that the application's PIN wants.
 #[tactic(auto, unfolding(crate::specs::Pin::verify_of, crate::specs::Session::next_phase))]

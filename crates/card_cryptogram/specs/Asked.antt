@@ -4,6 +4,10 @@ use Rattle.emv_dict.specs.Kinds.{kind_of}
 use Rattle.emv_dict.specs.declared.ending.Kind.{Kind}
 use Rattle.emv_dict.specs.declared.ending.Kind.TheVariants.{Aac, Tc, Arqc}
 
+-- the classes of commands, without and with secure messaging
+abbrev pub is_class : ℕ → Bool
+is_class class = class == 0x00 || (class == 0x04 || (class == 0x80 || class == 0x84))
+
 -- SELECT by an application's name: the first occurrence, or the next one
 abbrev pub is_by_name : ℕ → ℕ → Bool
 is_by_name p1 p2 = (p1 == 4) && ((p2 == 0) || (p2 == 2))

@@ -8,6 +8,14 @@ use crate::phase::{First, Phase};
 use emv_dict::Kind;
 use object_lists::{Dol, total};
 
+/// Whether the class is one that a card knows: of interindustry and of proprietary commands, each without
+/// and with secure messaging (EMV 4.3 Book 3 section 6.3.2).
+pub fn is_class(class: u8) -> bool
+    ensures { result ≡ spec.is_class class }
+{
+    class == 0x00 || class == 0x04 || class == 0x80 || class == 0x84
+}
+
 /// P2 of a SELECT of the next occurrence.
 pub const NEXT_OCCURRENCE: u8 = 0x02;
 

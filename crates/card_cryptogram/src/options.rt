@@ -1,5 +1,5 @@
 //! The answer to GET PROCESSING OPTIONS.
-ghost use Rattle.std.specs.Prelude.{◌≡◌, ◌≤◌, ◌++◌, [], length, IsTrue, nat_le};
+ghost use Rattle.std.specs.Prelude.{◌≡◌, ◌≤◌, ◌++◌, [], length, IsTrue, false, nat_le};
 ghost use Rattle.ber_tlv.specs.Written.{written};
 ghost use Rattle.card_cryptogram.specs.Options as spec;
 

@@ -1,7 +1,8 @@
 -- A PIN block to compare (EMV 4.3 Book 3 section 6.5.12): the try is decided before the comparison.
-use Rattle.std.specs.Prelude.{◌≡◌, ℕ, ◌+◌, ◌-◌, ◌<◌, Bool, if◌then◌else◌, [], ◌∷◌, length}
+use Rattle.std.specs.Prelude.{◌≡◌, ℕ, ◌+◌, ◌-◌, ◌<◌, not, Bool, if◌then◌else◌, [], ◌∷◌, length, replicate}
 use Rattle.std.specs.Str.{bytes_eq}
 use Rattle.card_state.specs.declared.decision.Decision.TheVariants.{PinTry, PinRight}
+use Rattle.card_state.specs.declared.state.AppState.{AppState}
 use Rattle.card_state.specs.declared.state.CardState.{CardState}
 use Rattle.card_pages.specs.Replies.{ReplyData}
 use Rattle.card_pages.specs.SeenKept.{MayTake}
@@ -13,6 +14,10 @@ compared app limit tries right =
     if right
     then record { new = record { app = app; decision = PinTry } ∷ record { app = app; decision = PinRight limit } ∷ []; body = []; status = 0x9000 }
     else record { new = record { app = app; decision = PinTry } ∷ []; body = []; status = 0x63C0 + (tries - 1) }
+
+-- no PIN is eight zero bytes
+abbrev pub has_pin : AppState → Bool
+has_pin s = not (bytes_eq s.pin (replicate 8 0))
 
 -- whether the block is the PIN
 abbrev pub is_equal : Comparison → Bool

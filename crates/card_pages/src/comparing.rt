@@ -2,6 +2,7 @@
 ghost use Rattle.std.specs.Prelude.{◌≡◌, ◌+◌, ◌-◌, [], length, Some, IfOk, IfErr, OnOk, OnErr};
 ghost use Rattle.apdu_core.specs.Response.{response_bytes, response_of};
 ghost use Rattle.torn_store.specs.Store.{IsGone};
+ghost use Rattle.card_pages.specs.Comparing as spec;
 ghost use Rattle.card_pages.specs.Comparing.{MayCompare, comparison_reply, is_equal};
 ghost use Rattle.card_pages.specs.Replies.{said, response_in};
 ghost use Rattle.card_pages.specs.SeenKept.{Takes, IsCut};
@@ -10,7 +11,7 @@ use crate::kept::Kept;
 use apdu_core::status::NO_ERROR;
 use apdu_core::{Answer, Response, write_response};
 use arrayvec::ArrayVec;
-use card_state::Decision;
+use card_state::{AppState, Decision};
 use emv_ports::Pages;
 use torn_store::Lost;
 
@@ -27,6 +28,13 @@ pub struct Comparison {
     pub limit: u8,
     /// The tries that are left before this one.
     pub tries: u8,
+}
+
+/// Whether the application has a PIN: its block isn't eight zero bytes.
+pub fn has_pin(state: &AppState) -> bool
+    ensures { result ≡ spec.has_pin state.now }
+{
+    state.pin != [0; 8]
 }
 
 /// Replaces `out` by the answer of this body, which has at most 256 bytes, and this status.

@@ -6,5 +6,5 @@
 mod comparing;
 mod kept;
 
-pub use comparing::{Comparison, compare, respond};
+pub use comparing::{Comparison, compare, has_pin, respond};
 pub use kept::{Kept, format};
