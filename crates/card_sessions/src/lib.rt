@@ -54,7 +54,10 @@ pub fn turn_on<'i, P: Pages>(chip: &mut Chip<'i, P>, tear: Option<Tear>) -> Resu
     ensures runs { OnOk result (is_on chip.new ≡ true) }
     ensures off { OnErr result (IsChipOff chip.new) }
 {
-    chip.power_up(tear)
+    match chip.power_up(tear) {
+        Ok(()) => Ok(()),
+        Err(gone) => Err(gone),
+    }
 }
 
 /// Sends a command to a card in its place. It goes on, or is off behind a loss.
@@ -69,7 +72,10 @@ pub fn send<'i, P: Pages>(
     ensures runs { OnOk result (is_on chip.new ≡ true) }
     ensures off { OnErr result (IsChipOff chip.new) }
 {
-    chip.process(command, out)
+    match chip.process(command, out) {
+        Ok(()) => Ok(()),
+        Err(gone) => Err(gone),
+    }
 }
 
 /// Turns off a card in its place.
