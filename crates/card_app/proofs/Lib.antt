@@ -1,2 +1,3 @@
 mod Allowing
+mod Chips
 mod Continuing

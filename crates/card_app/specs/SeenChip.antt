@@ -1,6 +1,5 @@
 -- A card in its place, on or off, as a contract sees it.
 use Rattle.std.specs.Prelude.{◌≡◌, ℕ, ◌+◌, List, [], ◌∷◌, ◌++◌, length, Bool, false, is_some, Option, Some, None}
-use Rattle.std.specs.Option.{ForSome}
 use Rattle.card_files.specs.Files.{opening_of}
 use Rattle.card_files.specs.Views.{AppData}
 use Rattle.card_state.specs.Decisions.{Decided}
@@ -28,13 +27,21 @@ IsWhole image None None = ⊥
 abbrev pub is_on : ChipSeen → Bool
 is_on seen = is_some seen.card
 
+abbrev pub OnCard : Option CardSeen → List Exchange → List Decided → Option Tear → ℕ → Type 0
+OnCard (Some card) session ds plan made = CardOn card session ds plan made
+OnCard None session ds plan made = ⊥
+
+abbrev pub OffPages : List AppData → Option Memory → List Decided → Option Decided → Type 0
+OffPages image (Some memory) kept pending = MayStand memory.cells (opening_of image) kept pending
+OffPages image None kept pending = ⊥
+
 -- it is on, and stands for this session and these decisions
 abbrev pub ChipOn : ChipSeen → List Exchange → List Decided → Option Tear → ℕ → Type 0
-ChipOn seen session ds plan made = ForSome seen.card (λ card. CardOn card session ds plan made)
+ChipOn seen session ds plan made = OnCard seen.card session ds plan made
 
 -- it is off, and may stand for these decisions
 abbrev pub ChipOff : ChipSeen → List Decided → Option Decided → Type 0
-ChipOff seen kept pending = ForSome seen.pages (λ memory. MayStand memory.cells (opening_of seen.image) kept pending)
+ChipOff seen kept pending = OffPages seen.image seen.pages kept pending
 
 abbrev pub losses_in : Option CardSeen → Option Memory → ℕ
 losses_in (Some card) pages = card.kept.memory.losses

@@ -1,5 +1,5 @@
 //! A purchase whose power is cut at each place, and what is found behind it.
-ghost use Rattle.std.specs.Prelude.{◌≡◌, ◌≤◌, Some, None, false, IsTrue};
+ghost use Rattle.std.specs.Prelude.{◌≡◌, ◌+◌, ◌≤◌, Some, None, false, IsTrue};
 ghost use Rattle.emv_ports.specs.Cut.{is_plan};
 ghost use Rattle.card_app.specs.SeenChip.{IsChipOff};
 
@@ -115,19 +115,17 @@ fn state_found<'i, P: Pages>(chip: &mut Chip<'i, P>, tear: Option<Tear>) -> Opti
     }
 }
 
-/// A purchase that is cut, a power-up that is cut, and one without a plan.
-fn try_cut_again<P: Pages>(rt: &impl Abort, image: &Image, pages: P, first: Tear, again: Tear)
-    requires off { (P.memory pages).on ≡ false }
-    requires plan { (P.memory pages).plan ≡ None }
-    requires first { IsTrue (is_plan (Some first)) }
-    requires again { IsTrue (is_plan (Some again)) }
+/// Power-ups that are cut, so many of them, at one place behind another and round again.
+fn find_none<'i, P: Pages>(rt: &impl Abort, chip: &mut Chip<'i, P>, place: u8, count: u8)
+    requires card { IsChipOff chip.old }
+    requires few { place + count ≤ 255 }
+    ensures off { IsChipOff chip.new }
 {
-    let mut chip = Chip::new(image, pages);
-    purchase_cut(rt, &mut chip, first);
-    let cut = state_found(&mut chip, Some(again));
-    assert!(rt; cut.is_none(), "{first:?}, {again:?}");
-    let last = state_found(&mut chip, None).expect(rt, "a card that is on");
-    assert!(rt; may_be_left(first, last), "{first:?}, {again:?}");
+    if count > 0 {
+        let found = state_found(chip, Some(plan_of(place % PLACES)));
+        assert!(rt; found.is_none(), "place {place}");
+        find_none(rt, chip, place + 1, count - 1);
+    }
 }
 
 /// Power-ups with the plans from this number on, none of which cuts a power-up: each finds this state.
@@ -143,14 +141,16 @@ fn find_again<'i, P: Pages>(rt: &impl Abort, chip: &mut Chip<'i, P>, number: u8,
     }
 }
 
-/// A purchase that is cut, power-ups with each plan that doesn't cut them, and one without a plan.
-fn try_spared_again<P: Pages>(rt: &impl Abort, image: &Image, pages: P, first: Tear)
+/// A purchase that is cut by the plan of this number, a power-up with each plan, and one without a plan:
+/// first those that cut it, beginning at the place of the purchase's own cut, and then the others.
+fn try_plan<P: Pages>(rt: &impl Abort, image: &Image, pages: P, number: u8)
     requires off { (P.memory pages).on ≡ false }
     requires plan { (P.memory pages).plan ≡ None }
-    requires first { IsTrue (is_plan (Some first)) }
 {
+    let first = plan_of(number);
     let mut chip = Chip::new(image, pages);
     purchase_cut(rt, &mut chip, first);
+    find_none(rt, &mut chip, number % PLACES, PLACES);
     let spared = Some(plan_of(PLACES));
     let state = state_found(&mut chip, spared).expect(rt, "a card that is on");
     assert!(rt; may_be_left(first, state), "{first:?}");
@@ -163,12 +163,7 @@ fn try_spared_again<P: Pages>(rt: &impl Abort, image: &Image, pages: P, first: T
 fn what_is_found_is_what_the_plans_leave(rt: HostRuntime) -> Result<(), Fail> {
     let image = image_of(&rt, rt.alloc(), Variant::Online)?;
     for number in 0..PLANS {
-        let first = plan_of(number);
-        for again in 0..PLACES {
-            let pages = MemoryPages::blank();
-            try_cut_again(&rt, &image, pages, first, plan_of(again));
-        }
-        try_spared_again(&rt, &image, MemoryPages::blank(), first);
+        try_plan(&rt, &image, MemoryPages::blank(), number);
     }
     Ok(())
 }
