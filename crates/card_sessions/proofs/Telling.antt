@@ -1,6 +1,6 @@
 -- The phase is what the last SELECT with file control information, and the exchanges behind it, make of it.
-use Rattle.std.proofs.Common.{◌≡◌, ℕ, ◌++◌, Bool, true, false, List, [], ◌∷◌, map, slice_get, Option, Some, None, refl, ap, sym, ◌∙◌}
-use Rattle.std.specs.Prelude.{◌==◌, ◌||◌, if◌then◌else◌}
+use Rattle.std.proofs.Common.{◌≡◌, ℕ, Bool, true, false, List, [], ◌∷◌, map, slice_get, Option, Some, None, refl, ap, ◌∙◌}
+use Rattle.std.specs.Prelude.{◌==◌, if◌then◌else◌}
 use Rattle.std.specs.List.{fold, list_any}
 use Rattle.std.proofs.lemmas.List.Sums.{fold-append}
 use Rattle.apdu_core.specs.Command.{CommandData, command_of}
@@ -12,11 +12,11 @@ use Rattle.card_cryptogram.specs.declared.phase.First.{First}
 use Rattle.card_cryptogram.specs.declared.phase.Phase.{Phase}
 use Rattle.card_cryptogram.specs.declared.phase.Phase.TheVariants.{Idle, Selected, Started, Online, Closed, Done}
 use Rattle.card_files.specs.Views.{AppData}
-use Rattle.card_sessions.specs.Told.{Turn, Selects, Opens, Makes, Authenticates, Other, turn_in, turn_said, turn_of, is_selection, behind_opening, Made, first_made, sent_in, told_request, told_made, told_opened, told_of, SelectsNone, IsSelection, BeginsIdle, IsTold}
+use Rattle.card_sessions.specs.Told.{Turn, Selects, Opens, Makes, Authenticates, Other, turn_said, turn_of, is_selection, behind_opening, Made, first_made, sent_in, told_request, told_made, told_of, BeginsIdle, IsTold}
 
 module _ (image : List AppData) where
   -- what a turn makes of a phase
-  turned : Phase → Turn → Phase
+  abbrev turned : Phase → Turn → Phase
   turned phase (Selects p2 name) = selected (found image phase p2 name) phase
   turned phase Opens = started phase
   turned phase (Makes filled body) = with_cryptogram image filled body phase
@@ -60,12 +60,14 @@ module _ (image : List AppData) where
   after_turns phase (t ∷ ts) = after_turns (turned phase t) ts
 
   folded : (phase : Phase) (session : List Exchange) → fold (after image) phase session ≡ after_turns phase (map turn_of session)
+  unfolding after_turns
   folded phase [] = refl
   folded phase (x ∷ xs) =
       folded (after image phase x) xs
       ∙ ap (λ (p : Phase). after_turns p (map turn_of xs)) (said_is phase (command_of x.command) (response_of x.answer))
 
   idle_stays : (ts : List Turn) → list_any is_selection ts ≡ false → after_turns Idle ts ≡ Idle
+  unfolding after_turns
   idle_stays [] none = refl
   idle_stays (Selects p2 name ∷ ts) none = cc
   idle_stays (Opens ∷ ts) none = idle_stays ts none
@@ -74,6 +76,7 @@ module _ (image : List AppData) where
   idle_stays (Other ∷ ts) none = idle_stays ts none
 
   closed_stays : (app : ℕ) (ts : List Turn) → list_any is_selection ts ≡ false → after_turns (Closed app) ts ≡ Closed app
+  unfolding after_turns
   closed_stays app [] none = refl
   closed_stays app (Selects p2 name ∷ ts) none = cc
   closed_stays app (Opens ∷ ts) none = closed_stays app ts none
@@ -82,6 +85,7 @@ module _ (image : List AppData) where
   closed_stays app (Other ∷ ts) none = closed_stays app ts none
 
   done_stays : (app : ℕ) (first : First) (ts : List Turn) → list_any is_selection ts ≡ false → after_turns (Done app first) ts ≡ Done app first
+  unfolding after_turns
   done_stays app first [] none = refl
   done_stays app first (Selects p2 name ∷ ts) none = cc
   done_stays app first (Opens ∷ ts) none = done_stays app first ts none
@@ -91,7 +95,7 @@ module _ (image : List AppData) where
 
   online_goes : (app : ℕ) (first : First) (sent : Option Bool) (ts : List Turn) → list_any is_selection ts ≡ false
       → after_turns (Online app first sent) ts ≡ told_request app first sent ts (first_made ts)
-  unfolding first_made sent_in
+  unfolding first_made sent_in after_turns
   online_goes app first sent [] none = refl
   online_goes app first sent (Selects p2 name ∷ ts) none = cc
   online_goes app first sent (Opens ∷ ts) none = online_goes app first sent ts none ∙ same_sent (first_made ts)
@@ -122,7 +126,7 @@ module _ (image : List AppData) where
     begun_goes filled body false ts none = closed_stays app ts none
 
     started_goes : (ts : List Turn) → list_any is_selection ts ≡ false → after_turns (Started app) ts ≡ told_made a app (first_made ts)
-    unfolding first_made
+    unfolding first_made after_turns
     started_goes [] none = refl
     started_goes (Selects p2 name ∷ ts) none = cc
     started_goes (Opens ∷ ts) none = started_goes ts none
@@ -133,7 +137,7 @@ module _ (image : List AppData) where
     started_goes (Other ∷ ts) none = started_goes ts none
 
     selected_goes : (ts : List Turn) → list_any is_selection ts ≡ false → after_turns (Selected app) ts ≡ told_of a app ts
-    unfolding behind_opening
+    unfolding behind_opening after_turns
     selected_goes [] none = refl
     selected_goes (Selects p2 name ∷ ts) none = cc
     selected_goes (Opens ∷ ts) none = started_goes ts none

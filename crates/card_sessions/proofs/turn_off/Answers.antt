@@ -2,7 +2,7 @@
 use Rattle.std.proofs.Common.{None}
 use Rattle.card_sessions.proofs.turn_off.Goals as goal
 
-pub returns-clause-off : goal.returns-clause-off
-returns-clause-off g c =
+pub returns : goal.returns
+returns g c =
     let s = c.requires.card in
-    (s.1, None, c.power_off.ensures.stands s.0 s.1 s.2 s.3 s.4)
+    record { off = (s.1, None, c.power_off.ensures.stands s.0 s.1 s.2 s.3 s.4) }
