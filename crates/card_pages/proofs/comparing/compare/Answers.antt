@@ -1,7 +1,7 @@
 -- The try, and where the block is the PIN's the restored tries behind it.
 use Rattle.std.proofs.Common.{sym, ◌∙◌}
-use Rattle.card_app.proofs.Comparing.{cut_try, took_try, took_both, cut_right}
-use Rattle.card_app.proofs.card.compare.Goals as goal
+use Rattle.card_pages.proofs.ComparingLemmas.{cut_try, took_try, took_both, cut_right}
+use Rattle.card_pages.proofs.comparing.compare.Goals as goal
 
 pub returns-in-Err-clause-cut : goal.returns-in-Err-clause-cut
 returns-in-Err-clause-cut g c opening ds plan made on =

@@ -6,10 +6,9 @@ use Rattle.card_state.specs.declared.state.CardState.{CardState}
 use Rattle.emv_ports.specs.Memory.{Memory}
 use Rattle.emv_ports.specs.declared.tear.Tear.{Tear}
 use Rattle.card_pages.specs.Cuts.{Cut}
-use Rattle.card_app.specs.Pin.{compared}
+use Rattle.card_pages.specs.Comparing.{compared, comparison_reply, is_equal}
 use Rattle.card_pages.specs.SeenKept.{KeptState, KeptOn, Took, Takes, CutAt, IsCutAlone}
-use Rattle.card_app.specs.SeenReply.{comparison_reply, is_equal}
-use Rattle.card_app.specs.declared.reply.Comparison.{Comparison}
+use Rattle.card_pages.specs.declared.comparing.Comparison.{Comparison}
 use Rattle.card_pages.proofs.Steps.{cut_first, takes_two, cut_second}
 
 module _ (k : Comparison) where
