@@ -13,7 +13,7 @@ fn main(rt: HostRuntime) -> io::Result<()> {
     let mut words = env::args(&rt)?.skip(1);
     let work = words.next();
     let answers = match &work {
-        Some(word) => word == "answer",
+        Some(word) => word.as_str() == "answer",
         None => false,
     };
     let rounds = match words.next() {

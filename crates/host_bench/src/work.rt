@@ -39,9 +39,7 @@ fn account_number(place: u16) -> Digits
     let hundreds = (place / 100) as u8;
     let tens = (place / 10 % 10) as u8;
     let ones = (place % 10) as u8;
-    let digits = [
-        4, 7, 6, 1, 7, 3, 9, 0, 0, 1, 0, 1, 0, hundreds, tens, ones,
-    ];
+    let digits = [4, 7, 6, 1, 7, 3, 9, 0, 0, 1, 0, 1, 0, hundreds, tens, ones];
     match Digits::new(&digits) {
         Some(pan) => pan,
         None => unreachable!(),
@@ -109,11 +107,7 @@ fn write_card_request(place: u16, counter: u16, out: &mut Message)
 }
 
 /// Appends one request for each account.
-fn add_round(
-    alloc: Global,
-    counter: u16,
-    requests: &mut Vec<Vec<u8>>,
-) -> Result<(), AllocError>
+fn add_round(alloc: Global, counter: u16, requests: &mut Vec<Vec<u8>>) -> Result<(), AllocError>
     requires { All (λ r. length r.items ≤ 2048) requests.old.items }
     ensures { All (λ r. length r.items ≤ 2048) requests.new.items }
 {
