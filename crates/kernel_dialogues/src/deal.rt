@@ -129,8 +129,9 @@ fn byte_of(text: &str) -> u8 {
 
 /// The last five bytes of a hexadecimal number.
 fn five_of(text: &str) -> [u8; 5] {
-    let [_, _, _, first, second, third, fourth, fifth] =
-        u64::from_str_radix(text, 16).unwrap_or(0).to_be_bytes();
+    let [_, _, _, first, second, third, fourth, fifth] = u64::from_str_radix(text, 16)
+        .unwrap_or(0)
+        .to_be_bytes();
     [first, second, third, fourth, fifth]
 }
 
@@ -196,7 +197,12 @@ impl<'t> Deal<'t> {
     {
         let exceptions = account_numbers(alloc, self.exceptions)?;
         let aids = self.rows(alloc)?;
-        if self.kind < 21 || self.kind > 26 || aids.is_empty() || aids.len() > 16 || exceptions.len() > 100 {
+        if self.kind < 21
+            || self.kind > 26
+            || aids.is_empty()
+            || aids.len() > 16
+            || exceptions.len() > 100
+        {
             return Err(Difference::Line);
         }
         Ok(Settings {

@@ -86,7 +86,10 @@ fn is_taken(kernel: &mut Kernel<'_>, exchange: &str, log: &[Logged], bytes: &mut
     requires { All (λ logged. logged.amount ≤ most_amount) log.now }
 {
     let message = exchange.strip_prefix("host ");
-    let (deed, reply) = message.unwrap_or(exchange).split_once(' ').unwrap_or((exchange, ""));
+    let (deed, reply) = message
+        .unwrap_or(exchange)
+        .split_once(' ')
+        .unwrap_or((exchange, ""));
     put_bytes(bytes, text_of(deed));
     if kernel.bytes() != bytes.as_slice() {
         return false;
