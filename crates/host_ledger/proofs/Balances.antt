@@ -1,9 +1,7 @@
 -- The balances that are kept are those that the entries leave.
-use Rattle.std.proofs.Common.{◌≡◌, ℕ, ◌+◌, ◌*◌, ◌≤◌, ◌^◌, Bool, true, false, cond, List, [], ◌∷◌, map, length, Option, Some, None, refl, sym, ap, subst, ◌∙◌, arith, ℤ, pos, ◌+ℤ◌, ◌-ℤ◌, ◌≤ℤ◌}
+use Rattle.std.proofs.Common.{◌≡◌, ℕ, ◌≤◌, Bool, true, false, cond, List, [], ◌∷◌, map, Option, Some, None, refl, sym, ap, subst, ◌∙◌, arith, ℤ, pos, ◌+ℤ◌, ◌-ℤ◌}
 use Rattle.std.specs.Prelude.{◌≢◌, option_map, Result, Ok, Err, IsErrAnd}
-use Rattle.std.specs.List.{All, AllByRecursion}
 use Rattle.std.specs.Str.{bytes_eq}
-use Rattle.std.proofs.lemmas.Bool.{false_from_ne_true}
 use Rattle.std.proofs.lemmas.Int.{ints}
 use Rattle.std.proofs.lemmas.List.Elements.{All-from_recursion, recursion_from_All}
 use Rattle.emv_dict.specs.Settings.{most_amount}
@@ -17,7 +15,7 @@ use Rattle.host_ledger.specs.declared.fault.LedgerFault.{LedgerFault}
 use Rattle.host_ledger.specs.declared.fault.LedgerFault.TheVariants.{OutOfMemory}
 use Rattle.host_ledger.specs.Entries.{entry_at, with_entry, taken, taken_at, taken_from}
 use Rattle.host_ledger.proofs.Keys.{same_pan, own_pan}
-use Rattle.host_ledger.proofs.Sums.{own_sum, other_sum, all_small, sum_small, found_again, others_again}
+use Rattle.host_ledger.proofs.Sums.{own_sum, other_sum, all_small, found_again, others_again}
 
 -- what a contract sees of these accounts and entries
 abbrev pub seen : List (List ℕ × Account) → List Entry → LedgerData

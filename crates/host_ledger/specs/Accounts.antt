@@ -1,5 +1,5 @@
 -- What a contract sees of a ledger, and the balance of an account.
-use Rattle.std.specs.Prelude.{◌≡◌, ◌≢◌, ℕ, ◌+◌, ◌<◌, ◌≤◌, ℤ, pos, ◌-ℤ◌, ⊤, if◌then◌else◌, List, [], ◌∷◌, take, Option, Some, None, IsSome, option_map, slice_get}
+use Rattle.std.specs.Prelude.{◌≡◌, ◌≢◌, ℕ, ◌+◌, ◌<◌, ℤ, pos, ◌-ℤ◌, ⊤, if◌then◌else◌, List, [], ◌∷◌, take, Option, Some, None, IsSome, option_map, slice_get}
 use Rattle.std.specs.Str.{bytes_eq}
 use Rattle.host_ledger.specs.declared.entry.Entry.{Entry}
 use Rattle.host_ledger.specs.declared.key.Key.{Key}

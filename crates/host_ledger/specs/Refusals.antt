@@ -2,7 +2,7 @@
 use Rattle.std.specs.Prelude.{◌≡◌, ℕ, ℤ, pos, int_lt, if◌then◌else◌, Option, Some, None, option_map, Result, Ok, Err}
 use Rattle.host_ledger.specs.declared.entry.Entry.{Entry}
 use Rattle.host_ledger.specs.declared.fault.LedgerFault.{LedgerFault}
-use Rattle.host_ledger.specs.declared.fault.LedgerFault.TheVariants.{SamePan, UnknownAccount, AlreadyBooked, NoFunds, OutOfMemory}
+use Rattle.host_ledger.specs.declared.fault.LedgerFault.TheVariants.{UnknownAccount, AlreadyBooked, NoFunds, OutOfMemory}
 use Rattle.host_ledger.specs.Entries.{is_held}
 
 -- why no amount is held, by the balance of the account, the entry of the transaction and the amount

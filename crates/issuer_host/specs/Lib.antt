@@ -1,6 +1,5 @@
 pub mod Account
 pub mod Balance
-pub mod BookedOnce
 pub mod Books
 pub mod Code
 pub mod History

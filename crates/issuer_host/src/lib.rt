@@ -10,7 +10,6 @@ mod decision;
 pub mod host;
 mod keeping;
 pub mod keys;
-pub mod law;
 mod records;
 mod reply;
 mod script;
@@ -19,8 +18,4 @@ pub use account::Account;
 pub use code::Code;
 pub use host::Host;
 pub use keys::HostKeys;
-pub use law::transactions_are_booked_once;
 pub use script_words::{Ordered, Script, Word};
-
-#[cfg(test)]
-mod tests;

@@ -5,7 +5,7 @@ use Rattle.emv_dict.specs.declared.ending.Cause.{Cause}
 use Rattle.emv_dict.specs.declared.ending.Ending.TheVariants.{Terminated}
 use Rattle.emv_dict.specs.declared.ending.Step.{Step}
 use Rattle.emv_dict.specs.declared.purchase.Logged.{Logged}
-use Rattle.kernel.specs.Reply.{Reply, CardSaid, CardGone, HostSaid, HostSilent, Deed, ToCard, ToHost, Over}
+use Rattle.kernel.specs.Reply.{Reply, CardSaid, CardGone, HostSaid, HostSilent, ToCard, Over}
 use Rattle.kernel.specs.Course.{Standing, Rest, stands, settled, card_step}
 
 -- where a command goes on alike, the step does

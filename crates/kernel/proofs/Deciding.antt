@@ -1,6 +1,6 @@
 -- From the first cryptogram to the second one.
-use Rattle.std.proofs.Common.{◌≡◌, refl, sym, ap, ◌∙◌, ℕ, Bool, true, false, List, [], ◌∷◌, Option, Some, None, Result, Ok, Err}
-use Rattle.emv_dict.specs.Progress.{Progress, Wants, Stopped, Done}
+use Rattle.std.proofs.Common.{◌≡◌, refl, sym, ap, ◌∙◌, ℕ, Bool, true, false, List, [], ◌∷◌, Some, None, Ok, Err}
+use Rattle.emv_dict.specs.Progress.{Stopped, Done}
 use Rattle.emv_dict.specs.declared.ending.Cause.{Cause}
 use Rattle.emv_dict.specs.declared.ending.Cause.TheVariants.{Dol}
 use Rattle.emv_dict.specs.declared.ending.Ending.{Ending}
@@ -11,16 +11,14 @@ use Rattle.emv_dict.specs.declared.purchase.Logged.{Logged}
 use Rattle.online_step.specs.Ac.{AcData, ac_of}
 use Rattle.online_step.specs.Generate.{list_data, generated, after_ac}
 use Rattle.online_step.specs.Request.{request_of}
-use Rattle.kernel.specs.Course.{Standing, Rest, over, card_step, cut_off, host_step}
+use Rattle.kernel.specs.Course.{Standing, over, host_step}
 use Rattle.kernel.specs.Dialogue.{Trade, first_answered, online, is_offline_only, replied, unable_online, kind_unable, second, scripts_behind, decision, objects_at}
 use Rattle.kernel.specs.Marks.{Mark, HasFirst, HasSecond, WasUnable, moment, latest, card_of}
-use Rattle.kernel.specs.Reply.{Reply, CardSaid}
-use Rattle.kernel.specs.Stages.{TradingStands, Begins, generating}
+use Rattle.kernel.specs.Reply.{Reply}
+use Rattle.kernel.specs.Stages.{TradingStands, Begins}
 use Rattle.kernel.specs.declared.stage.Trading.TheVariants as trading
 use Rattle.kernel.specs.declared.table.Table.{Table}
-use Rattle.kernel.proofs.Courses.{done}
-use Rattle.kernel.proofs.Following.{trading_stopped, begins_next}
-use Rattle.kernel.proofs.Taking.{begins_taken}
+use Rattle.kernel.proofs.Following.{trading_stopped}
 
 -- the dialogue is over
 pub stands_over : (t : Table) → (trade : Trade) → (marks : List Mark) → (log : List Logged) → (rest : List Reply → Standing Mark) → (ending : Ending) → ((later : List Reply) → rest later ≡ over marks ending log later) → t.moment ≡ moment marks → latest card_of None marks ≡ Some trade.card → TradingStands t trade (trading.Over ending) log rest

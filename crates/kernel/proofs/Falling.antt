@@ -1,5 +1,5 @@
 -- How many replies may still be taken, as steps follow one another.
-use Rattle.std.proofs.Common.{◌≡◌, refl, sym, ap, ◌∙◌, ℕ, zero, suc, ◌+◌, ◌*◌, ◌≤◌, ◌<◌, ◌==◌, Bool, true, false, List, [], ◌∷◌, length, filter, map, Some, None, Result, Ok, Err, arith, if◌then◌else◌}
+use Rattle.std.proofs.Common.{◌≡◌, refl, ℕ, ◌+◌, ◌*◌, ◌≤◌, ◌<◌, ◌==◌, Bool, true, false, List, [], ◌∷◌, length, filter, map, Result, Ok, Err, arith}
 use Rattle.std.proofs.lemmas.Bool.Decides.{nat_tests}
 use Rattle.std.specs.Prelude.{cond}
 use Rattle.app_select.specs.Candidates.{CandidateData}
@@ -13,9 +13,9 @@ use Rattle.ber_tlv.specs.Left.{items_of}
 use Rattle.ber_tlv.specs.declared.item.TlvFault.{TlvFault}
 use Rattle.ber_tlv.proofs.ItemBounds.{item_at-lies, lies-length}
 use Rattle.ber_tlv.proofs.Reading.{reads_list}
-use Rattle.emv_dict.specs.Progress.{Progress, Done}
-use Rattle.kernel.specs.Kernel.{opening_next, trading_next}
-use Rattle.kernel.specs.Rank.{bytes_in, search_rank, opening_rank, trading_rank}
+use Rattle.emv_dict.specs.Progress.{Done}
+use Rattle.kernel.specs.Kernel.{opening_next}
+use Rattle.kernel.specs.Rank.{bytes_in, search_rank, opening_rank}
 use Rattle.kernel.specs.Scripts.{templates, with_tag}
 use Rattle.kernel.specs.declared.kernel.Next.TheVariants as next
 use Rattle.kernel.specs.declared.stage.Opening.{Opening}

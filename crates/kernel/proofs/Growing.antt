@@ -4,10 +4,8 @@ use Rattle.std.proofs.lemmas.List.{append_assoc}
 use Rattle.auth_message.specs.Reply.{ReplyData, reply_of}
 use Rattle.auth_message.specs.declared.fault.MessageFault.{MessageFault}
 use Rattle.app_select.specs.Candidates.{CandidateData}
-use Rattle.app_select.specs.Selecting.{SelectedData, final, selecting}
-use Rattle.cvm_list.specs.Begun.{cvm}
+use Rattle.app_select.specs.Selecting.{SelectedData, selecting}
 use Rattle.emv_dict.specs.Progress.{Progress, Wants, Stopped, Done}
-use Rattle.emv_dict.specs.declared.ending.Cause.{Cause}
 use Rattle.emv_dict.specs.declared.ending.Ending.{Ending}
 use Rattle.emv_dict.specs.declared.ending.Kind.{Kind}
 use Rattle.emv_dict.specs.declared.ending.Kind.TheVariants.{Tc, Aac, Arqc}
@@ -21,9 +19,9 @@ use Rattle.read_records.specs.Options.{Opened}
 use Rattle.risk_mgmt.specs.declared.judged.Judged.{Judged}
 use Rattle.script_run.specs.Ran.{template_ran, no_script}
 use Rattle.kernel.specs.Course.{Standing, Rest, stands, over, by_progress, settled, card_step, cut_off, host_step}
-use Rattle.kernel.specs.Dialogue.{Trade, all_failed, left_script, scripts_behind, second, scripts_before, authentication, authentication_by, has_authentication, unable_online, kind_unable, reply_read, replied, is_offline_only, online, first_answered, first, analysis, risk, verification, restrictions, read, granted, initiation, opened, candidates_left, dialogue, decision, kind_for, kind_wanted}
+use Rattle.kernel.specs.Dialogue.{Trade, all_failed, left_script, scripts_behind, second, scripts_before, authentication, authentication_by, has_authentication, unable_online, kind_unable, reply_read, replied, is_offline_only, first_answered, first, analysis, risk, verification, restrictions, read, granted, initiation, opened, candidates_left, dialogue, decision, kind_for, kind_wanted}
 use Rattle.kernel.specs.Marks.{Mark, HasRead, HasRestricted, HasVerified, HasJudged, HasAnalysed, HasFirst, HasReply, WasUnable, HasAuthenticated, HasRunBefore, HasSecond, HasRunBehind}
-use Rattle.kernel.specs.Reply.{Reply, CardSaid, CardGone, HostSaid, HostSilent, Deed, ToCard, ToHost, Over}
+use Rattle.kernel.specs.Reply.{Reply, CardSaid, CardGone, HostSaid, HostSilent, Deed, Over}
 use Rattle.kernel.specs.Scripts.{templates, kept}
 use Rattle.kernel.specs.Laws.{deeds, deeds_behind}
 use Rattle.kernel.specs.Terminal.{Deal}

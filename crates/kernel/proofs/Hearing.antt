@@ -1,20 +1,19 @@
 -- From the host's reply to the end.
-use Rattle.std.proofs.Common.{◌≡◌, refl, sym, ap, ◌∙◌, ℕ, Bool, true, false, List, [], ◌∷◌, ◌++◌, drop, Option, Some, None, option_map, Result, Ok, Err}
+use Rattle.std.proofs.Common.{◌≡◌, refl, sym, ap, ◌∙◌, ℕ, Bool, true, List, [], ◌∷◌, Option, Some, None, Result, Ok, Err}
 use Rattle.auth_message.specs.Reply.{ReplyData, reply_of}
 use Rattle.auth_message.specs.declared.fault.MessageFault.{MessageFault}
 use Rattle.emv_dict.specs.Progress.{Progress, Wants, Stopped, Done}
 use Rattle.emv_dict.specs.declared.ending.Cause.{Cause}
 use Rattle.emv_dict.specs.declared.ending.Ending.{Ending}
-use Rattle.emv_dict.specs.declared.ending.Step.{Step}
 use Rattle.emv_dict.specs.declared.ending.Step.TheVariants as step
 use Rattle.emv_dict.specs.declared.purchase.Logged.{Logged}
 use Rattle.online_step.specs.Ac.{AcData}
 use Rattle.online_step.specs.Authenticate.{authenticate_command, authenticated, verdict_of, after_verdict}
-use Rattle.kernel.specs.Course.{Standing, Rest, over, card_step, cut_off, host_step}
+use Rattle.kernel.specs.Course.{Standing, Rest, card_step, cut_off, host_step}
 use Rattle.kernel.specs.Dialogue.{Trade, authentication, authentication_by, has_authentication, issuer_scripts, replied, reply_read, unable_online, scripts_behind, decision, left_script, all_failed}
 use Rattle.kernel.specs.Marks.{Mark, HasReply, HasSecond, HasAuthenticated, HasRunBehind, moment, latest, card_of}
 use Rattle.kernel.specs.Reply.{Reply, CardGone, HostSaid, HostSilent}
-use Rattle.kernel.specs.Scripts.{templates, kept}
+use Rattle.kernel.specs.Scripts.{kept}
 use Rattle.kernel.specs.Stages.{TradingStands, Begins, authenticating, behind_if}
 use Rattle.kernel.specs.declared.stage.Trading.TheVariants as trading
 use Rattle.kernel.specs.declared.table.Table.{Table}

@@ -1,6 +1,6 @@
 -- A reply that is read and kept.
-use Rattle.std.proofs.Common.{◌≡◌, refl, sym, ap, ◌∙◌, ◌+◌, ◌≤◌, ◌==◌, ◌&&◌, nat_le, ℕ, Bool, true, false, List, [], ◌∷◌, ◌++◌, length, map, filter, Option, Some, None, Result, Ok, Err, if◌then◌else◌, arith}
-use Rattle.std.specs.Prelude.{IfSome, cond, not}
+use Rattle.std.proofs.Common.{◌≡◌, refl, sym, ap, ◌+◌, ◌≤◌, ◌==◌, nat_le, ℕ, Bool, true, false, List, [], ◌∷◌, length, filter, Option, Some, None, Result, Ok, Err, if◌then◌else◌, arith}
+use Rattle.std.specs.Prelude.{IfSome, cond}
 use Rattle.std.proofs.lemmas.Bool.Decides.{nat_tests}
 use Rattle.std.proofs.lemmas.List.{length-map}
 use Rattle.auth_message.specs.Field.{some_value, is_between, wrong}
@@ -13,7 +13,7 @@ use Rattle.ber_tlv.specs.Left.{items_of}
 use Rattle.ber_tlv.specs.declared.item.TlvFault.{TlvFault}
 use Rattle.ber_tlv.proofs.ReadAgain.{both}
 use Rattle.ber_tlv.proofs.Reading.{left-end, no_zeros}
-use Rattle.kernel.specs.Scripts.{with_tag, templates, AreFew, are_few, sound_scripts, kept}
+use Rattle.kernel.specs.Scripts.{with_tag, templates, AreFew, are_few}
 use Rattle.kernel.specs.Sound.{IsIssuerData, IsSound}
 
 pub none_few : AreFew []

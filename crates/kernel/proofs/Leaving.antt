@@ -1,5 +1,5 @@
 -- The card is gone once it is read.
-use Rattle.std.proofs.Common.{◌≡◌, refl, sym, ap, ◌∙◌, ℕ, List, [], ◌∷◌, Some, None}
+use Rattle.std.proofs.Common.{◌≡◌, ◌∙◌, ℕ, List, [], ◌∷◌, Some, None}
 use Rattle.emv_dict.specs.Progress.{Progress, Wants}
 use Rattle.emv_dict.specs.declared.ending.Ending.TheVariants.{CutOff}
 use Rattle.emv_dict.specs.declared.ending.Step.{Step}

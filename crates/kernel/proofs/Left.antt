@@ -1,14 +1,13 @@
 -- The candidates that are left, as selection goes through them.
-use Rattle.std.proofs.Common.{◌≡◌, refl, sym, ◌∙◌, true, false, ℕ, List, [], ◌∷◌, Option, Some, None}
+use Rattle.std.proofs.Common.{◌≡◌, refl, sym, ◌∙◌, true, false, List, [], ◌∷◌, Some, None}
 use Rattle.app_select.specs.Candidates.{CandidateData}
 use Rattle.app_select.specs.Said.{SaidData, Unreadable, Blocked, Named, Nothing, select_said}
-use Rattle.app_select.specs.Selecting.{SelectedData, final, final_by, opening, or_else}
-use Rattle.emv_dict.specs.Progress.{Progress, Wants, Stopped, Done}
+use Rattle.app_select.specs.Selecting.{SelectedData, final_by, opening, or_else}
+use Rattle.emv_dict.specs.Progress.{Stopped, Done}
 use Rattle.emv_dict.specs.declared.ending.Cause.TheVariants.{Answer}
-use Rattle.emv_dict.specs.declared.ending.Step.{Step}
 use Rattle.emv_dict.specs.declared.ending.Step.TheVariants as step
 use Rattle.emv_dict.specs.declared.purchase.Logged.{Logged}
-use Rattle.kernel.specs.Course.{Standing, Rest, stands, settled, card_step, cut_off}
+use Rattle.kernel.specs.Course.{Rest, card_step, cut_off}
 use Rattle.kernel.specs.Dialogue.{initiation, opened, candidates_left}
 use Rattle.kernel.specs.Marks.{Mark}
 use Rattle.kernel.specs.Reply.{Reply, CardSaid, CardGone, HostSaid, HostSilent}

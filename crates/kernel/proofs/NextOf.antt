@@ -1,5 +1,5 @@
 -- What follows an answer, for the whole behind it.
-use Rattle.std.proofs.Common.{◌≡◌, ℕ, List, [], ◌∷◌, ◌++◌}
+use Rattle.std.proofs.Common.{ℕ, List, [], ◌∷◌, ◌++◌}
 use Rattle.cvm_list.specs.NextIs.{NextLeads as VerifyLeads}
 use Rattle.cvm_list.specs.declared.verified.Verified.{Verified}
 use Rattle.cvm_list.specs.declared.verifying.VerifyNext.{VerifyNext}

@@ -1,15 +1,14 @@
 -- The terminal's objects are those that a request needs.
-use Rattle.std.proofs.Common.{◌≡◌, ℕ, zero, suc, ◌+◌, ◌*◌, ◌/◌, ◌%◌, ◌<◌, ◌≤◌, ◌==◌, ◌&&◌, nat_le, Bool, true, false, List, [], ◌∷◌, ◌++◌, length, IsTrue, IsSome, refl, ap, sym, ◌∙◌, arith, Option, Some, None, length-append}
+use Rattle.std.proofs.Common.{◌≡◌, ℕ, zero, suc, ◌+◌, ◌*◌, ◌/◌, ◌%◌, ◌<◌, ◌≤◌, true, List, [], ◌∷◌, ◌++◌, length, refl, ◌∙◌, arith, Option, Some, None, length-append}
 use Rattle.std.proofs.lemmas.Bool.Decides.{nat_tests}
 use Rattle.std.proofs.lemmas.List.Folds.{list_all-append}
-use Rattle.std.specs.List.{list_all}
 use Rattle.auth_message.specs.Accepted.{AreDigits}
 use Rattle.emv_dict.specs.Bcd.{has_digits, two_digits, numeric}
 use Rattle.emv_dict.specs.Flags.{tvr_bytes}
 use Rattle.emv_dict.specs.Settings.{IsPurchase}
 use Rattle.emv_dict.specs.declared.purchase.AidRow.{AidRow}
 use Rattle.online_step.proofs.Digits.{code_digits, date_digits}
-use Rattle.online_step.specs.TerminalData.{object, HasTerminalData}
+use Rattle.online_step.specs.TerminalData.{HasTerminalData}
 use Rattle.kernel.specs.Marks.{MomentData}
 use Rattle.kernel.specs.Terminal.{Deal, if_there, lasting_objects, terminal_objects}
 

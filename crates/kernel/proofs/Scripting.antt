@@ -1,5 +1,5 @@
 -- How scripts follow one another.
-use Rattle.std.proofs.Common.{◌≡◌, refl, sym, ap, ◌∙◌, ◌+◌, ◌-◌, ◌<◌, ◌≤◌, ◌==◌, ℕ, zero, suc, Bool, true, false, List, [], ◌∷◌, ◌++◌, length, drop, map, filter, Option, Some, None, option_map, Result, Ok, Err, Bor, slice_get, arith}
+use Rattle.std.proofs.Common.{◌≡◌, refl, sym, ap, ◌∙◌, ◌+◌, ◌<◌, ◌≤◌, ◌==◌, ℕ, zero, suc, Bool, true, false, List, [], ◌∷◌, ◌++◌, length, drop, map, filter, Option, Some, None, option_map, Result, Ok, Err, Bor, slice_get, arith}
 use Rattle.std.specs.Prelude.{IfSome, cond, not}
 use Rattle.std.proofs.lemmas.List.{length-map}
 use Rattle.std.proofs.lemmas.List.Filters.{length-filter_both}
@@ -8,7 +8,7 @@ use Rattle.ber_tlv.specs.Item.{ItemData}
 use Rattle.ber_tlv.specs.Left.{items_of}
 use Rattle.ber_tlv.specs.declared.item.TlvFault.{TlvFault}
 use Rattle.ber_tlv.proofs.WalkBounds.{ItemsShort, item_values_short}
-use Rattle.emv_dict.specs.Progress.{Progress, Wants, Stopped, Done, Leads}
+use Rattle.emv_dict.specs.Progress.{Progress, Wants, Done}
 use Rattle.emv_dict.specs.declared.ending.Ending.{Ending}
 use Rattle.emv_dict.specs.declared.ending.Kind.{Kind}
 use Rattle.emv_dict.specs.declared.ending.Step.{Step}
@@ -20,7 +20,7 @@ use Rattle.script_run.specs.Leading.{RunNextLeads}
 use Rattle.script_run.specs.Ran.{template_ran}
 use Rattle.script_run.specs.declared.running.RunNext.{RunNext}
 use Rattle.script_run.specs.declared.running.RunNext.TheVariants as run
-use Rattle.kernel.specs.Course.{Standing, Rest, over, card_step, cut_off}
+use Rattle.kernel.specs.Course.{Standing, Rest, card_step, cut_off}
 use Rattle.kernel.specs.Dialogue.{Trade, scripts_before, scripts_behind, left_script, second, kind_for}
 use Rattle.kernel.specs.Marks.{Mark, HasRunBefore, HasRunBehind, moment, latest, card_of}
 use Rattle.kernel.specs.Reply.{Reply, CardSaid}

@@ -1,26 +1,22 @@
 -- What a kernel shows of the dialogue.
-use Rattle.std.proofs.Common.{◌≡◌, refl, sym, ap, ◌∙◌, ℕ, false, true, List, [], ◌∷◌, ◌++◌, drop, Option, Some, None}
+use Rattle.std.proofs.Common.{◌≡◌, refl, sym, ap, ◌∙◌, false, true, List, [], ◌++◌, drop, None}
 use Rattle.std.proofs.lemmas.List.{append-nil}
 use Rattle.app_select.specs.Leading.{rest_with}
 use Rattle.cvm_list.specs.Waiting.{rest_of as verifying_rest}
-use Rattle.emv_dict.specs.declared.ending.Ending.{Ending}
 use Rattle.emv_dict.specs.declared.ending.Step.TheVariants as step
 use Rattle.emv_dict.specs.declared.purchase.Logged.{Logged}
 use Rattle.env_map.specs.Entries.{Entries}
-use Rattle.object_lists.specs.CardRead.{ReadCard}
 use Rattle.read_records.specs.DataRead.{reading}
 use Rattle.read_records.specs.Options.{initiated}
 use Rattle.risk_mgmt.specs.Asked.{rest_of as judging_rest}
 use Rattle.script_run.specs.Ran.{rest_of as running_rest}
 use Rattle.kernel.specs.Course.{Standing, stands, cut_off, host_step}
 use Rattle.kernel.specs.Dialogue.{Trade, dialogue, left_script}
-use Rattle.kernel.specs.Kernel.{KernelData, KernelFits, StageFits, KernelStands, StageGoes, TradingGoes, deal_in, next_of, stage_next, opening_next, trading_next, told_next, told_bytes, deed_next, deed_bytes, bytes_by}
+use Rattle.kernel.specs.Kernel.{KernelData, KernelFits, StageFits, KernelStands, StageGoes, deal_in, next_of, stage_next, opening_next, trading_next, told_next, told_bytes, deed_next, deed_bytes, bytes_by}
 use Rattle.kernel.specs.Marks.{Mark, latest, card_of}
 use Rattle.kernel.specs.Reply.{Reply, Deed, ToCard, ToHost, Over}
 use Rattle.kernel.specs.Scripts.{templates}
 use Rattle.kernel.specs.Stages.{OpeningStands, TradingStands, cut_of, generating, authenticating}
-use Rattle.kernel.specs.declared.kernel.Next.{Next}
-use Rattle.kernel.specs.declared.kernel.Next.TheVariants as next
 use Rattle.kernel.specs.declared.stage.Opening.{Opening}
 use Rattle.kernel.specs.declared.stage.Opening.TheVariants as opening
 use Rattle.kernel.specs.declared.stage.Stage.{Stage}

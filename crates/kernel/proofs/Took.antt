@@ -1,19 +1,16 @@
 -- A kernel that has taken one reply more.
-use Rattle.std.proofs.Common.{◌≡◌, refl, sym, ap, ◌∙◌, ◌+◌, ◌-◌, ◌^◌, min, ℕ, List, [], ◌∷◌, ◌++◌, length, arith}
+use Rattle.std.proofs.Common.{◌≡◌, ap, ◌∙◌, ◌+◌, ◌-◌, ◌^◌, min, ℕ, List, [], ◌∷◌, ◌++◌, length, arith}
 use Rattle.std.proofs.lemmas.List.{append_assoc, length-append}
 use Rattle.emv_dict.specs.declared.purchase.Logged.{Logged}
 use Rattle.env_map.specs.Entries.{Entries}
 use Rattle.object_lists.specs.CardRead.{ReadCard}
 use Rattle.std.specs.declared.option.Option.{Option}
 use Rattle.kernel.specs.Course.{Standing}
-use Rattle.kernel.specs.Dialogue.{Trade, dialogue}
-use Rattle.kernel.specs.Kernel.{KernelData, KernelStands, StageGoes, TradingGoes, deal_in}
+use Rattle.kernel.specs.Dialogue.{dialogue}
+use Rattle.kernel.specs.Kernel.{KernelData, KernelStands, StageGoes, deal_in}
 use Rattle.kernel.specs.Marks.{Mark}
 use Rattle.kernel.specs.Reply.{Reply}
-use Rattle.kernel.specs.Stages.{OpeningStands, TradingStands}
-use Rattle.kernel.specs.Table.{deal_of}
 use Rattle.kernel.specs.Terminal.{Deal}
-use Rattle.kernel.specs.declared.stage.Opening.{Opening}
 use Rattle.kernel.specs.declared.stage.Stage.{Stage}
 use Rattle.kernel.specs.declared.stage.Stage.TheVariants as stage
 use Rattle.kernel.specs.declared.table.Table.{Table}

@@ -1,7 +1,7 @@
 -- The whole dialogue of a terminal, its last step first: selection, initiation, reading, restrictions, verification,
 -- risk management, action analysis, the first GENERATE AC, the issuer, its scripts and the second one (EMV 4.3 Book 3
 -- section 8 and Book 4 section 6).
-use Rattle.std.specs.Prelude.{ℕ, Bool, true, false, ◌==◌, ◌&&◌, ◌||◌, if◌then◌else◌, List, [], ◌∷◌, map, filter, bit_and, slice_index, replicate, Option, Some, None, Result, Ok, Err}
+use Rattle.std.specs.Prelude.{ℕ, Bool, true, false, ◌==◌, ◌||◌, if◌then◌else◌, List, [], ◌∷◌, bit_and, slice_index, Option, Some, None, Result, Ok, Err}
 use Rattle.std.specs.Str.{bytes_eq}
 use Rattle.action_analysis.specs.Analysed.{codes_of, wanted, unable}
 use Rattle.app_select.specs.Candidates.{CandidateData}
@@ -10,7 +10,7 @@ use Rattle.auth_message.specs.Reply.{ReplyData, reply_of}
 use Rattle.auth_message.specs.declared.fault.MessageFault.{MessageFault}
 use Rattle.cvm_list.specs.Begun.{cvm}
 use Rattle.env_map.specs.Entries.{Entries}
-use Rattle.emv_dict.specs.Progress.{Progress, Wants, Stopped, Done}
+use Rattle.emv_dict.specs.Progress.{Progress}
 use Rattle.emv_dict.specs.declared.ending.Cause.TheVariants.{NoCandidate}
 use Rattle.emv_dict.specs.declared.ending.Ending.{Ending}
 use Rattle.emv_dict.specs.declared.ending.Ending.TheVariants.{Approved, Declined, Terminated}
@@ -32,7 +32,7 @@ use Rattle.script_run.specs.Ran.{template_ran, no_script}
 use Rattle.kernel.specs.Course.{Standing, Rest, stands, over, by_progress, card_step, cut_off, host_step}
 use Rattle.kernel.specs.Marks as mark
 use Rattle.kernel.specs.Marks.{Mark, moment}
-use Rattle.kernel.specs.Reply.{Reply, ToCard, Over}
+use Rattle.kernel.specs.Reply.{Reply, Over}
 use Rattle.kernel.specs.Scripts.{templates, kept}
 use Rattle.kernel.specs.Terminal.{Deal, terminal_objects}
 

@@ -1,6 +1,6 @@
 -- What a dialogue ends with (EMV 4.3 Book 4 section 6): the outcome, what the terminal holds then, and what is to be
 -- captured.
-use Rattle.std.specs.Prelude.{ℕ, Bool, true, false, List, [], ◌∷◌, Option, Some, None, option_map, unwrap_or, Result, Ok, Err, is_some, if◌then◌else◌}
+use Rattle.std.specs.Prelude.{ℕ, Bool, false, List, [], ◌∷◌, Option, Some, None, option_map, unwrap_or, Result, Ok, Err, is_some, if◌then◌else◌}
 use Rattle.emv_dict.specs.declared.ending.Ending.{Ending}
 use Rattle.emv_dict.specs.declared.ending.Ending.TheVariants.{Approved, Declined, Terminated, CutOff}
 use Rattle.env_map.specs.Entries.{value_of}

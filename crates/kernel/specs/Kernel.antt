@@ -1,7 +1,6 @@
 -- A kernel and the replies that it has taken.
-use Rattle.std.specs.Prelude.{◌≡◌, ⊤, ℕ, ◌+◌, ◌-◌, ◌^◌, min, List, [], ◌++◌, length, Option, Some, None, IsSome}
+use Rattle.std.specs.Prelude.{◌≡◌, ℕ, ◌-◌, ◌^◌, min, List, [], ◌++◌, length, Option, Some, None, IsSome}
 use Rattle.emv_dict.specs.Settings.{IsAidRow}
-use Rattle.emv_dict.specs.declared.ending.Ending.{Ending}
 use Rattle.emv_dict.specs.declared.purchase.Logged.{Logged}
 use Rattle.env_map.specs.Entries.{Entries}
 use Rattle.object_lists.specs.CardRead.{ReadCard}

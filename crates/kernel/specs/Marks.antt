@@ -1,6 +1,6 @@
 -- What the finished steps of a dialogue leave: which bits stand at a moment, and the other values that the terminal
 -- then holds (EMV 4.3 Book 3 section 10 and Annexes C5 and C6).
-use Rattle.std.specs.Prelude.{ℕ, Bool, true, false, ◌==◌, not, if◌then◌else◌, List, [], ◌∷◌, ◌++◌, length, bit_or, Option, Some, None}
+use Rattle.std.specs.Prelude.{ℕ, Bool, false, ◌==◌, not, if◌then◌else◌, List, [], ◌∷◌, ◌++◌, length, bit_or, Option, Some, None}
 use Rattle.std.specs.Str.{bytes_eq}
 use Rattle.auth_message.specs.Reply.{ReplyData}
 use Rattle.cvm_list.specs.declared.verified.Verified.{Verified}

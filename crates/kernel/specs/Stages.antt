@@ -1,10 +1,8 @@
 -- What is left of a dialogue at each of its stages.
-use Rattle.std.specs.Prelude.{◌≡◌, ⊤, ℕ, ◌+◌, ◌-◌, ◌≤◌, Bool, true, false, if◌then◌else◌, List, [], ◌∷◌, length, drop, Option, Some, None}
-use Rattle.app_select.specs.Candidates.{CandidateData}
+use Rattle.std.specs.Prelude.{◌≡◌, ⊤, ℕ, ◌+◌, ◌-◌, ◌≤◌, Bool, true, false, if◌then◌else◌, List, [], ◌∷◌, length, drop, Some, None}
 use Rattle.app_select.specs.Leading.{rest_with}
 use Rattle.cvm_list.specs.Waiting.{rest_of as verifying_rest}
-use Rattle.emv_dict.specs.Progress.{Progress, Wants, Stopped, Done}
-use Rattle.emv_dict.specs.declared.ending.Ending.{Ending}
+use Rattle.emv_dict.specs.Progress.{Progress, Wants}
 use Rattle.emv_dict.specs.declared.ending.Kind.{Kind}
 use Rattle.emv_dict.specs.declared.ending.Step.{Step}
 use Rattle.emv_dict.specs.declared.ending.Step.TheVariants as step
@@ -26,7 +24,6 @@ use Rattle.kernel.specs.Reply.{Reply}
 use Rattle.kernel.specs.Scripts.{templates}
 use Rattle.kernel.specs.Table.{deal_of}
 use Rattle.kernel.specs.declared.table.Table.{Table}
-use Rattle.kernel.specs.Terminal.{Deal}
 use Rattle.kernel.specs.declared.stage.AtSelect.{AtSelect}
 use Rattle.kernel.specs.declared.stage.Opening.{Opening}
 use Rattle.kernel.specs.declared.stage.Opening.TheVariants as opening

@@ -36,8 +36,8 @@ pub places_more : (groups : List Group) (group : Group) → group.last < 256 →
 places_more groups group small few =
     let count : length (places_in group) ≡ suc (group.last - group.first) = places_count (group.file / 8) group.first (suc (group.last - group.first)) in
     let front : length (places_of (groups ++ group ∷ [])) ≡ length (places_of groups) + length (places_in group) =
-        ap (λ (places : List RecordPlace). length places) (flat_map-append places_in groups (group ∷ []))
-        ∙ length-append (places_of groups) (places_in group ++ [])
-        ∙ ap (λ (n : ℕ). length (places_of groups) + n) (ap (λ (places : List RecordPlace). length places) (append-nil (places_in group))) in
+    ap (λ (places : List RecordPlace). length places) (flat_map-append places_in groups (group ∷ []))
+    ∙ length-append (places_of groups) (places_in group ++ [])
+    ∙ ap (λ (n : ℕ). length (places_of groups) + n) (ap (λ (places : List RecordPlace). length places) (append-nil (places_in group))) in
     let longer : length (groups ++ group ∷ []) ≡ length groups + 1 = length-append groups (group ∷ []) in
     omega arith

@@ -1,9 +1,9 @@
-use Rattle.std.proofs.Common.{arith, sym, ap, ◌∙◌, ◌≡◌, ◌≤◌, ◌*◌, ℕ, pos, ◌-ℤ◌, ◌+ℤ◌, map, refl, length}
+use Rattle.std.proofs.Common.{arith, ap, ◌∙◌, ◌≡◌, ◌≤◌, ◌*◌, map, refl, length}
 use Rattle.std.proofs.lemmas.Int.{ints}
 use Rattle.std.proofs.lemmas.List.Elements.{recursion_from_All}
 use Rattle.emv_dict.specs.Settings.{most_amount}
 use Rattle.host_ledger.specs.Account.{opened}
-use Rattle.host_ledger.specs.Entries.{entry_at, taken, taken_at, taken_from}
+use Rattle.host_ledger.specs.Entries.{entry_at, taken_at, taken_from}
 use Rattle.host_ledger.proofs.Balances.{opened_same, balanced_again}
 use Rattle.host_ledger.proofs.Sums.{taken_small, found_small, sum_small}
 use Rattle.host_ledger.proofs.keep.keep.Goals as goal

@@ -29,7 +29,7 @@ run_behind-returns-in-None-clause-stands t c = λ trade marks log rest begins.
 pub run_behind-returns-in-Some-clause-few : goal.run_behind-returns-in-Some-clause-few
 run_behind-returns-in-Some-clause-few t c =
     let here : bytes_in (drop c.args.index (templates 0x72 c.args.table.now.reply.scripts)) ≡ 1 + length c.in-Some.template.now + bytes_in (drop (c.args.index + 1) (templates 0x72 c.args.table.now.reply.scripts)) =
-        ap (λ (all : List (List ℕ)). bytes_in all) (drop_some _ c.args.index c.in-Some.template.now (sym c.in-Some.ensures.template)) in
+    ap (λ (all : List (List ℕ)). bytes_in all) (drop_some _ c.args.index c.in-Some.template.now (sym c.in-Some.ensures.template)) in
     let few = c.begin-next.ensures.few in
     let left = c.behind_next.ensures.few in
     omega arith

@@ -1,5 +1,4 @@
 use Rattle.std.proofs.Common.{List, ℕ, ap, ◌∙◌, slice_get}
-use Rattle.auth_message.specs.Reply.{ReplyData}
 use Rattle.kernel.specs.Scripts.{templates}
 use Rattle.kernel.proofs.Scripting.{template_short, template_few}
 use Rattle.kernel.proofs.issuer_scripts.template_of.Goals as goal

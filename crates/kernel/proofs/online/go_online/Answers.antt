@@ -1,5 +1,4 @@
-use Rattle.std.proofs.Common.{◌≡◌, refl, sym, ap, ◌∙◌, Some}
-use Rattle.online_step.specs.Ac.{AcData}
+use Rattle.std.proofs.Common.{refl, sym, ap, ◌∙◌}
 use Rattle.kernel.specs.Marks.{MomentData}
 use Rattle.kernel.specs.Trades.{trade_of}
 use Rattle.kernel.proofs.Deciding.{offline_only, asked_online}

@@ -1,4 +1,4 @@
-use Rattle.std.proofs.Common.{refl, sym, ◌∷◌, false}
+use Rattle.std.proofs.Common.{refl, ◌∷◌, false}
 use Rattle.emv_dict.specs.declared.ending.Step.TheVariants as step
 use Rattle.kernel.specs.Dialogue.{first_answered}
 use Rattle.kernel.specs.Marks.{HasFirst}

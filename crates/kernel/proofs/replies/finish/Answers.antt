@@ -1,4 +1,4 @@
-use Rattle.std.proofs.Common.{◌≡◌, refl, sym, ◌∙◌, ◌∷◌, [], List, ℕ, Bool, ap}
+use Rattle.std.proofs.Common.{refl, ◌∷◌, [], Bool, ap}
 use Rattle.kernel.specs.Marks.{HasSecond}
 use Rattle.kernel.specs.Scripts.{templates}
 use Rattle.kernel.specs.Stages.{behind_if}

@@ -1,5 +1,4 @@
 use Rattle.std.proofs.Common.{◌≡◌, rules, sym, ◌∙◌}
-use Rattle.kernel.specs.Scripts.{AreFew}
 use Rattle.kernel.proofs.Keeping.{none_few, few_scripts, few_from}
 use Rattle.kernel.proofs.replies.keep.Goals as goal
 

@@ -1,6 +1,6 @@
-use Rattle.std.proofs.Common.{rules, ◌≡◌, refl, sym, ap, ◌∙◌, ◌∷◌, List}
-use Rattle.kernel.specs.Dialogue.{Trade, analysis, kind_wanted}
-use Rattle.kernel.specs.Marks.{HasAnalysed, moment}
+use Rattle.std.proofs.Common.{◌≡◌, refl, ◌∙◌, ◌∷◌}
+use Rattle.kernel.specs.Dialogue.{Trade, kind_wanted}
+use Rattle.kernel.specs.Marks.{HasAnalysed}
 use Rattle.kernel.specs.Table.{deal_of}
 use Rattle.kernel.proofs.Analysis.{analysed}
 use Rattle.kernel.proofs.trading.analyse.Goals as goal

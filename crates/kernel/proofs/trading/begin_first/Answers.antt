@@ -1,4 +1,4 @@
-use Rattle.std.proofs.Common.{rules, ◌≡◌, refl, sym, ap, ◌∙◌, ◌∷◌, List}
+use Rattle.std.proofs.Common.{refl, sym}
 use Rattle.kernel.specs.Dialogue.{Trade}
 use Rattle.kernel.specs.Table.{deal_of}
 use Rattle.kernel.proofs.Analysis.{first_unfilled}

@@ -1,6 +1,4 @@
-use Rattle.std.proofs.Common.{rules, ◌≡◌, refl, ◌∷◌, List}
 use Rattle.risk_mgmt.specs.Risky.{risky}
-use Rattle.kernel.specs.Table.{deal_of}
 use Rattle.kernel.specs.Dialogue.{risk}
 use Rattle.kernel.proofs.trading.begin_risk.Goals as goal
 

@@ -1,4 +1,4 @@
-use Rattle.std.proofs.Common.{rules, ◌≡◌, refl, [], ◌∷◌, List}
+use Rattle.std.proofs.Common.{[], ◌∷◌}
 use Rattle.kernel.specs.Dialogue.{Trade}
 use Rattle.kernel.specs.Marks.{HasRead, HasRestricted}
 use Rattle.kernel.specs.Table.{deal_of}

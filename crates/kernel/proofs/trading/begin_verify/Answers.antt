@@ -1,4 +1,3 @@
-use Rattle.std.proofs.Common.{rules, ◌≡◌, refl, ◌∷◌, List}
 use Rattle.cvm_list.specs.Begun.{cvm}
 use Rattle.kernel.specs.Dialogue.{verification}
 use Rattle.kernel.proofs.trading.begin_verify.Goals as goal

@@ -1,4 +1,4 @@
-use Rattle.std.proofs.Common.{rules, ◌≡◌, refl, [], ◌∷◌, List}
+use Rattle.std.proofs.Common.{refl, [], ◌∷◌}
 use Rattle.risk_mgmt.specs.Asked.{rest_of}
 use Rattle.emv_dict.specs.declared.ending.Step.TheVariants as step
 use Rattle.kernel.specs.Dialogue.{Trade, analysis}

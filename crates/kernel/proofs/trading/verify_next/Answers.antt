@@ -1,7 +1,7 @@
-use Rattle.std.proofs.Common.{rules, ◌≡◌, refl, sym, ap, ◌∙◌, ◌≤◌, ◌+◌, ℕ, List, [], ◌∷◌, length}
+use Rattle.std.proofs.Common.{refl, ◌∷◌}
 use Rattle.emv_dict.specs.declared.ending.Step.TheVariants as step
 use Rattle.kernel.specs.Dialogue.{Trade, risk}
-use Rattle.kernel.specs.Marks.{Mark, HasVerified}
+use Rattle.kernel.specs.Marks.{HasVerified}
 use Rattle.kernel.specs.Table.{deal_of}
 use Rattle.kernel.proofs.Following.{trading_stopped, begins_next}
 use Rattle.kernel.proofs.trading.verify_next.Goals as goal

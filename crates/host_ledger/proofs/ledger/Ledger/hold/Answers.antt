@@ -1,12 +1,9 @@
-use Rattle.std.proofs.Common.{rules, ◌≡◌, None, Some, true, false, refl, sym, ap, ◌∙◌, arith, pos, to_z, of_z}
+use Rattle.std.proofs.Common.{rules, ◌≡◌, None, Some, true, false, refl, sym, ap, arith, pos, to_z, of_z}
 use Rattle.std.specs.Prelude.{int_lt}
 use mir.Syntax.{w128}
 use mir.Val.{SFits}
 use Rattle.std.proofs.lemmas.Int.{ints}
-use Rattle.host_ledger.specs.Refusals.{hold_refusal}
 use Rattle.host_ledger.specs.declared.fault.LedgerFault.TheVariants.{NoFunds}
-use Rattle.host_ledger.specs.Accounts.{LedgerData}
-use Rattle.host_ledger.specs.Entries.{with_entry}
 use Rattle.host_ledger.proofs.Balances.{from_account, from_entry, keeps, answers_memory}
 use Rattle.host_ledger.proofs.ledger.Ledger.hold.Goals as goal
 

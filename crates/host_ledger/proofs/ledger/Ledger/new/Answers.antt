@@ -1,9 +1,9 @@
-use Rattle.std.proofs.Common.{◌≡◌, ◌≤◌, is_some, map, length, get_or, subst, List, ℕ, refl, sym, ap, ◌∙◌, arith, Some, None, rules}
+use Rattle.std.proofs.Common.{◌≡◌, ◌≤◌, is_some, length, get_or, subst, List, ℕ, refl, sym, ap, ◌∙◌, arith, Some, None}
 use Rattle.std.specs.Prelude.{slice_get}
 use Rattle.std.proofs.lemmas.Int.{ints}
 use Rattle.std.proofs.lemmas.Option.{slice_get_read, get_or_from_slice_get}
 use Rattle.emv_dict.specs.Settings.{most_amount}
-use Rattle.host_ledger.specs.Account.{account_at, with_account, opened}
+use Rattle.host_ledger.specs.Account.{account_at}
 use Rattle.host_ledger.proofs.Opening.{none_of, is_repeat, distinct_more, seen_more, balanced_more}
 use Rattle.host_ledger.proofs.ledger.Ledger.new.Goals as goal
 

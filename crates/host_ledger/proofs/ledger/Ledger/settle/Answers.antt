@@ -1,7 +1,6 @@
-use Rattle.std.proofs.Common.{rules, ◌≡◌, None, Some, true, false, refl, sym, ap, ◌∙◌, arith}
+use Rattle.std.proofs.Common.{None, Some, refl, sym, ap}
 use Rattle.std.specs.Prelude.{option_map}
 use Rattle.host_ledger.specs.declared.fault.LedgerFault.TheVariants.{AlreadyBooked}
-use Rattle.host_ledger.specs.Refusals.{settle_refusal, settled}
 use Rattle.host_ledger.proofs.Balances.{from_account, from_entry, keeps, answers_memory}
 use Rattle.host_ledger.proofs.ledger.Ledger.settle.Goals as goal
 

@@ -1,4 +1,4 @@
-use Rattle.std.proofs.Common.{Some, refl, sym, ap, ◌∙◌}
+use Rattle.std.proofs.Common.{Some, refl, ap, ◌∙◌}
 use Rattle.std.specs.Prelude.{option_map}
 use Rattle.host_ledger.specs.Entries.{entry_at}
 use Rattle.host_ledger.proofs.Tables.{as_entry, entry_found}

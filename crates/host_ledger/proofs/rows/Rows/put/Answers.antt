@@ -1,4 +1,4 @@
-use Rattle.std.proofs.Common.{None, map, refl, sym, ap, ◌∙◌}
+use Rattle.std.proofs.Common.{map, refl, sym, ap, ◌∙◌}
 use Rattle.std.specs.Prelude.{option_map}
 use Rattle.host_ledger.specs.Entries.{entry_at, with_entry}
 use Rattle.host_ledger.specs.declared.rows.Row.{Row}

@@ -1,4 +1,4 @@
-use Rattle.std.proofs.Common.{rules, ◌≡◌, refl, sym, ap, ◌∙◌, List}
+use Rattle.std.proofs.Common.{◌∙◌}
 use Rattle.kernel.proofs.Showing.{bytes_are_told}
 use Rattle.kernel.proofs.kernel.Kernel.bytes.Goals as goal
 

@@ -1,4 +1,4 @@
-use Rattle.std.proofs.Common.{rules, ◌≡◌, refl, sym, ap, ◌∙◌, List}
+use Rattle.std.proofs.Common.{◌∙◌}
 use Rattle.kernel.proofs.Showing.{card_is_told}
 use Rattle.kernel.proofs.kernel.Kernel.data.Goals as goal
 

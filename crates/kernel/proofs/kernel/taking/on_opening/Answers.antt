@@ -1,4 +1,4 @@
-use Rattle.std.proofs.Common.{rules, ◌≡◌, refl, sym, ap, ◌∙◌, ◌∷◌, List}
+use Rattle.std.proofs.Common.{refl, ◌∙◌}
 use Rattle.kernel.proofs.kernel.taking.on_opening.Goals as goal
 
 pub returns-in-On-clause-stands : goal.returns-in-On-clause-stands

@@ -1,5 +1,3 @@
-use Rattle.std.proofs.Common.{arith}
-use Rattle.kernel.proofs.Falling.{opening_waits}
 use Rattle.kernel.proofs.kernel.taking.stage_gone.Goals as goal
 
 pub returns-in-Opening-clause-stands : goal.returns-in-Opening-clause-stands

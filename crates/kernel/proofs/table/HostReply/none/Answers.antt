@@ -1,4 +1,4 @@
-use Rattle.std.proofs.Common.{rules, ◌≡◌, refl, ◌≤◌, arith, [], List, length}
+use Rattle.std.proofs.Common.{refl, arith, []}
 use Rattle.ber_tlv.specs.Left.{items_behind, items_from}
 use Rattle.kernel.proofs.table.HostReply.none.Goals as goal
 

@@ -1,0 +1,10 @@
+//! The histories of an issuer's host: laws over every list of messages. Histories that are tried stand in
+//! the tests.
+#![tactic(auto)]
+
+pub mod law;
+
+pub use law::{balances_add_up, transactions_are_booked_once};
+
+#[cfg(test)]
+mod tests;

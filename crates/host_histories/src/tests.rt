@@ -1,0 +1,77 @@
+mod fixture;
+mod table;
+
+use auth_message::Message;
+use fixture::{account_number, accounts_of, bytes_of, issuer_keys};
+use issuer_host::Host;
+use std::alloc::Global;
+use std::process::Abort;
+use std::test::Fail;
+use table::{HISTORIES, History, Turn};
+
+/// The message of a turn and its reply.
+fn said(turns: &[Turn], turn: &Turn) -> Option<(&'static str, &'static str)> {
+    match turn {
+        Turn::Says(message, reply) => Some((*message, *reply)),
+        Turn::Again(place) => match turns.get(*place) {
+            Some(Turn::Says(message, reply)) => Some((*message, *reply)),
+            _ => None,
+        },
+    }
+}
+
+/// Lets the host answer a message, both as hexadecimal texts, and compares the reply.
+fn answer(
+    rt: &impl Abort,
+    alloc: Global,
+    host: &mut Host,
+    message: &str,
+    reply: &str,
+) -> Result<(), Fail> {
+    let bytes = bytes_of(alloc, message)?;
+    let wanted = bytes_of(alloc, reply)?;
+    assert!(rt; bytes.len() <= 2048);
+    let mut out = Message::new();
+    host.answer(&bytes, &mut out)?;
+    assert_eq!(rt; out.as_slice(), wanted.as_slice(), "to {message}");
+    Ok(())
+}
+
+/// Lets the host answer the messages of a history.
+fn answer_all(rt: &impl Abort, alloc: Global, host: &mut Host, turns: &[Turn]) -> Result<(), Fail> {
+    for turn in turns {
+        let (message, reply) = said(turns, turn).ok_or("a turn")?;
+        answer(rt, alloc, host, message, reply)?;
+    }
+    Ok(())
+}
+
+/// Compares the balances that are left.
+fn compare(rt: &impl Abort, host: &Host, balances: &[(&str, i128)]) {
+    for (pan, balance) in balances {
+        assert_eq!(rt;
+            host.balance(&account_number(rt, pan)),
+            Some(*balance),
+            "of {pan}"
+        );
+    }
+}
+
+/// A host that has had no message, with these accounts, gets a history.
+fn hold(rt: &impl Abort, alloc: Global, history: &History) -> Result<(), Fail> {
+    let accounts = accounts_of(rt, alloc, history.accounts)?;
+    let mut host = Host::new(alloc, issuer_keys(), &accounts)
+        .ok()
+        .ok_or("a host")?;
+    answer_all(rt, alloc, &mut host, history.turns)?;
+    compare(rt, &host, history.balances);
+    Ok(())
+}
+
+#[test]
+fn replies_are_those_of_independent_implementations(rt: HostRuntime) -> Result<(), Fail> {
+    for history in HISTORIES {
+        hold(&rt, rt.alloc(), &history)?;
+    }
+    Ok(())
+}

@@ -1,0 +1,83 @@
+-- What each event keeps of a card holds of every card of every run.
+use Rattle.std.proofs.Common.{◌≡◌, ◌⊎◌, ℕ, Bool, true, false, List, [], ◌∷◌, ◌++◌, length, slice_get, Option, Some, None, refl, inl}
+use Rattle.card_app.specs.Answering.{card_answer}
+use Rattle.card_files.specs.Views.{AppData}
+use Rattle.card_pages.specs.Cuts.{Cut, cut_of}
+use Rattle.card_pages.specs.Pages.{found_of}
+use Rattle.emv_ports.specs.Cut.{is_named}
+use Rattle.emv_ports.specs.declared.tear.Tear.{Tear}
+use Rattle.kernel.specs.Dialogue.{dialogue}
+use Rattle.kernel.specs.Ended.{EndData}
+use Rattle.kernel.specs.Reply.{Reply, CardSaid, CardGone, Deed, ToCard, ToHost, Over}
+use Rattle.report_text.specs.declared.line.Line.{Line}
+use Rattle.txn_replay.specs.Changes.{powered, exchanged, torn, freed}
+use Rattle.txn_replay.specs.Lines.{torn_lines, power_torn_line}
+use Rattle.txn_replay.specs.Part.{Part, settled_by, cut_ends, answered, asked, begun, begun_by, piece_by, piece}
+use Rattle.txn_replay.specs.Payment.{Payment, deal_for, end_at}
+use Rattle.txn_replay.specs.World.{Holder, CardRow, new_card}
+
+-- a purchase has the card, or nothing is decided
+abbrev pub Live : List AppData → CardRow → List ℕ → Type 0
+Live image card command = ((h : Holder) × (card.holder ≡ Some h)) ⊎ ((card_answer image card.kept card.session command).new ≡ [])
+
+-- a new card has it, and each event keeps it
+pub record Closed (P : List AppData → CardRow → Type 0) : Type 0 where
+  pub first : (image : List AppData) → P image new_card
+  pub powers : (image : List AppData) (card : CardRow) (with_it : Bool) (holder : Option Holder) → P image card
+      → P image (powered card (found_of card.kept card.pending with_it) holder)
+  pub answers : (image : List AppData) (card : CardRow) (command : List ℕ) → Live image card command → P image card
+      → P image (exchanged image card command (card_answer image card.kept card.session command))
+  pub cuts : (image : List AppData) (card : CardRow) (tear : Option Tear) (cut : Cut) (h : Holder) → card.holder ≡ Some h → P image card
+      → P image (freed (torn card tear cut))
+  pub frees : (image : List AppData) (card : CardRow) → P image card → P image (freed card)
+
+module _ (P : List AppData → CardRow → Type 0) (closed : Closed P) (p : Payment) where
+  settled_keeps : (replies : List Reply) (part : Part) (lines : List Line) (e : Option EndData) → P p.card.image part.card
+      → P p.card.image (settled_by p replies part lines e).part.card
+  settled_keeps replies part lines None holds = holds
+  settled_keeps replies part lines (Some end) holds = closed.frees p.card.image part.card holds
+
+  cut_keeps : (replies : List Reply) (part cut : Part) (lines : List Line) (e : Option EndData) → P p.card.image part.card
+      → P p.card.image (freed cut.card) → P p.card.image (cut_ends p replies part cut lines e).part.card
+  cut_keeps replies part cut lines None holds freed_so = holds
+  cut_keeps replies part cut lines (Some end) holds freed_so = freed_so
+
+  answer_keeps : (replies : List Reply) (command : List ℕ) (part : Part) (cut : Option Cut) (h : Holder) → part.card.holder ≡ Some h
+      → P p.card.image part.card
+      → P p.card.image (answered p replies command part (card_answer p.card.image part.card.kept part.card.session command) cut).part.card
+  answer_keeps replies command part None h has holds =
+      let said = card_answer p.card.image part.card.kept part.card.session command in
+      let told : List Reply = replies ++ CardSaid said.answer part.lane.log ∷ [] in
+      settled_keeps told (record part { card = exchanged p.card.image part.card command said }) _ (end_at p told)
+      (closed.answers p.card.image part.card command (inl (h, has)) holds)
+  answer_keeps replies command part (Some cut) h has holds =
+      cut_keeps (replies ++ CardGone ∷ []) part (record part { card = torn part.card p.planned.tear cut }) (torn_lines p.lane command)
+      (end_at p (replies ++ CardGone ∷ []))
+      holds (closed.cuts p.card.image part.card p.planned.tear cut h has holds)
+
+  ask_keeps : (replies : List Reply) (part : Part) (deed : Deed) (h : Holder) → part.card.holder ≡ Some h → P p.card.image part.card
+      → P p.card.image (asked p replies part deed).part.card
+  ask_keeps replies part (ToCard command) h has holds =
+      answer_keeps replies command part
+      (cut_of p.planned.tear part.card.made (card_answer p.card.image part.card.kept part.card.session command).new) h has holds
+  ask_keeps replies part (ToHost message) h has holds = settled_keeps _ (record part { messages = _ }) _ _ holds
+  ask_keeps replies part (Over ending) h has holds = holds
+
+  begin_keeps : (part : Part) (choice torn_there : Bool) → P p.card.image part.card → P p.card.image (begun_by p part choice torn_there).part.card
+  begin_keeps part choice true holds = cut_keeps (CardGone ∷ []) part part (power_torn_line p.lane p.card ∷ []) (end_at p (CardGone ∷ [])) holds (closed.frees p.card.image part.card holds)
+  begin_keeps part choice false holds =
+      let has : Option Holder = Some (record { lane = p.lane; number = length part.lane.ended }) in
+      settled_keeps [] (record part { card = powered part.card (found_of part.card.kept part.card.pending choice) has }) _ (end_at p [])
+      (closed.powers p.card.image part.card choice has holds)
+
+  pub piece_keeps : (part : Part) (choice : Bool) (h : Holder) → ((replies : List Reply) → part.lane.running ≡ Some replies → part.card.holder ≡ Some h)
+      → P p.card.image part.card → P p.card.image (piece p part choice).part.card
+  piece_keeps part choice h has holds = by_lane part.lane.running refl
+    where
+      begins : (o : Option Holder) → P p.card.image (begun p part choice o).part.card
+      begins None = begin_keeps part choice (is_named p.planned.tear 0) holds
+      begins (Some other) = holds
+
+      by_lane : (o : Option (List Reply)) → part.lane.running ≡ o → P p.card.image (piece_by p part choice o).part.card
+      by_lane None is = begins part.card.holder
+      by_lane (Some replies) is = ask_keeps replies part (dialogue (deal_for p) replies).deed h (has replies is) holds

@@ -1,0 +1,43 @@
+-- The laws over every run.
+use Rattle.std.proofs.Common.{◌≡◌, ℕ, ◌<◌, Bool, List, [], length, slice_get, Some, refl, sym, ap, ◌∙◌, subst, arith}
+use Rattle.std.proofs.lemmas.Option.{slice_get_within, get_or_from_slice_get}
+use Rattle.card_files.specs.Views.{AppData}
+use Rattle.issuer_host.proofs.Once.{booked_once}
+use Rattle.report_text.specs.declared.line.Line.{Line}
+use Rattle.scenario.specs.Cards.{CardData}
+use Rattle.scenario.specs.Plan.{ScenarioData}
+use Rattle.txn_replay.specs.Laws.{OneUse, Prefix, IsFair}
+use Rattle.txn_replay.specs.Run.{Place, Finished, Reached, Run}
+use Rattle.txn_replay.specs.Sound.{IsSound}
+use Rattle.txn_replay.specs.World.{CardRow, World, new_card, card_at}
+use Rattle.txn_replay.proofs.Closing.{Closed}
+use Rattle.txn_replay.proofs.Folding.{AllHold, reached_holds}
+use Rattle.txn_replay.proofs.Lists.{some_at}
+use Rattle.txn_replay.proofs.Prefixes.{IsKept, kept_closed}
+use Rattle.txn_replay.proofs.Uses.{IsCounted, counted_closed}
+
+-- a card of the world is one of the scenario's
+card_of_world : (P : List AppData → CardRow → Type 0) (s : ScenarioData) (w : World) → AllHold P s w → (i : ℕ) (row : CardRow)
+    → slice_get w.cards i ≡ Some row → (card : CardData) × P card.image row
+card_of_world P s w hold i row here =
+    let within : i < length w.cards = slice_get_within w.cards i row here in
+    let inside : i < length s.cards = (let e : length w.cards ≡ length s.cards = hold.sound.card_count in omega arith) in
+    let one = some_at s.cards i inside in
+    (one.0, subst (λ (x : CardRow). P one.0.image x) (get_or_from_slice_get w.cards i row new_card here) (hold.cards i one.0 one.1))
+
+pub reached_fair : (s : ScenarioData) (place : Place) (n : ℕ) (choices : List Bool) (lines : List Line) (w : World)
+    → Reached s place n choices lines w → IsFair s w
+reached_fair s place n choices lines w reached = record {
+  one_use = λ i row here.
+      (card_of_world IsCounted s w (reached_holds IsCounted counted_closed s place n choices lines w reached) i row here).1.once;
+  prefix = λ i row here.
+      (card_of_world IsKept s w (reached_holds IsKept kept_closed s place n choices lines w reached) i row here).1.prefix;
+  booked_once = λ key i j first second. booked_once s.issuer s.accounts w.messages key i j first second;
+}
+
+pub whole_fair : (s : ScenarioData) (lines : List Line) (w : World) → Run s lines w → IsFair s w
+whole_fair s lines w run = reached_fair s Finished run.count run.choices run.reported w run.reached
+
+pub reached_sound : (s : ScenarioData) (place : Place) (n : ℕ) (choices : List Bool) (lines : List Line) (w : World)
+    → Reached s place n choices lines w → IsSound s w
+reached_sound s place n choices lines w reached = (reached_holds IsCounted counted_closed s place n choices lines w reached).sound

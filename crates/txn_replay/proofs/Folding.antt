@@ -1,0 +1,114 @@
+-- What the events keep of a card holds of each card of each world that a run comes to.
+use Rattle.std.proofs.Common.{◌≡◌, ℕ, ◌+◌, ◌<◌, Bool, List, [], length, slice_get, Option, Some, None, refl, sym, ap, ◌∙◌, subst, inl, inr, arith}
+use Rattle.std.proofs.lemmas.Option.{same_Some}
+use Rattle.card_app.specs.Answering.{card_answer}
+use Rattle.card_files.specs.Views.{AppData}
+use Rattle.card_pages.specs.Pages.{found_of}
+use Rattle.kernel.specs.Reply.{Reply}
+use Rattle.report_text.specs.declared.line.Line.{Line}
+use Rattle.scenario.specs.Cards.{CardData}
+use Rattle.scenario.specs.Plan.{ScenarioData}
+use Rattle.txn_replay.specs.Changes.{powered, exchanged}
+use Rattle.txn_replay.specs.Part.{piece}
+use Rattle.txn_replay.specs.Payment.{Payment, next_of}
+use Rattle.txn_replay.specs.Run.{Place, Reached, start, scheduled, rounds, round, again, settlement, settling, audit, auditing, finished}
+use Rattle.txn_replay.specs.Sound.{IsSound}
+use Rattle.txn_replay.specs.Steps.{Settlement, Check, PowersUp, Asks, settlements, checks, part_of, moved, turned, turned_by, settles, audits, with_card, happens, first_of, Step}
+use Rattle.txn_replay.specs.World.{Holder, CardRow, World, new_card, first_world, card_at}
+use Rattle.txn_replay.specs.declared.event.Event.{Event}
+use Rattle.txn_replay.specs.declared.event.Event.TheVariants.{Turn, Settle, Audit}
+use Rattle.txn_replay.proofs.Auditing.{IsChecked, check_facts}
+use Rattle.txn_replay.proofs.Closing.{Closed, piece_keeps}
+use Rattle.txn_replay.proofs.Lists.{at_set, get_or-map_const}
+use Rattle.txn_replay.proofs.Moves.{this_one}
+use Rattle.txn_replay.proofs.Payments.{payment_facts}
+use Rattle.txn_replay.proofs.Sounding.{turn_sound, has_card, messages_sound, card_sound, first_sound}
+
+-- the world is sound, and each of its cards has this of its image
+pub record AllHold (P : List AppData → CardRow → Type 0) (s : ScenarioData) (w : World) : Type 0 where
+  pub sound : IsSound s w
+  pub cards : (i : ℕ) (card : CardData) → slice_get s.cards i ≡ Some card → P card.image (card_at w i)
+
+module _ (P : List AppData → CardRow → Type 0) (closed : Closed P) (s : ScenarioData) where
+  -- what holds of the image of this number
+  abbrev At : ℕ → CardRow → Type 0
+  At i row = (card : CardData) → slice_get s.cards i ≡ Some card → P card.image row
+
+  turn_cards : (w : World) (l : ℕ) (choice : Bool) → AllHold P s w → (o : Option Payment) → next_of s w l ≡ o
+      → (i : ℕ) → At i (card_at (turned_by w l choice o).world i)
+  turn_cards w l choice hold None is i = hold.cards i
+  turn_cards w l choice hold (Some p) is i =
+      at_set At w.cards p.planned.card (piece p (part_of w l p.planned.card) choice).part.card new_card here hold.cards i
+    where
+      there : slice_get s.cards p.planned.card ≡ Some p.card
+      there = (payment_facts s l _ p is).card
+
+      kept : P p.card.image (piece p (part_of w l p.planned.card) choice).part.card
+      kept =
+          piece_keeps P closed p (part_of w l p.planned.card) choice (this_one p (part_of w l p.planned.card))
+          (has_card s w l p hold.sound is) (hold.cards p.planned.card p.card there)
+
+      here : At p.planned.card (piece p (part_of w l p.planned.card) choice).part.card
+      here card is_there =
+          subst (λ (x : CardData). P x.image (piece p (part_of w l p.planned.card) choice).part.card)
+          (same_Some p.card card (sym there ∙ is_there)) kept
+
+  settle_holds : (w : World) (o : Option Settlement) → AllHold P s w → AllHold P s (settles s w o).world
+  settle_holds w None hold = hold
+  settle_holds w (Some at) hold = record { sound = messages_sound s w _ hold.sound; cards = hold.cards }
+
+  -- an audited card
+  audited : (w : World) (i : ℕ) (card : CardData) (row : CardRow) → AllHold P s w → slice_get s.cards i ≡ Some card
+      → row.holder ≡ (card_at w i).holder → P card.image row → AllHold P s (with_card w i row)
+  audited w i card row hold there same holds = record {
+    sound = card_sound s w i row same hold.sound;
+    cards = at_set At w.cards i row new_card
+        (λ other is_there. subst (λ (x : CardData). P x.image row) (same_Some card other (sym there ∙ is_there)) holds) hold.cards;
+  }
+
+  audit_holds : (w : World) (choice : Bool) (o : Option Check) → ((check : Check) → o ≡ Some check → IsChecked s.cards 0 check) → AllHold P s w
+      → AllHold P s (audits w choice o).world
+  audit_holds w choice None checked hold = hold
+  audit_holds w choice (Some (PowersUp i card)) checked hold =
+      let one : IsChecked s.cards 0 (PowersUp i card) = checked (PowersUp i card) refl in
+      let place : i ≡ one.place = (let e : i ≡ 0 + one.place = one.of_it.0 in omega arith) in
+      let there : slice_get s.cards i ≡ Some card = ap (λ n. slice_get s.cards n) place ∙ one.there ∙ ap (λ (x : CardData). Some x) (sym one.of_it.1) in
+      audited w i card (powered (card_at w i) (found_of (card_at w i).kept (card_at w i).pending choice) (card_at w i).holder) hold there refl
+      (closed.powers card.image (card_at w i) choice (card_at w i).holder (hold.cards i card there))
+  audit_holds w choice (Some (Asks i card command)) checked hold =
+      let one : IsChecked s.cards 0 (Asks i card command) = checked (Asks i card command) refl in
+      let place : i ≡ one.place = (let e : i ≡ 0 + one.place = one.of_it.0 in omega arith) in
+      let there : slice_get s.cards i ≡ Some card = ap (λ n. slice_get s.cards n) place ∙ one.there ∙ ap (λ (x : CardData). Some x) (sym one.of_it.1) in
+      audited w i card
+      (exchanged card.image (card_at w i) command (card_answer card.image (card_at w i).kept (card_at w i).session command)) hold there refl
+      (closed.answers card.image (card_at w i) command (inr (one.of_it.2 card.image (card_at w i).kept (card_at w i).session))
+      (hold.cards i card there))
+
+  event_holds : (w : World) (e : Event) (choice : Bool) → AllHold P s w → AllHold P s (happens s w e choice).world
+  event_holds w (Turn l) choice hold =
+      record { sound = turn_sound s w l choice hold.sound; cards = turn_cards w l choice hold (next_of s w l) refl }
+  event_holds w (Settle k) choice hold = settle_holds w (slice_get (settlements s w) k) hold
+  event_holds w (Audit k) choice hold = audit_holds w choice (slice_get (checks s) k) (check_facts s k) hold
+
+  step_holds : (w : World) (e : Event) (choices : List Bool) (lines : List Line) (after : World) → Step s w e choices lines after → AllHold P s w
+      → AllHold P s after
+  step_holds w e choices lines after step hold =
+      subst (λ (x : World). AllHold P s x) (sym step.leads) (event_holds w e (first_of choices) hold)
+
+  first_holds : AllHold P s (first_world s)
+  first_holds = record {
+    sound = first_sound s;
+    cards = λ i card there. subst (λ (row : CardRow). P card.image row) (sym (get_or-map_const s.cards i new_card)) (closed.first card.image);
+  }
+
+  pub reached_holds : (place : Place) (n : ℕ) (choices : List Bool) (lines : List Line) (w : World) → Reached s place n choices lines w → AllHold P s w
+  reached_holds _ _ _ _ _ start = first_holds
+  reached_holds _ _ _ _ _ (scheduled {c = c} {new = new} {w = v} {w' = v'} before at step) = step_holds v _ c new v' step (reached_holds _ _ _ _ v before)
+  reached_holds _ _ _ _ w (rounds before) = reached_holds _ _ _ _ w before
+  reached_holds _ _ _ _ _ (round {c = c} {new = new} {w = v} {w' = v'} before inside on step) = step_holds v _ c new v' step (reached_holds _ _ _ _ v before)
+  reached_holds _ _ _ _ w (again before) = reached_holds _ _ _ _ w before
+  reached_holds _ _ _ _ w (settlement before over) = reached_holds _ _ _ _ w before
+  reached_holds _ _ _ _ _ (settling {c = c} {new = new} {w = v} {w' = v'} before at step) = step_holds v _ c new v' step (reached_holds _ _ _ _ v before)
+  reached_holds _ _ _ _ w (audit before past) = reached_holds _ _ _ _ w before
+  reached_holds _ _ _ _ _ (auditing {c = c} {new = new} {w = v} {w' = v'} before at step) = step_holds v _ c new v' step (reached_holds _ _ _ _ v before)
+  reached_holds _ _ _ _ w (finished before past) = reached_holds _ _ _ _ w before

@@ -1,0 +1,85 @@
+-- What one exchange of a lane makes of the lane and of its card: who runs, and who has the card.
+use Rattle.std.proofs.Common.{◌≡◌, ℕ, Bool, true, false, List, [], ◌∷◌, ◌++◌, length, Option, Some, None, refl, sym, ◌∙◌}
+use Rattle.std.proofs.lemmas.Option.{same_Some}
+use Rattle.card_app.specs.Answering.{CardAnswer, card_answer}
+use Rattle.card_pages.specs.Cuts.{Cut, cut_of}
+use Rattle.card_pages.specs.Pages.{found_of}
+use Rattle.emv_ports.specs.Cut.{is_named}
+use Rattle.kernel.specs.Dialogue.{dialogue}
+use Rattle.kernel.specs.Ended.{EndData}
+use Rattle.kernel.specs.Reply.{Reply, CardSaid, CardGone, Deed, ToCard, ToHost, Over}
+use Rattle.report_text.specs.declared.line.Line.{Line}
+use Rattle.txn_replay.specs.Changes.{powered, exchanged, torn}
+use Rattle.txn_replay.specs.Lines.{torn_lines, power_torn_line}
+use Rattle.txn_replay.specs.Part.{Part, settled_by, cut_ends, answered, asked, begun, begun_by, piece_by, piece}
+use Rattle.txn_replay.specs.Payment.{Payment, deal_for, end_at}
+use Rattle.txn_replay.specs.World.{Holder, CardRow}
+
+-- the purchase that goes on here
+abbrev pub this_one : Payment → Part → Holder
+this_one p part = record { lane = p.lane; number = length part.lane.ended }
+
+-- what runs afterwards is this purchase and has the card; who has the card afterwards is this purchase; and no other
+-- one had it before
+pub record Moves (p : Payment) (before after : Part) : Type 0 where
+  pub ran : (replies : List Reply) → after.lane.running ≡ Some replies
+      → (after.card.holder ≡ Some (this_one p before)) × (length after.lane.ended ≡ length before.lane.ended)
+  pub held : (h : Holder) → after.card.holder ≡ Some h → (h ≡ this_one p before) × ((replies : List Reply) × (after.lane.running ≡ Some replies))
+  pub was : (h : Holder) → before.card.holder ≡ Some h → h ≡ this_one p before
+
+pub data Outcome (p : Payment) (before after : Part) : Type 0 where
+  kept : after ≡ before → Outcome p before after
+  moves : Moves p before after → Outcome p before after
+
+module _ (p : Payment) (before : Part) (was : (h : Holder) → before.card.holder ≡ Some h → h ≡ this_one p before) where
+  after_settled : (replies : List Reply) (card : CardRow) (messages : List (List ℕ)) (lines : List Line) (e : Option EndData)
+      → card.holder ≡ Some (this_one p before)
+      → Moves p before (settled_by p replies (record { lane = before.lane; card = card; messages = messages }) lines e).part
+  after_settled replies card messages lines None has = record {
+    ran = λ other is. (has, refl);
+    held = λ h is. (same_Some h (this_one p before) (sym is ∙ has), (replies, refl));
+    was = was;
+  }
+  after_settled replies card messages lines (Some end) has = record { ran = λ other is. cc; held = λ h is. cc; was = was }
+
+  after_cut : (replies : List Reply) (card : CardRow) (lines : List Line) (e : Option EndData)
+      → Outcome p before (cut_ends p replies before (record before { card = card }) lines e).part
+  after_cut replies card lines None = kept refl
+  after_cut replies card lines (Some end) = moves (record { ran = λ other is. cc; held = λ h is. cc; was = was })
+
+  after_answer : (replies : List Reply) (command : List ℕ) (said : CardAnswer) (cut : Option Cut) → before.card.holder ≡ Some (this_one p before)
+      → Outcome p before (answered p replies command before said cut).part
+  after_answer replies command said None has =
+      moves (after_settled (replies ++ CardSaid said.answer before.lane.log ∷ []) (exchanged p.card.image before.card command said) before.messages _
+      (end_at p (replies ++ CardSaid said.answer before.lane.log ∷ [])) has)
+  after_answer replies command said (Some cut) has =
+      after_cut (replies ++ CardGone ∷ []) (torn before.card p.planned.tear cut) (torn_lines p.lane command) (end_at p (replies ++ CardGone ∷ []))
+
+  after_ask : (replies : List Reply) (deed : Deed) → before.card.holder ≡ Some (this_one p before) → Outcome p before (asked p replies before deed).part
+  after_ask replies (ToCard command) has =
+      after_answer replies command (card_answer p.card.image before.card.kept before.card.session command)
+      (cut_of p.planned.tear before.card.made (card_answer p.card.image before.card.kept before.card.session command).new) has
+  after_ask replies (ToHost message) has = moves (after_settled _ before.card _ _ _ has)
+  after_ask replies (Over ending) has = kept refl
+
+  after_begin : (choice torn_there : Bool) → Outcome p before (begun_by p before choice torn_there).part
+  after_begin choice true = after_cut (CardGone ∷ []) before.card (power_torn_line p.lane p.card ∷ []) (end_at p (CardGone ∷ []))
+  after_begin choice false =
+      moves (after_settled [] (powered before.card (found_of before.card.kept before.card.pending choice) (Some (this_one p before))) before.messages _
+      (end_at p []) refl)
+
+-- a purchase that runs has its card
+pub outcome : (p : Payment) (part : Part) (choice : Bool)
+    → ((replies : List Reply) → part.lane.running ≡ Some replies → part.card.holder ≡ Some (this_one p part))
+    → Outcome p part (piece p part choice).part
+outcome p part choice has = by_lane part.lane.running refl
+  where
+    begins : (o : Option Holder) → part.card.holder ≡ o → Outcome p part (begun p part choice o).part
+    begins None is = after_begin p part (λ h other. cc) choice (is_named p.planned.tear 0)
+    begins (Some h) is = kept refl
+
+    by_lane : (o : Option (List Reply)) → part.lane.running ≡ o → Outcome p part (piece_by p part choice o).part
+    by_lane None is = begins part.card.holder refl
+    by_lane (Some replies) is =
+        after_ask p part (λ h other. same_Some h (this_one p part) (sym other ∙ has replies is)) replies (dialogue (deal_for p) replies).deed
+        (has replies is)

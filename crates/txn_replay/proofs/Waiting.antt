@@ -1,0 +1,104 @@
+-- Lanes that wait, and the end of the turns.
+use Rattle.std.proofs.Common.{◌≡◌, ◌⊎◌, ℕ, zero, suc, ◌+◌, ◌<◌, ◌≤◌, Bool, true, false, ◌&&◌, List, [], length, set, slice_get, Option, Some, None, refl, sym, ap, ◌∙◌, subst, inl, inr, arith}
+use Rattle.std.proofs.lemmas.Bool.{and_from}
+use Rattle.std.proofs.lemmas.List.{set-get_or}
+use Rattle.std.proofs.lemmas.Option.{same_Some}
+use Rattle.kernel.specs.Reply.{Reply}
+use Rattle.report_text.specs.declared.line.Line.{Line}
+use Rattle.scenario.specs.Plan.{ScenarioData}
+use Rattle.std.specs.Prelude.{is_none}
+use Rattle.txn_replay.specs.Part.{Part, Moved, still, begun, piece_by, piece}
+use Rattle.txn_replay.specs.Payment.{Payment, payment_in, next_of}
+use Rattle.txn_replay.specs.Run.{Place, Scheduled, Round, Settling, Auditing, Finished, Reached, start, scheduled, rounds, round, again, settlement, settling, audit, auditing, finished, lane_over, all_below, all_over}
+use Rattle.txn_replay.specs.Sound.{IsSound, HeldBy, IsHeld, IsIdle, IsCalm}
+use Rattle.txn_replay.specs.Steps.{Settlement, Check, PowersUp, Asks, After, nothing, part_of, moved, turned_by, settles, settlements, audits, checks, happens, first_of, Step}
+use Rattle.txn_replay.specs.World.{Holder, LaneRow, World, new_card, new_lane, card_at, lane_at}
+use Rattle.txn_replay.specs.declared.event.Event.TheVariants.{Turn, Settle, Audit}
+use Rattle.txn_replay.proofs.Payments.{payment_facts}
+
+-- an exchange that isn't one changes nothing
+moved_still : (w : World) (l i : ℕ) → moved w l i (still (part_of w l i)) ≡ nothing w
+moved_still w l i = λ j. record {
+  world = record { cards = set-get_or w.cards i new_card j; lanes = set-get_or w.lanes l new_lane j; messages = w.messages };
+  lines = [];
+  choices = 0;
+}
+
+-- its card is held, and it doesn't run
+held_still : (p : Payment) (part : Part) (choice : Bool) (h : Holder) → part.lane.running ≡ None → part.card.holder ≡ Some h → piece p part choice ≡ still part
+held_still p part choice h rests held =
+    ap (λ (o : Option (List Reply)). piece_by p part choice o) rests ∙ ap (λ (o : Option Holder). begun p part choice o) held
+
+pub idle_stays : (s : ScenarioData) (w : World) (l : ℕ) (choice : Bool) → IsIdle s w l → happens s w (Turn l) choice ≡ nothing w
+idle_stays s w l choice idle =
+    elim idle.waits [
+      | inl none ↦ ap (λ (o : Option Payment). turned_by w l choice o) none
+      | inr held ↦ by_held held
+    ]
+  where
+    by_held : IsHeld s w l → happens s w (Turn l) choice ≡ nothing w
+    by_held held =
+        ap (λ (o : Option Payment). turned_by w l choice o) held.is
+        ∙ ap (λ (m : Moved). moved w l held.payment.planned.card m)
+        (held_still held.payment (part_of w l held.payment.planned.card) choice held.holder idle.rests held.held)
+        ∙ moved_still w l held.payment.planned.card
+
+-- each of the first lanes is over
+all_from : (s : ScenarioData) (w : World) (n : ℕ) → ((l : ℕ) → l < n → lane_over s w l ≡ true) → all_below s w n ≡ true
+all_from s w zero each = refl
+all_from s w (suc n) each = and_from (lane_over s w n) (all_below s w n) (each n (omega arith)) (all_from s w n (λ l inside. each l (omega arith)))
+
+over_from : (s : ScenarioData) (w : World) (l : ℕ) → (lane_at w l).running ≡ None → next_of s w l ≡ None → lane_over s w l ≡ true
+over_from s w l rests none = and_from (is_none (lane_at w l).running) (is_none (next_of s w l)) (ap is_none rests) (ap is_none none)
+
+-- a card is held only by a lane that runs
+pub stuck_over : (s : ScenarioData) (w : World) → IsSound s w → ((l : ℕ) → l < length s.lanes → IsIdle s w l) → all_over s w ≡ true
+stuck_over s w sound idle = all_from s w (length s.lanes) each
+  where
+    not_held : (l : ℕ) → IsHeld s w l → ⊥
+    not_held l waits =
+        let by : HeldBy s w waits.payment.planned.card waits.holder = sound.held waits.payment.planned.card waits.holder waits.held in
+        let inside : waits.holder.lane < length s.lanes = (payment_facts s waits.holder.lane _ by.payment by.is).inside in
+        let none : None ≡ Some by.replies = sym (idle waits.holder.lane inside).rests ∙ by.runs in cc
+
+    each : (l : ℕ) → l < length s.lanes → lane_over s w l ≡ true
+    each l inside =
+        let one : IsIdle s w l = idle l inside in
+        elim one.waits [
+          | inl none ↦ over_from s w l one.rests none
+          | inr held ↦ absurd (not_held l held)
+        ]
+
+-- the lanes alone count
+below_lanes : (s : ScenarioData) (v w : World) → v.lanes ≡ w.lanes → (n : ℕ) → all_below s v n ≡ all_below s w n
+below_lanes s v w same zero = refl
+below_lanes s v w same (suc n) =
+    ap (λ (lanes : List LaneRow). lane_over s (record { cards = v.cards; lanes = lanes; messages = v.messages }) n && all_below s v n) same
+    ∙ ap (λ b. lane_over s w n && b) (below_lanes s v w same n)
+
+settle_lanes : (s : ScenarioData) (w : World) (o : Option Settlement) → (settles s w o).world.lanes ≡ w.lanes
+settle_lanes s w None = refl
+settle_lanes s w (Some at) = refl
+
+audit_lanes : (w : World) (choice : Bool) (o : Option Check) → (audits w choice o).world.lanes ≡ w.lanes
+audit_lanes w choice None = refl
+audit_lanes w choice (Some (PowersUp i card)) = refl
+audit_lanes w choice (Some (Asks i card command)) = refl
+
+stays_over : (s : ScenarioData) (v w : World) → w.lanes ≡ v.lanes → all_over s v ≡ true → all_over s w ≡ true
+stays_over s v w same over_before = below_lanes s w v same (length s.lanes) ∙ over_before
+
+pub calm_over : (s : ScenarioData) (place : Place) (n : ℕ) (choices : List Bool) (lines : List Line) (w : World)
+    → Reached s place n choices lines w → IsCalm place → all_over s w ≡ true
+calm_over s _ _ _ _ _ start calm = absurd calm
+calm_over s _ _ _ _ _ (scheduled before at step) calm = absurd calm
+calm_over s _ _ _ _ _ (rounds before) calm = absurd calm
+calm_over s _ _ _ _ _ (round before inside on step) calm = absurd calm
+calm_over s _ _ _ _ _ (again before) calm = absurd calm
+calm_over s _ _ _ _ _ (settlement before is) calm = is
+calm_over s _ _ _ _ _ (settling {k} {c = c} {w = v} {w' = v'} before at step) calm =
+    stays_over s v v' (ap (λ (x : World). x.lanes) step.leads ∙ settle_lanes s v (slice_get (settlements s v) k)) (calm_over s _ _ _ _ v before tt)
+calm_over s _ _ _ _ w (audit before past) calm = calm_over s _ _ _ _ w before tt
+calm_over s _ _ _ _ _ (auditing {k} {c = c} {w = v} {w' = v'} before at step) calm =
+    stays_over s v v' (ap (λ (x : World). x.lanes) step.leads ∙ audit_lanes v (first_of c) (slice_get (checks s) k)) (calm_over s _ _ _ _ v before tt)
+calm_over s _ _ _ _ w (finished before past) calm = calm_over s _ _ _ _ w before tt

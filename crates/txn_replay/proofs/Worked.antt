@@ -1,0 +1,130 @@
+-- Rows worked out from the definitions: a run without cards and lanes, and one whose only power-up is cut.
+use Rattle.std.proofs.Common.{◌≡◌, ℕ, ◌<◌, Bool, true, false, List, [], ◌∷◌, ◌++◌, Some, None, refl, arith}
+use Rattle.std.specs.Prelude.{codes}
+use Rattle.app_select.specs.Selecting.{listing}
+use Rattle.emv_dict.specs.declared.ending.Ending.TheVariants.{CutOff}
+use Rattle.emv_dict.specs.declared.ending.Step.TheVariants as step
+use Rattle.emv_dict.specs.declared.purchase.AidRow.{AidRow}
+use Rattle.emv_ports.specs.declared.tear.TearAt.TheVariants.{Before}
+use Rattle.issuer_host.specs.declared.keys.HostKeys.{HostKeys}
+use Rattle.kernel.specs.Course.{card_step}
+use Rattle.kernel.specs.Dialogue.{dialogue}
+use Rattle.report_text.specs.declared.line.Line.{Line}
+use Rattle.report_text.specs.declared.line.Line.TheVariants.{PowerTorn, End, AuditPower, Done}
+use Rattle.scenario.specs.Plan.{ScenarioData}
+use Rattle.scenario_lanes.specs.declared.plan.Link.TheVariants.{Sound}
+use Rattle.scenario_lanes.specs.declared.plan.Planned.{Planned}
+use Rattle.card_state.specs.Totals.{totals, apps_totals}
+use Rattle.txn_replay.specs.Payment.{payment_in}
+use Rattle.txn_replay.specs.Run.{Reached, start, rounds, round, again, settlement, audit, auditing, finished, Run}
+use Rattle.txn_replay.specs.Steps.{settlements_from, checks_from, happens}
+use Rattle.txn_replay.specs.World.{World, first_world}
+use Rattle.txn_replay.specs.declared.event.Event.TheVariants.{Turn, Audit}
+
+abbrev no_keys : HostKeys
+no_keys = record { ac = []; mac = []; enc = []; pin = [] }
+
+abbrev nobody : ScenarioData
+nobody = record { issuer = no_keys; accounts = []; cards = []; lanes = []; schedule = []; copies = 1 }
+
+-- `done 0` alone
+nobody_runs : Run nobody (Done 0 ∷ []) (first_world nobody)
+unfolding settlements_from checks_from
+nobody_runs = record { count = 0; choices = []; reported = []; reached = finished (audit (settlement (rounds start) refl) refl) refl; whole = refl }
+
+abbrev row : AidRow
+row = record {
+  name = 0xA0 ∷ 0x00 ∷ 0x00 ∷ 0x00 ∷ 0x03 ∷ [];
+  partial = false;
+  version = 0 ∷ 0 ∷ [];
+  denial = 0 ∷ 0 ∷ 0 ∷ 0 ∷ 0 ∷ [];
+  online = 0 ∷ 0 ∷ 0 ∷ 0 ∷ 0 ∷ [];
+  fallback = 0 ∷ 0 ∷ 0 ∷ 0 ∷ 0 ∷ [];
+  floor = 0;
+  threshold = 0;
+  target = 0;
+  max_target = 0;
+}
+
+-- a purchase whose card's power is cut at the power-up
+abbrev cut : Planned
+cut = record {
+  purchase = record {
+    amount = 100;
+    other = 0;
+    currency = 8 ∷ 0x40 ∷ [];
+    trade = 0;
+    services = false;
+    date = 0x24 ∷ 6 ∷ 0x15 ∷ [];
+    time = 0 ∷ 0 ∷ 0 ∷ [];
+    number = 0 ∷ 0 ∷ 0 ∷ 0 ∷ [];
+    word = 0;
+    pins = [];
+    forced = false;
+    confirm = true;
+  };
+  card = 0;
+  link = Sound;
+  tear = Some (record { commit = 0; at = Before 1 });
+}
+
+abbrev cut_once : ScenarioData
+cut_once = record {
+  issuer = no_keys;
+  accounts = [];
+  cards = record { name = codes "c1"; image = [] } ∷ [];
+  lanes = record {
+    settings = record {
+      kind = 22;
+      country = 8 ∷ 0x40 ∷ [];
+      caps = 0 ∷ 0 ∷ 0 ∷ [];
+      id = codes "TERM0001";
+      pin_key = [];
+      exceptions = [];
+      aids = row ∷ [];
+    };
+    purchases = cut ∷ [];
+  } ∷ [];
+  schedule = [];
+  copies = 1;
+}
+
+-- `L0 power c1 torn` and `L0 end 1 cut power` with nothing found out
+abbrev cut_lines : List Line
+cut_lines =
+    PowerTorn 0 (record { items = codes "c1" })
+    ∷ End 0 1
+    (record {
+      ending = CutOff step.Power;
+      tvr = record { 0 = 0 };
+      tsi = record { 0 = 0 };
+      cvm = 0 ∷ 0 ∷ 0 ∷ [];
+      arc = None;
+      atc_ac = None;
+      scripts = record { items = [] };
+    })
+    ∷ []
+
+cut_happens : (choice : Bool) → (happens cut_once (first_world cut_once) (Turn 0) choice).lines ≡ cut_lines
+unfolding payment_in dialogue card_step listing
+cut_happens choice = refl
+
+abbrev cut_world : World
+cut_world = (happens cut_once (first_world cut_once) (Turn 0) false).world
+
+abbrev audited : World
+audited = (happens cut_once cut_world (Audit 0) true).world
+
+-- the only turn, then the audit, which finds a card without applications, and `done 1`
+cut_runs : Run cut_once (cut_lines ++ (AuditPower (record { items = codes "c1" }) (record { items = [] }) ∷ Done 1 ∷ [])) audited
+unfolding payment_in dialogue card_step listing settlements_from checks_from totals apps_totals
+cut_runs = record {
+  count = 2;
+  choices = true ∷ [];
+  reported = cut_lines ++ AuditPower (record { items = codes "c1" }) (record { items = [] }) ∷ [];
+  reached = finished
+      (auditing (audit (settlement (again (round {l = 0} {c = []} {new = cut_lines} {w' = cut_world} (rounds start) (omega arith) (λ first. refl) (record { taken = refl; made = refl; leads = refl }))) refl) refl)
+      refl (record { taken = refl; made = refl; leads = refl }))
+      refl;
+  whole = refl;
+}

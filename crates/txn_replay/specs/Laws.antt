@@ -1,0 +1,90 @@
+-- What holds of every run, whatever its scenario: no counter serves two purchases, no power-up loses a decision that an
+-- answer rests on, and no transaction is booked twice (this project's own).
+use Rattle.std.specs.Prelude.{◌≡◌, ◌⊎◌, ℕ, ◌≤◌, ◌<◌, Bool, true, List, [], ◌∷◌, ◌++◌, fold, length, take, slice_get, Some, None}
+use Rattle.card_state.specs.Decisions.{Decided}
+use Rattle.host_ledger.specs.declared.key.Key.{Key}
+use Rattle.issuer_host.specs.BookedOnce.{IsBooking}
+use Rattle.report_text.specs.declared.line.Line.{Line}
+use Rattle.scenario.specs.Plan.{ScenarioData}
+use Rattle.txn_replay.specs.Run.{Place, Reached, Run, all_over}
+use Rattle.txn_replay.specs.Sound.{IsSound, IsIdle, IsCalm}
+use Rattle.txn_replay.specs.Steps.{nothing, happens}
+use Rattle.txn_replay.specs.World.{Given, Act, Found, Answering, Breaking, CardRow, World}
+use Rattle.txn_replay.specs.declared.event.Event.TheVariants.{Turn}
+
+-- two cryptograms of one application with one transaction counter are of one purchase
+abbrev pub OneUse : List Given → Type 0
+OneUse given =
+    (i j : ℕ) (x y : Given) → slice_get given i ≡ Some x → slice_get given j ≡ Some y → x.app ≡ y.app → x.counter ≡ y.counter
+    → x.holder ≡ y.holder
+
+-- the list that the last completed power-up found with the decisions taken since then, a cut one last; and its front up
+-- to the last decision behind which an answer was made
+pub record Taken : Type 0 where
+  pub all : List Decided
+  pub sure : List Decided
+
+abbrev pub sure_with : Taken → List Decided → List Decided
+sure_with t [] = t.sure
+sure_with t (d ∷ ds) = t.all ++ d ∷ ds
+
+abbrev pub taken_next : Taken → Act → Taken
+taken_next t (Found ds) = record { all = ds; sure = ds }
+taken_next t (Answering ds) = record { all = t.all ++ ds; sure = sure_with t ds }
+taken_next t (Breaking ds) = record { all = t.all ++ ds; sure = t.sure }
+
+abbrev pub none_taken : Taken
+none_taken = record { all = []; sure = [] }
+
+unfoldable pub taken_in : List Act → Taken
+taken_in acts = fold taken_next none_taken acts
+
+-- what a power-up finds is a prefix of these decisions, leaves out at most the last one, and none with an answer behind it
+pub record Finds (t : Taken) (found : List Decided) : Type 0 where
+  pub left : List Decided
+  pub prefix : found ++ left ≡ t.all
+  pub few : length left ≤ 1
+  pub others : List Decided
+  pub answered : t.sure ++ others ≡ found
+
+abbrev pub Prefix : List Act → Type 0
+Prefix acts = (k : ℕ) (found : List Decided) → slice_get acts k ≡ Some (Found found) → Finds (taken_in (take k acts)) found
+
+-- at most one of the messages that came to the host books a transaction
+abbrev pub BookedOnce : ScenarioData → World → Type 0
+BookedOnce s w =
+    (key : Key) (i j : ℕ) → IsBooking s.issuer s.accounts w.messages key i → IsBooking s.issuer s.accounts w.messages key j → i ≡ j
+
+pub record IsFair (s : ScenarioData) (w : World) : Type 0 where
+  pub one_use : (i : ℕ) (card : CardRow) → slice_get w.cards i ≡ Some card → OneUse card.given
+  pub prefix : (i : ℕ) (card : CardRow) → slice_get w.cards i ≡ Some card → Prefix card.acts
+  pub booked_once : BookedOnce s w
+
+-- of every world that a run comes to
+abbrev pub RunsAreFair : Type 0
+RunsAreFair =
+    (s : ScenarioData) (place : Place) (n : ℕ) (choices : List Bool) (lines : List Line) (w : World)
+    → Reached s place n choices lines w → IsFair s w
+
+-- and of the world that a whole one leads to
+abbrev pub WholeRunsAreFair : Type 0
+WholeRunsAreFair = (s : ScenarioData) (lines : List Line) (w : World) → Run s lines w → IsFair s w
+
+abbrev pub WorldsAreSound : Type 0
+WorldsAreSound =
+    (s : ScenarioData) (place : Place) (n : ℕ) (choices : List Bool) (lines : List Line) (w : World)
+    → Reached s place n choices lines w → IsSound s w
+
+-- a lane that waits has no exchange: no line is made, and nothing changes
+abbrev pub IdleLanesStay : Type 0
+IdleLanesStay = (s : ScenarioData) (w : World) (l : ℕ) (choice : Bool) → IsIdle s w l → happens s w (Turn l) choice ≡ nothing w
+
+-- where every lane waits, every purchase is over
+abbrev pub StuckIsOver : Type 0
+StuckIsOver = (s : ScenarioData) (w : World) → IsSound s w → ((l : ℕ) → l < length s.lanes → IsIdle s w l) → all_over s w ≡ true
+
+-- and so it is in the settlement and in the audit
+abbrev pub CalmIsOver : Type 0
+CalmIsOver =
+    (s : ScenarioData) (place : Place) (n : ℕ) (choices : List Bool) (lines : List Line) (w : World)
+    → Reached s place n choices lines w → IsCalm place → all_over s w ≡ true

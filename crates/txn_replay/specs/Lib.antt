@@ -1,0 +1,11 @@
+pub mod World
+pub mod Payment
+pub mod Lines
+pub mod Changes
+pub mod Part
+pub mod Steps
+pub mod Run
+pub mod Reading
+pub mod Counting
+pub mod Sound
+pub mod Laws

@@ -1,0 +1,78 @@
+-- The lines of a report that a run makes (this project's own).
+use Rattle.std.specs.Prelude.{ℕ, List, [], ◌∷◌, map, Option, Some, None, option_map}
+use Rattle.card_files.specs.Files.{opening_of}
+use Rattle.card_state.specs.Decisions.{Decided}
+use Rattle.card_state.specs.Encoding.{flags_of}
+use Rattle.card_state.specs.Totals.{totals}
+use Rattle.card_state.specs.declared.state.AppState.{AppState}
+use Rattle.kernel.specs.Ended.{EndData}
+use Rattle.report_text.specs.declared.line.EndParts.{EndParts}
+use Rattle.report_text.specs.declared.line.Line.{Line}
+use Rattle.report_text.specs.declared.line.Line.TheVariants.{Power, PowerTorn, ToCard, FromCard, Torn, ToHost, FromHost, NoReply, End, AuditPower, AuditAsk, AuditAnswer, SettleCall, SettleReply}
+use Rattle.report_text.specs.declared.line.Shown.{Shown}
+use Rattle.scenario.specs.Cards.{CardData}
+
+-- an application's counters
+unfoldable pub shown_state : AppState → Shown
+shown_state s = record {
+  counter = s.counter;
+  last_online = s.last_online;
+  count = s.count;
+  sum = s.sum;
+  tries = s.tries;
+  flags = flags_of s;
+}
+
+-- the counters of a card that has taken these decisions
+abbrev pub shown_after : CardData → List Decided → List Shown
+shown_after card ds = map shown_state (totals (opening_of card.image) ds).apps.items
+
+-- a power-up that found these decisions
+abbrev pub power_line : ℕ → CardData → List Decided → Line
+power_line lane card found = Power lane (record { items = card.name }) (record { items = shown_after card found })
+
+abbrev pub power_torn_line : ℕ → CardData → Line
+power_torn_line lane card = PowerTorn lane (record { items = card.name })
+
+-- a command that is answered, and one behind which the card is gone
+abbrev pub answer_lines : ℕ → List ℕ → List ℕ → List Line
+answer_lines lane command answer = ToCard lane (record { items = command }) ∷ FromCard lane (record { items = answer }) ∷ []
+
+abbrev pub torn_lines : ℕ → List ℕ → List Line
+torn_lines lane command = ToCard lane (record { items = command }) ∷ Torn lane ∷ []
+
+-- a message to the host and its reply, or silence
+abbrev pub reply_line : ℕ → Option (List ℕ) → Line
+reply_line lane None = NoReply lane
+reply_line lane (Some reply) = FromHost lane (record { items = reply })
+
+abbrev pub host_lines : ℕ → List ℕ → Option (List ℕ) → List Line
+host_lines lane message reply = ToHost lane (record { items = message }) ∷ reply_line lane reply ∷ []
+
+-- how a purchase ended
+abbrev pub end_parts : EndData → EndParts
+end_parts end = record {
+  ending = end.ending;
+  tvr = record { 0 = end.moment.tvr };
+  tsi = record { 0 = end.moment.tsi };
+  cvm = end.moment.results;
+  arc = end.moment.code;
+  atc_ac = option_map (λ ac. (ac.counter, ac.cryptogram)) end.moment.last;
+  scripts = record { items = end.moment.scripts };
+}
+
+-- the lane's purchase of this number, from 1, has ended
+abbrev pub end_line : ℕ → ℕ → EndData → Line
+end_line lane number end = End lane number (end_parts end)
+
+-- a message of a lane's settlement, and its reply
+abbrev pub settle_lines : ℕ → List ℕ → List ℕ → List Line
+settle_lines lane message reply = SettleCall lane (record { items = message }) ∷ SettleReply lane (record { items = reply }) ∷ []
+
+-- the audit
+abbrev pub audit_power_line : CardData → List Decided → Line
+audit_power_line card found = AuditPower (record { items = card.name }) (record { items = shown_after card found })
+
+abbrev pub audit_lines : CardData → List ℕ → List ℕ → List Line
+audit_lines card command answer =
+    AuditAsk (record { items = card.name }) (record { items = command }) ∷ AuditAnswer (record { items = card.name }) (record { items = answer }) ∷ []

@@ -1,0 +1,158 @@
+-- One exchange of a lane, on what it touches (this project's own).
+use Rattle.std.specs.Prelude.{ℕ, ◌+◌, Bool, true, false, List, [], ◌∷◌, ◌++◌, length, Option, Some, None, option_to_list}
+use Rattle.card_app.specs.Answering.{CardAnswer, card_answer}
+use Rattle.card_pages.specs.Cuts.{Cut, cut_of}
+use Rattle.card_pages.specs.Pages.{found_of}
+use Rattle.card_state.specs.Decisions.{Decided}
+use Rattle.emv_dict.specs.Views.{PurchaseData}
+use Rattle.emv_dict.specs.declared.ending.Ending.{Ending}
+use Rattle.emv_dict.specs.declared.ending.Ending.TheVariants.{Approved, Declined, Terminated, CutOff}
+use Rattle.emv_dict.specs.declared.purchase.Logged.{Logged}
+use Rattle.emv_ports.specs.Cut.{is_named}
+use Rattle.issuer_host.specs.History.{host_reply}
+use Rattle.kernel.specs.Dialogue.{dialogue}
+use Rattle.kernel.specs.Ended.{EndData}
+use Rattle.kernel.specs.Reply.{Reply, CardSaid, CardGone, HostSaid, HostSilent, Deed, ToCard, ToHost, Over}
+use Rattle.object_lists.specs.CardRead.{ReadCard}
+use Rattle.report_text.specs.declared.line.Line.{Line}
+use Rattle.scenario_lanes.specs.declared.plan.Link.{Link}
+use Rattle.scenario_lanes.specs.declared.plan.Link.TheVariants.{Sound, RequestLost, ReplyLost, Twice}
+use Rattle.txn_replay.specs.Changes.{powered, exchanged, torn, freed}
+use Rattle.txn_replay.specs.Lines.{power_line, power_torn_line, answer_lines, torn_lines, host_lines, end_line}
+use Rattle.txn_replay.specs.Payment.{Payment, deal_for, end_at}
+use Rattle.txn_replay.specs.World.{Holder, CardRow, LaneRow}
+
+-- the lane, the card of its purchase, and the messages that came to the host
+pub record Part : Type 0 where
+  pub lane : LaneRow
+  pub card : CardRow
+  pub messages : List (List ℕ)
+
+-- what becomes of them, the lines, and how many truth values were taken
+pub record Moved : Type 0 where
+  pub part : Part
+  pub lines : List Line
+  pub choices : ℕ
+
+abbrev pub still : Part → Moved
+still part = record { part = part; lines = []; choices = 0 }
+
+-- one truth value was taken
+abbrev pub chosen : Moved → Moved
+chosen moved = record moved { choices = 1 }
+
+-- an approval joins the terminal's log, under the number of the card's account
+abbrev pub approval : PurchaseData → Ending → Option ReadCard → List Logged
+approval purchase (Approved online) (Some card) = record { pan = card.pan; amount = purchase.amount } ∷ []
+approval purchase (Approved online) None = []
+approval purchase (Declined online) card = []
+approval purchase (Terminated step cause) card = []
+approval purchase (CutOff step) card = []
+
+-- the purchase has ended
+abbrev pub lane_ended : Payment → List Reply → EndData → LaneRow → LaneRow
+lane_ended p replies end lane = record {
+  ended = lane.ended ++ record { replies = replies; end = end } ∷ [];
+  running = None;
+  log = lane.log ++ approval p.planned.purchase end.ending end.card;
+  captures = lane.captures ++ option_to_list end.capture;
+}
+
+abbrev pub ended_with : Payment → List Reply → EndData → Part → List Line → Moved
+ended_with p replies end part lines = record {
+  part = record { lane = lane_ended p replies end part.lane; card = freed part.card; messages = part.messages };
+  lines = lines ++ end_line p.lane (length part.lane.ended + 1) end ∷ [];
+  choices = 0;
+}
+
+-- it goes on with these replies
+abbrev pub goes_on : List Reply → Part → List Line → Moved
+goes_on replies part lines = record { part = record part { lane = record part.lane { running = Some replies } }; lines = lines; choices = 0 }
+
+-- it ends where its dialogue is over
+abbrev pub settled_by : Payment → List Reply → Part → List Line → Option EndData → Moved
+settled_by p replies part lines None = goes_on replies part lines
+settled_by p replies part lines (Some end) = ended_with p replies end part lines
+
+abbrev pub settled : Payment → List Reply → Part → List Line → Moved
+settled p replies part lines = settled_by p replies part lines (end_at p replies)
+
+-- the card is gone, with which every dialogue ends: `cut` is what the cut left
+abbrev pub cut_ends : Payment → List Reply → Part → Part → List Line → Option EndData → Moved
+cut_ends p replies part cut lines None = still part
+cut_ends p replies part cut lines (Some end) = ended_with p replies end cut lines
+
+abbrev pub cut_short : Payment → List Reply → Part → CardRow → List Line → Moved
+cut_short p replies part card lines =
+    cut_ends p (replies ++ CardGone ∷ []) part (record part { card = card }) lines (end_at p (replies ++ CardGone ∷ []))
+
+-- the card answers, or the plan cuts one of its decisions
+abbrev pub answered : Payment → List Reply → List ℕ → Part → CardAnswer → Option Cut → Moved
+answered p replies command part said None =
+    settled p (replies ++ CardSaid said.answer part.lane.log ∷ []) (record part { card = exchanged p.card.image part.card command said })
+    (answer_lines p.lane command said.answer)
+answered p replies command part said (Some cut) = cut_short p replies part (torn part.card p.planned.tear cut) (torn_lines p.lane command)
+
+abbrev pub card_by : Payment → List Reply → List ℕ → Part → CardAnswer → Moved
+card_by p replies command part said = answered p replies command part said (cut_of p.planned.tear part.card.made said.new)
+
+abbrev pub asked_card : Payment → List Reply → List ℕ → Part → Moved
+asked_card p replies command part =
+    card_by p replies command part (card_answer p.card.image part.card.kept part.card.session command)
+
+-- how often a message comes to the host
+abbrev pub delivered : Link → List ℕ → List (List ℕ)
+delivered Sound message = message ∷ []
+delivered RequestLost message = []
+delivered ReplyLost message = message ∷ []
+delivered Twice message = message ∷ message ∷ []
+
+-- which reply comes back: the first
+abbrev pub heard : Link → List ℕ → Option (List ℕ)
+heard Sound reply = Some reply
+heard RequestLost reply = None
+heard ReplyLost reply = None
+heard Twice reply = Some reply
+
+abbrev pub host_said : Option (List ℕ) → Reply
+host_said None = HostSilent
+host_said (Some reply) = HostSaid reply
+
+abbrev pub host_by : Payment → List Reply → List ℕ → Part → Option (List ℕ) → Moved
+host_by p replies message part reply =
+    settled p (replies ++ host_said reply ∷ []) (record part { messages = part.messages ++ delivered p.planned.link message })
+    (host_lines p.lane message reply)
+
+abbrev pub asked_host : Payment → List Reply → List ℕ → Part → Moved
+asked_host p replies message part =
+    host_by p replies message part (heard p.planned.link (host_reply p.issuer p.accounts part.messages message))
+
+-- the dialogue's next ask
+abbrev pub asked : Payment → List Reply → Part → Deed → Moved
+asked p replies part (ToCard command) = asked_card p replies command part
+asked p replies part (ToHost message) = asked_host p replies message part
+asked p replies part (Over ending) = still part
+
+-- a power-up that is completed
+abbrev pub powered_up : Payment → Part → List Decided → Moved
+powered_up p part found =
+    chosen (settled p [] (record part { card = powered part.card found (Some (record { lane = p.lane; number = length part.lane.ended })) })
+    (power_line p.lane p.card found ∷ []))
+
+-- a tear in commit 0 cuts it, and leaves the card as it was
+abbrev pub begun_by : Payment → Part → Bool → Bool → Moved
+begun_by p part choice true = cut_short p [] part part.card (power_torn_line p.lane p.card ∷ [])
+begun_by p part choice false = powered_up p part (found_of part.card.kept part.card.pending choice)
+
+-- a purchase begins where none has its card
+abbrev pub begun : Payment → Part → Bool → Option Holder → Moved
+begun p part choice None = begun_by p part choice (is_named p.planned.tear 0)
+begun p part choice (Some holder) = still part
+
+abbrev pub piece_by : Payment → Part → Bool → Option (List Reply) → Moved
+piece_by p part choice None = begun p part choice part.card.holder
+piece_by p part choice (Some replies) = asked p replies part (dialogue (deal_for p) replies).deed
+
+-- one exchange of the lane
+abbrev pub piece : Payment → Part → Bool → Moved
+piece p part choice = piece_by p part choice part.lane.running

@@ -1,0 +1,132 @@
+-- The events of a run: an exchange of a lane, a message of the settlement, a step of the audit (this project's own).
+use Rattle.std.specs.Prelude.{◌≡◌, ℕ, ◌+◌, Bool, true, false, List, [], ◌∷◌, ◌++◌, length, map, flat_map, replicate, slice_get, slice_set, Option, Some, None, unwrap_or}
+use Rattle.app_select.specs.Said.{select_command}
+use Rattle.card_app.specs.Answering.{CardAnswer, card_answer}
+use Rattle.card_files.specs.Views.{AppData}
+use Rattle.card_pages.specs.Pages.{found_of}
+use Rattle.issuer_host.specs.History.{host_reply}
+use Rattle.report_text.specs.declared.line.Line.{Line}
+use Rattle.risk_mgmt.specs.Counters.{counter_tag, last_online_tag, get_data}
+use Rattle.scenario.specs.Cards.{CardData}
+use Rattle.scenario.specs.Plan.{ScenarioData}
+use Rattle.txn_replay.specs.Changes.{powered, exchanged}
+use Rattle.txn_replay.specs.Lines.{settle_lines, audit_power_line, audit_lines}
+use Rattle.txn_replay.specs.Part.{Part, Moved, piece}
+use Rattle.txn_replay.specs.Payment.{Payment, next_of}
+use Rattle.txn_replay.specs.World.{CardRow, LaneRow, World, card_at, lane_at}
+use Rattle.txn_replay.specs.declared.event.Event.{Event}
+use Rattle.txn_replay.specs.declared.event.Event.TheVariants.{Turn, Settle, Audit}
+
+-- the world behind an event, the event's lines, and how many truth values it took
+pub record After : Type 0 where
+  pub world : World
+  pub lines : List Line
+  pub choices : ℕ
+
+abbrev pub nothing : World → After
+nothing w = record { world = w; lines = []; choices = 0 }
+
+-- what a lane's exchange touches
+abbrev pub part_of : World → ℕ → ℕ → Part
+part_of w l i = record { lane = lane_at w l; card = card_at w i; messages = w.messages }
+
+abbrev pub moved : World → ℕ → ℕ → Moved → After
+moved w l i m = record {
+  world = record { cards = slice_set w.cards i m.part.card; lanes = slice_set w.lanes l m.part.lane; messages = m.part.messages };
+  lines = m.lines;
+  choices = m.choices;
+}
+
+-- nothing happens where no purchase is left
+abbrev pub turned_by : World → ℕ → Bool → Option Payment → After
+turned_by w l choice None = nothing w
+turned_by w l choice (Some p) = moved w l p.planned.card (piece p (part_of w l p.planned.card) choice)
+
+abbrev pub turned : ScenarioData → World → ℕ → Bool → After
+turned s w l choice = turned_by w l choice (next_of s w l)
+
+-- a message that a lane captured
+pub record Settlement : Type 0 where
+  pub lane : ℕ
+  pub message : List ℕ
+
+-- the messages of lanes, the first of which has this number, each sent so often
+unfoldable pub settlements_from : ℕ → ℕ → List LaneRow → List Settlement
+settlements_from copies l [] = []
+settlements_from copies l (lane ∷ lanes) =
+    flat_map (λ message. replicate copies (record { lane = l; message = message })) lane.captures ++ settlements_from copies (l + 1) lanes
+
+-- by lane, then by purchase
+abbrev pub settlements : ScenarioData → World → List Settlement
+settlements s w = settlements_from s.copies 0 w.lanes
+
+-- a message is delivered once
+abbrev pub settled_with : World → Settlement → List ℕ → After
+settled_with w at reply = record {
+  world = record w { messages = w.messages ++ at.message ∷ [] };
+  lines = settle_lines at.lane at.message reply;
+  choices = 0;
+}
+
+abbrev pub settles : ScenarioData → World → Option Settlement → After
+settles s w None = nothing w
+settles s w (Some at) = settled_with w at (host_reply s.issuer s.accounts w.messages at.message)
+
+-- a step of the audit: the card of this number is powered up, or asked a command
+pub data Check : Type 0 where
+  PowersUp : (i : ℕ) → (card : CardData) → Check
+  Asks : (i : ℕ) → (card : CardData) → (command : List ℕ) → Check
+
+-- per application SELECT of its name, and GET DATA of both counters
+abbrev pub app_checks : ℕ → CardData → AppData → List Check
+app_checks i card app =
+    Asks i card (select_command 0 app.name) ∷ Asks i card (get_data counter_tag) ∷ Asks i card (get_data last_online_tag) ∷ []
+
+abbrev pub card_checks : ℕ → CardData → List Check
+card_checks i card = PowersUp i card ∷ flat_map (app_checks i card) card.image
+
+unfoldable pub checks_from : ℕ → List CardData → List Check
+checks_from i [] = []
+checks_from i (card ∷ cards) = card_checks i card ++ checks_from (i + 1) cards
+
+abbrev pub checks : ScenarioData → List Check
+checks s = checks_from 0 s.cards
+
+abbrev pub with_card : World → ℕ → CardRow → World
+with_card w i card = record w { cards = slice_set w.cards i card }
+
+-- a power-up without a plan
+abbrev pub audits_power : World → ℕ → CardData → Bool → After
+audits_power w i card choice = record {
+  world = with_card w i (powered (card_at w i) (found_of (card_at w i).kept (card_at w i).pending choice) (card_at w i).holder);
+  lines = audit_power_line card (found_of (card_at w i).kept (card_at w i).pending choice) ∷ [];
+  choices = 1;
+}
+
+abbrev pub audits_ask : World → ℕ → CardData → List ℕ → CardAnswer → After
+audits_ask w i card command said = record {
+  world = with_card w i (exchanged card.image (card_at w i) command said);
+  lines = audit_lines card command said.answer;
+  choices = 0;
+}
+
+abbrev pub audits : World → Bool → Option Check → After
+audits w choice None = nothing w
+audits w choice (Some (PowersUp i card)) = audits_power w i card choice
+audits w choice (Some (Asks i card command)) =
+    audits_ask w i card command (card_answer card.image (card_at w i).kept (card_at w i).session command)
+
+-- what happens, with this truth value where one is taken
+abbrev pub happens : ScenarioData → World → Event → Bool → After
+happens s w (Turn l) choice = turned s w l choice
+happens s w (Settle k) choice = settles s w (slice_get (settlements s w) k)
+happens s w (Audit k) choice = audits w choice (slice_get (checks s) k)
+
+abbrev pub first_of : List Bool → Bool
+first_of choices = unwrap_or (slice_get choices 0) false
+
+-- the event takes these truth values, makes these lines, and leads to this world
+pub record Step (s : ScenarioData) (w : World) (e : Event) (choices : List Bool) (lines : List Line) (after : World) : Type 0 where
+  pub taken : length choices ≡ (happens s w e (first_of choices)).choices
+  pub made : lines ≡ (happens s w e (first_of choices)).lines
+  pub leads : after ≡ (happens s w e (first_of choices)).world

@@ -1,0 +1,73 @@
+-- The world of a run: each card with what it decided, each lane with its purchases, and the messages that came to the
+-- issuer's host (this project's own).
+use Rattle.std.specs.Prelude.{ℕ, List, [], map, slice_index_or, Option, None}
+use Rattle.card_app.specs.Session.{Exchange}
+use Rattle.card_state.specs.Decisions.{Decided}
+use Rattle.emv_dict.specs.declared.purchase.Logged.{Logged}
+use Rattle.kernel.specs.Ended.{EndData}
+use Rattle.kernel.specs.Reply.{Reply}
+use Rattle.scenario.specs.Plan.{ScenarioData}
+
+-- a purchase by its lane and its number in the lane, both from 0
+pub record Holder : Type 0 where
+  pub lane : ℕ
+  pub number : ℕ
+
+-- a cryptogram that a card gave: its application, that one's transaction counter, and the purchase
+pub record Given : Type 0 where
+  pub app : ℕ
+  pub counter : ℕ
+  pub holder : Holder
+
+-- what a card did: a power-up was completed and found these decisions; these were taken for a command, and its
+-- answer came; or the power was cut at the last of these
+pub data Act : Type 0 where
+  Found : (ds : List Decided) → Act
+  Answering : (ds : List Decided) → Act
+  Breaking : (ds : List Decided) → Act
+
+pub record CardRow : Type 0 where
+  -- the decisions that are kept, and one that may be kept too
+  pub kept : List Decided
+  pub pending : Option Decided
+  -- the commands and answers since power-up, and how many decisions were taken since then
+  pub session : List Exchange
+  pub made : ℕ
+  -- the running purchase that has the card
+  pub holder : Option Holder
+  pub given : List Given
+  pub acts : List Act
+
+-- a purchase that has ended: what the terminal was told, and its end record
+pub record Past : Type 0 where
+  pub replies : List Reply
+  pub end : EndData
+
+pub record LaneRow : Type 0 where
+  pub ended : List Past
+  -- what the terminal was told in the purchase behind these, where it runs
+  pub running : Option (List Reply)
+  pub log : List Logged
+  -- the messages for settlement
+  pub captures : List (List ℕ)
+
+pub record World : Type 0 where
+  pub cards : List CardRow
+  pub lanes : List LaneRow
+  -- those that came to the issuer's host
+  pub messages : List (List ℕ)
+
+abbrev pub new_card : CardRow
+new_card = record { kept = []; pending = None; session = []; made = 0; holder = None; given = []; acts = [] }
+
+abbrev pub new_lane : LaneRow
+new_lane = record { ended = []; running = None; log = []; captures = [] }
+
+abbrev pub first_world : ScenarioData → World
+first_world s = record { cards = map (λ card. new_card) s.cards; lanes = map (λ lane. new_lane) s.lanes; messages = [] }
+
+abbrev pub card_at : World → ℕ → CardRow
+card_at w i = slice_index_or w.cards i new_card
+
+abbrev pub lane_at : World → ℕ → LaneRow
+lane_at w l = slice_index_or w.lanes l new_lane
