@@ -10,7 +10,7 @@ ghost use Rattle.emv_ports.specs.declared.tear.Tear.{Tear as Plan};
 ghost use Rattle.card_app.specs.Answering.{card_answer};
 ghost use Rattle.card_app.specs.SeenChip.{ChipOn, ChipOff, IsChipOff, ChipAnswered, ChipCut, is_on, losses_of};
 ghost use Rattle.card_app.specs.Session.{Exchange};
-ghost use Rattle.card_pages.specs.Pages.{found_of};
+ghost use Rattle.card_pages.specs.Pages.{MayStand, StandsFor, found_of};
 
 use crate::card::{Card, personalise};
 use apdu_core::Answer;
@@ -148,10 +148,20 @@ impl<'i, P: Pages> Chip<'i, P> {
         self.pages = Some(card.power_off());
     }
 
-    /// Whether it is on.
-    pub fn is_on(&self) -> bool
-        ensures { result ≡ is_on self.now }
+    /// Gives its pages, off.
+    pub fn into_pages(self) -> P
+        ensures may { (kept : List Decided) (pending : Option Decided) → ChipOff self.entry kept pending
+            → MayStand (P.memory result).cells (opening_of self.entry.image) kept pending }
+        ensures stands { (session : List Exchange) (ds : List Decided) (plan : Option Plan) (made : ℕ)
+            → ChipOn self.entry session ds plan made → StandsFor (P.memory result).cells (opening_of self.entry.image) ds }
+        ensures off { (P.memory result).on ≡ false }
+        ensures losses { (P.memory result).losses ≡ losses_of self.entry }
     {
-        self.card.is_some()
+        let Chip { card, pages, .. } = self;
+        match (card, pages) {
+            (Some(card), _) => card.power_off(),
+            (None, Some(pages)) => pages,
+            (None, None) => unreachable!(),
+        }
     }
 }
