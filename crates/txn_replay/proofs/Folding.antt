@@ -24,6 +24,24 @@ use Rattle.txn_replay.proofs.Moves.{this_one}
 use Rattle.txn_replay.proofs.Payments.{payment_facts}
 use Rattle.txn_replay.proofs.Sounding.{turn_sound, has_card, messages_sound, card_sound, first_sound}
 
+-- what the first world has and each event keeps, each world has that a run comes to
+module _ (s : ScenarioData) (Q : World → Type 0) (first : Q (first_world s))
+    (keeps : (w : World) (e : Event) (choice : Bool) → Q w → Q (happens s w e choice).world) where
+  step_keeps : (w : World) (e : Event) (choices : List Bool) (lines : List Line) (after : World) → Step s w e choices lines after → Q w → Q after
+  step_keeps w e choices lines after step has = subst Q (sym step.leads) (keeps w e (first_of choices) has)
+
+  pub reached_keeps : (place : Place) (n : ℕ) (choices : List Bool) (lines : List Line) (w : World) → Reached s place n choices lines w → Q w
+  reached_keeps _ _ _ _ _ start = first
+  reached_keeps _ _ _ _ _ (scheduled {c = c} {new = new} {w = v} {w' = v'} before at step) = step_keeps v _ c new v' step (reached_keeps _ _ _ _ v before)
+  reached_keeps _ _ _ _ w (rounds before) = reached_keeps _ _ _ _ w before
+  reached_keeps _ _ _ _ _ (round {c = c} {new = new} {w = v} {w' = v'} before inside on step) = step_keeps v _ c new v' step (reached_keeps _ _ _ _ v before)
+  reached_keeps _ _ _ _ w (again before) = reached_keeps _ _ _ _ w before
+  reached_keeps _ _ _ _ w (settlement before over) = reached_keeps _ _ _ _ w before
+  reached_keeps _ _ _ _ _ (settling {c = c} {new = new} {w = v} {w' = v'} before at step) = step_keeps v _ c new v' step (reached_keeps _ _ _ _ v before)
+  reached_keeps _ _ _ _ w (audit before past) = reached_keeps _ _ _ _ w before
+  reached_keeps _ _ _ _ _ (auditing {c = c} {new = new} {w = v} {w' = v'} before at step) = step_keeps v _ c new v' step (reached_keeps _ _ _ _ v before)
+  reached_keeps _ _ _ _ w (finished before past) = reached_keeps _ _ _ _ w before
+
 -- the world is sound, and each of its cards has this of its image
 pub record AllHold (P : List AppData → CardRow → Type 0) (s : ScenarioData) (w : World) : Type 0 where
   pub sound : IsSound s w
@@ -90,11 +108,6 @@ module _ (P : List AppData → CardRow → Type 0) (closed : Closed P) (s : Scen
   event_holds w (Settle k) choice hold = settle_holds w (slice_get (settlements s w) k) hold
   event_holds w (Audit k) choice hold = audit_holds w choice (slice_get (checks s) k) (check_facts s k) hold
 
-  step_holds : (w : World) (e : Event) (choices : List Bool) (lines : List Line) (after : World) → Step s w e choices lines after → AllHold P s w
-      → AllHold P s after
-  step_holds w e choices lines after step hold =
-      subst (λ (x : World). AllHold P s x) (sym step.leads) (event_holds w e (first_of choices) hold)
-
   first_holds : AllHold P s (first_world s)
   first_holds = record {
     sound = first_sound s;
@@ -102,13 +115,4 @@ module _ (P : List AppData → CardRow → Type 0) (closed : Closed P) (s : Scen
   }
 
   pub reached_holds : (place : Place) (n : ℕ) (choices : List Bool) (lines : List Line) (w : World) → Reached s place n choices lines w → AllHold P s w
-  reached_holds _ _ _ _ _ start = first_holds
-  reached_holds _ _ _ _ _ (scheduled {c = c} {new = new} {w = v} {w' = v'} before at step) = step_holds v _ c new v' step (reached_holds _ _ _ _ v before)
-  reached_holds _ _ _ _ w (rounds before) = reached_holds _ _ _ _ w before
-  reached_holds _ _ _ _ _ (round {c = c} {new = new} {w = v} {w' = v'} before inside on step) = step_holds v _ c new v' step (reached_holds _ _ _ _ v before)
-  reached_holds _ _ _ _ w (again before) = reached_holds _ _ _ _ w before
-  reached_holds _ _ _ _ w (settlement before over) = reached_holds _ _ _ _ w before
-  reached_holds _ _ _ _ _ (settling {c = c} {new = new} {w = v} {w' = v'} before at step) = step_holds v _ c new v' step (reached_holds _ _ _ _ v before)
-  reached_holds _ _ _ _ w (audit before past) = reached_holds _ _ _ _ w before
-  reached_holds _ _ _ _ _ (auditing {c = c} {new = new} {w = v} {w' = v'} before at step) = step_holds v _ c new v' step (reached_holds _ _ _ _ v before)
-  reached_holds _ _ _ _ w (finished before past) = reached_holds _ _ _ _ w before
+  reached_holds = reached_keeps s (AllHold P s) first_holds event_holds

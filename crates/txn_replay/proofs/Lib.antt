@@ -11,5 +11,8 @@ pub mod Uses
 pub mod Prefixes
 pub mod Folding
 pub mod Waiting
+pub mod Lanes
+pub mod Few
+pub mod Apart
 pub mod Fairness
 mod Worked

@@ -1,15 +1,16 @@
 -- What holds of every run, whatever its scenario: no counter serves two purchases, no power-up loses a decision that an
 -- answer rests on, and no transaction is booked twice (this project's own).
-use Rattle.std.specs.Prelude.{◌≡◌, ◌⊎◌, ℕ, ◌≤◌, ◌<◌, Bool, true, List, [], ◌∷◌, ◌++◌, fold, length, take, slice_get, Some, None}
+use Rattle.std.specs.Prelude.{◌≡◌, ◌≢◌, ℕ, ◌≤◌, ◌<◌, Bool, true, List, [], ◌∷◌, ◌++◌, fold, length, take, slice_get, Some, None}
 use Rattle.card_state.specs.Decisions.{Decided}
 use Rattle.host_ledger.specs.declared.key.Key.{Key}
-use Rattle.issuer_host.specs.BookedOnce.{IsBooking}
+use Rattle.host_histories.specs.BookedOnce.{IsBooking, TakesAmount}
 use Rattle.report_text.specs.declared.line.Line.{Line}
 use Rattle.scenario.specs.Plan.{ScenarioData}
+use Rattle.txn_replay.specs.Payment.{Payment, next_of}
 use Rattle.txn_replay.specs.Run.{Place, Reached, Run, all_over}
 use Rattle.txn_replay.specs.Sound.{IsSound, IsIdle, IsCalm}
 use Rattle.txn_replay.specs.Steps.{nothing, happens}
-use Rattle.txn_replay.specs.World.{Given, Act, Found, Answering, Breaking, CardRow, World}
+use Rattle.txn_replay.specs.World.{Given, Act, Found, Answering, Breaking, CardRow, World, card_at, lane_at}
 use Rattle.txn_replay.specs.declared.event.Event.TheVariants.{Turn}
 
 -- two cryptograms of one application with one transaction counter are of one purchase
@@ -50,15 +51,16 @@ pub record Finds (t : Taken) (found : List Decided) : Type 0 where
 abbrev pub Prefix : List Act → Type 0
 Prefix acts = (k : ℕ) (found : List Decided) → slice_get acts k ≡ Some (Found found) → Finds (taken_in (take k acts)) found
 
--- at most one of the messages that came to the host books a transaction
-abbrev pub BookedOnce : ScenarioData → World → Type 0
-BookedOnce s w =
-    (key : Key) (i j : ℕ) → IsBooking s.issuer s.accounts w.messages key i → IsBooking s.issuer s.accounts w.messages key j → i ≡ j
+-- at most one of the messages that came to the host books a transaction, and it is a presentment of it, whose amount
+-- the transaction takes from then on
+pub record IsBookedOnce (s : ScenarioData) (w : World) : Type 0 where
+  pub once : (key : Key) (i j : ℕ) → IsBooking s.issuer s.accounts w.messages key i → IsBooking s.issuer s.accounts w.messages key j → i ≡ j
+  pub presented : (key : Key) (place : ℕ) → IsBooking s.issuer s.accounts w.messages key place → TakesAmount s.issuer s.accounts w.messages key place
 
 pub record IsFair (s : ScenarioData) (w : World) : Type 0 where
   pub one_use : (i : ℕ) (card : CardRow) → slice_get w.cards i ≡ Some card → OneUse card.given
   pub prefix : (i : ℕ) (card : CardRow) → slice_get w.cards i ≡ Some card → Prefix card.acts
-  pub booked_once : BookedOnce s w
+  pub booked_once : IsBookedOnce s w
 
 -- of every world that a run comes to
 abbrev pub RunsAreFair : Type 0
@@ -78,6 +80,14 @@ WorldsAreSound =
 -- a lane that waits has no exchange: no line is made, and nothing changes
 abbrev pub IdleLanesStay : Type 0
 IdleLanesStay = (s : ScenarioData) (w : World) (l : ℕ) (choice : Bool) → IsIdle s w l → happens s w (Turn l) choice ≡ nothing w
+
+-- an exchange of one lane leaves every other lane, and every card but that of its purchase
+pub record LeavesOthers (s : ScenarioData) (w after : World) (l : ℕ) : Type 0 where
+  pub lanes : (k : ℕ) → k ≢ l → lane_at after k ≡ lane_at w k
+  pub cards : (i : ℕ) → ((p : Payment) → next_of s w l ≡ Some p → i ≢ p.planned.card) → card_at after i ≡ card_at w i
+
+abbrev pub LanesStayApart : Type 0
+LanesStayApart = (s : ScenarioData) (w : World) (l : ℕ) (choice : Bool) → LeavesOthers s w (happens s w (Turn l) choice).world l
 
 -- where every lane waits, every purchase is over
 abbrev pub StuckIsOver : Type 0

@@ -9,3 +9,4 @@ pub mod Reading
 pub mod Counting
 pub mod Sound
 pub mod Laws
+pub mod Bounds

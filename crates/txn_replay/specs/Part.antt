@@ -12,7 +12,7 @@ use Rattle.emv_ports.specs.Cut.{is_named}
 use Rattle.issuer_host.specs.History.{host_reply}
 use Rattle.kernel.specs.Dialogue.{dialogue}
 use Rattle.kernel.specs.Ended.{EndData}
-use Rattle.kernel.specs.Reply.{Reply, CardSaid, CardGone, HostSaid, HostSilent, Deed, ToCard, ToHost, Over}
+use Rattle.kernel.specs.Reply.{Reply, CardSaid, CardGone, from_host, Deed, ToCard, ToHost, Over}
 use Rattle.object_lists.specs.CardRead.{ReadCard}
 use Rattle.report_text.specs.declared.line.Line.{Line}
 use Rattle.scenario_lanes.specs.declared.plan.Link.{Link}
@@ -114,13 +114,9 @@ heard RequestLost reply = None
 heard ReplyLost reply = None
 heard Twice reply = Some reply
 
-abbrev pub host_said : Option (List ℕ) → Reply
-host_said None = HostSilent
-host_said (Some reply) = HostSaid reply
-
 abbrev pub host_by : Payment → List Reply → List ℕ → Part → Option (List ℕ) → Moved
 host_by p replies message part reply =
-    settled p (replies ++ host_said reply ∷ []) (record part { messages = part.messages ++ delivered p.planned.link message })
+    settled p (replies ++ from_host reply ∷ []) (record part { messages = part.messages ++ delivered p.planned.link message })
     (host_lines p.lane message reply)
 
 abbrev pub asked_host : Payment → List Reply → List ℕ → Part → Moved

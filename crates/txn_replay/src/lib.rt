@@ -2,7 +2,7 @@
 #![tactic(auto)]
 
 pub mod event;
-pub mod law;
+pub mod laws;
 
 pub use event::Event;
-pub use law::{runs_are_fair, runs_end};
+pub use laws::{lanes_are_sound, runs_are_fair, runs_end};

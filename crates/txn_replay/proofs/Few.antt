@@ -1,0 +1,217 @@
+-- How much a run comes to: purchases end one by one, and each captures at most one message.
+use Rattle.std.proofs.Common.{◌≡◌, ◌⊎◌, ℕ, zero, suc, ◌+◌, ◌*◌, ◌≤◌, ◌<◌, Bool, List, [], ◌∷◌, ◌++◌, length, map, replicate, get_or, slice_get, Option, Some, None, refl, sym, ap, ◌∙◌, subst, inl, inr, arith, length-append}
+use Rattle.std.specs.List.{flat_map, sum_by}
+use Rattle.std.specs.Prelude.{option_to_list, option_and_then, option_map}
+use Rattle.std.proofs.lemmas.List.{length-replicate}
+use Rattle.std.proofs.lemmas.Option.{slice_get_within, get_or_from_slice_get}
+use Rattle.card_files.specs.Views.{AppData}
+use Rattle.emv_dict.specs.Views.{PurchaseData}
+use Rattle.emv_dict.specs.declared.ending.Ending.{Ending}
+use Rattle.emv_dict.specs.declared.ending.Ending.TheVariants.{Approved, Declined, Terminated, CutOff}
+use Rattle.kernel.specs.Ended.{EndData}
+use Rattle.kernel.specs.Reply.{Reply}
+use Rattle.object_lists.specs.CardRead.{ReadCard}
+use Rattle.report_text.specs.declared.line.Line.{Line}
+use Rattle.scenario.specs.Cards.{CardData}
+use Rattle.scenario.specs.CardRules.{AreCards, IsCard}
+use Rattle.scenario.specs.Plan.{ScenarioData, IsScenario}
+use Rattle.scenario_lanes.specs.Plan.{LaneData, purchase_count}
+use Rattle.scenario_lanes.specs.declared.plan.Planned.{Planned}
+use Rattle.txn_replay.specs.Bounds.{purchases_in, IsFewIn, IsFew}
+use Rattle.txn_replay.specs.Part.{Part, approval, lane_ended, piece}
+use Rattle.txn_replay.specs.Payment.{Payment, payment_of, payment_on, payment_in, next_of}
+use Rattle.txn_replay.specs.Run.{Place, Reached, ended_count}
+use Rattle.txn_replay.specs.Sound.{IsSound}
+use Rattle.txn_replay.specs.Steps.{Settlement, Check, settlements, settlements_from, app_checks, card_checks, checks_from, checks, part_of, turned_by, settles, audits, happens}
+use Rattle.txn_replay.specs.World.{LaneRow, World, new_lane, first_world, lane_at}
+use Rattle.txn_replay.specs.declared.event.Event.{Event}
+use Rattle.txn_replay.specs.declared.event.Event.TheVariants.{Turn, Settle, Audit}
+use Rattle.txn_replay.proofs.Folding.{reached_keeps}
+use Rattle.txn_replay.proofs.Lanes.{piece_lane}
+use Rattle.txn_replay.proofs.Lists.{at_set, get_or-map_const}
+use Rattle.txn_replay.proofs.Waiting.{settle_lanes, audit_lanes}
+
+-- a purchase that the scenario has is one of its lane's
+inside_lane : (s : ScenarioData) (l n : ℕ) (p : Payment) → payment_in s l n ≡ Some p → n < purchases_in (slice_get s.lanes l)
+unfolding payment_in
+inside_lane s l n p is = by_lane (slice_get s.lanes l) is
+  where
+    by_planned : (lane : LaneData) (o : Option Planned) → slice_get lane.purchases n ≡ o → option_and_then (payment_of s l lane) o ≡ Some p
+        → n < length lane.purchases
+    by_planned lane None there is = cc
+    by_planned lane (Some planned) there is = slice_get_within lane.purchases n planned there
+
+    by_lane : (o : Option LaneData) → option_and_then (payment_on s l n) o ≡ Some p → n < purchases_in o
+    by_lane None is = cc
+    by_lane (Some lane) is = by_planned lane (slice_get lane.purchases n) refl is
+
+one_approval : (purchase : PurchaseData) (ending : Ending) (card : Option ReadCard) → length (approval purchase ending card) ≤ 1
+one_approval purchase (Approved online) (Some card) = omega arith
+one_approval purchase (Approved online) None = omega arith
+one_approval purchase (Declined online) card = omega arith
+one_approval purchase (Terminated step cause) card = omega arith
+one_approval purchase (CutOff step) card = omega arith
+
+one_capture : (o : Option (List ℕ)) → length (option_to_list o) ≤ 1
+one_capture None = omega arith
+one_capture (Some message) = omega arith
+
+one_ended : (s : ScenarioData) (l : ℕ) (p : Payment) (row : LaneRow) (replies : List Reply) (end : EndData) → IsFewIn s l row
+    → length row.ended < purchases_in (slice_get s.lanes l) → IsFewIn s l (lane_ended p replies end row)
+one_ended s l p row replies end few room =
+    let more : length (row.ended ++ record { replies = replies; end = end } ∷ []) ≡ length row.ended + 1 =
+    length-append row.ended (record { replies = replies; end = end } ∷ []) in
+    record {
+      captures =
+          (let both : length (row.captures ++ option_to_list end.capture) ≡ length row.captures + length (option_to_list end.capture) =
+          length-append row.captures (option_to_list end.capture) in
+          let one : length (option_to_list end.capture) ≤ 1 = one_capture end.capture in
+          let before : length row.captures ≤ length row.ended = few.captures in
+          omega arith);
+      log =
+          (let both : length (row.log ++ approval p.planned.purchase end.ending end.card) ≡ length row.log + length (approval p.planned.purchase end.ending end.card) =
+          length-append row.log (approval p.planned.purchase end.ending end.card) in
+          let one : length (approval p.planned.purchase end.ending end.card) ≤ 1 = one_approval p.planned.purchase end.ending end.card in
+          let before : length row.log ≤ length row.ended = few.log in
+          omega arith);
+      ended = omega arith;
+    }
+
+abbrev LanesFew : ScenarioData → World → Type 0
+LanesFew s w = (l : ℕ) → IsFewIn s l (lane_at w l)
+
+module _ (s : ScenarioData) where
+  turn_few : (w : World) (l : ℕ) (choice : Bool) (o : Option Payment) → next_of s w l ≡ o → LanesFew s w → LanesFew s (turned_by w l choice o).world
+  turn_few w l choice None is few = few
+  turn_few w l choice (Some p) is few =
+      at_set (IsFewIn s) w.lanes l (piece p (part_of w l p.planned.card) choice).part.lane new_lane here few
+    where
+      before : IsFewIn s l (lane_at w l)
+      before = few l
+
+      here : IsFewIn s l (piece p (part_of w l p.planned.card) choice).part.lane
+      here =
+          piece_lane (IsFewIn s l) p (part_of w l p.planned.card) before
+          (λ replies. record { captures = before.captures; log = before.log; ended = before.ended })
+          (λ replies end. one_ended s l p (lane_at w l) replies end before (inside_lane s l (length (lane_at w l).ended) p is)) choice
+
+  same_few : (w v : World) → v.lanes ≡ w.lanes → LanesFew s w → LanesFew s v
+  same_few w v same few l = subst (λ (lanes : List LaneRow). IsFewIn s l (get_or lanes l new_lane)) (sym same) (few l)
+
+  event_few : (w : World) (e : Event) (choice : Bool) → LanesFew s w → LanesFew s (happens s w e choice).world
+  event_few w (Turn l) choice few = turn_few w l choice (next_of s w l) refl few
+  event_few w (Settle k) choice few =
+      same_few w (settles s w (slice_get (settlements s w) k)).world (settle_lanes s w (slice_get (settlements s w) k)) few
+  event_few w (Audit k) choice few =
+      same_few w (audits w choice (slice_get (checks s) k)).world (audit_lanes w choice (slice_get (checks s) k)) few
+
+  first_few : LanesFew s (first_world s)
+  first_few l =
+      subst (λ (row : LaneRow). IsFewIn s l row) (sym (get_or-map_const s.lanes l new_lane))
+      (record { captures = omega arith; log = omega arith; ended = omega arith })
+
+  lanes_few : (place : Place) (n : ℕ) (choices : List Bool) (lines : List Line) (w : World) → Reached s place n choices lines w → LanesFew s w
+  lanes_few = reached_keeps s (LanesFew s) first_few event_few
+
+-- each row below its lane's purchases, and so in the sum
+sum_below : (f : LaneRow → ℕ) (rows : List LaneRow) (lanes : List LaneData) → length rows ≡ length lanes
+    → ((i : ℕ) (row : LaneRow) → slice_get rows i ≡ Some row → f row ≤ purchases_in (slice_get lanes i))
+    → sum_by f rows ≤ purchase_count lanes
+sum_below f [] [] same below = omega arith
+sum_below f [] (lane ∷ lanes) same below = omega arith
+sum_below f (row ∷ rows) [] same below = absurd (omega arith)
+sum_below f (row ∷ rows) (lane ∷ lanes) same below =
+    let first : f row ≤ length lane.purchases = below 0 row refl in
+    let others : sum_by f rows ≤ purchase_count lanes = sum_below f rows lanes (omega arith) (λ i other here. below (suc i) other here) in
+    omega arith
+
+copies_length : (copies l : ℕ) (captures : List (List ℕ))
+    → length (flat_map (λ message. replicate copies (record { lane = l; message = message })) captures) ≡ copies * length captures
+copies_length copies l [] = omega arith
+copies_length copies l (message ∷ captures) =
+    let at : Settlement = record { lane = l; message = message } in
+    let both : length (replicate copies at ++ flat_map (λ m. replicate copies (record { lane = l; message = m })) captures)
+        ≡ length (replicate copies at) + length (flat_map (λ m. replicate copies (record { lane = l; message = m })) captures) =
+    length-append (replicate copies at) (flat_map (λ m. replicate copies (record { lane = l; message = m })) captures) in
+    let one : length (replicate copies at) ≡ copies = length-replicate copies at in
+    let others : length (flat_map (λ m. replicate copies (record { lane = l; message = m })) captures) ≡ copies * length captures =
+    copies_length copies l captures in
+    omega arith
+
+settlements_length : (copies l : ℕ) (rows : List LaneRow) → length (settlements_from copies l rows) ≡ copies * sum_by (λ row. length row.captures) rows
+unfolding settlements_from
+settlements_length copies l [] = omega arith
+settlements_length copies l (row ∷ rows) =
+    let own : List Settlement = flat_map (λ message. replicate copies (record { lane = l; message = message })) row.captures in
+    let both : length (own ++ settlements_from copies (l + 1) rows) ≡ length own + length (settlements_from copies (l + 1) rows) =
+    length-append own (settlements_from copies (l + 1) rows) in
+    let one : length own ≡ copies * length row.captures = copies_length copies l row.captures in
+    let others : length (settlements_from copies (l + 1) rows) ≡ copies * sum_by (λ (x : LaneRow). length x.captures) rows =
+    settlements_length copies (l + 1) rows in
+    omega arith
+
+times_le : (c a b : ℕ) → a ≤ b → c * a ≤ c * b
+times_le c a b le = grind arith
+
+pub few_of : (s : ScenarioData) (w : World) → IsSound s w → LanesFew s w → IsFew s w
+few_of s w sound few =
+    record {
+      lanes = here;
+      ended = sum_below (λ row. length row.ended) w.lanes s.lanes sound.lane_count (λ i row there. (here i row there).ended);
+      settlements =
+          (let captured : sum_by (λ (row : LaneRow). length row.captures) w.lanes ≤ purchase_count s.lanes =
+          sum_below (λ row. length row.captures) w.lanes s.lanes sound.lane_count captures_below in
+          let all : length (settlements s w) ≡ s.copies * sum_by (λ (row : LaneRow). length row.captures) w.lanes = settlements_length s.copies 0 w.lanes in
+          let most : s.copies * sum_by (λ (row : LaneRow). length row.captures) w.lanes ≤ s.copies * purchase_count s.lanes =
+          times_le s.copies (sum_by (λ (row : LaneRow). length row.captures) w.lanes) (purchase_count s.lanes) captured in
+          omega arith);
+    }
+  where
+    here : (l : ℕ) (row : LaneRow) → slice_get w.lanes l ≡ Some row → IsFewIn s l row
+    here l row there = subst (λ (x : LaneRow). IsFewIn s l x) (get_or_from_slice_get w.lanes l row new_lane there) (few l)
+
+    captures_below : (i : ℕ) (row : LaneRow) → slice_get w.lanes i ≡ Some row → length row.captures ≤ purchases_in (slice_get s.lanes i)
+    captures_below i row there =
+        let one : IsFewIn s i row = here i row there in
+        let a : length row.captures ≤ length row.ended = one.captures in
+        let b : length row.ended ≤ purchases_in (slice_get s.lanes i) = one.ended in
+        omega arith
+
+most_of : (copies purchases n : ℕ) → copies ≤ 3 → purchases ≤ 10000 → n ≤ copies * purchases → n ≤ 30000
+most_of copies purchases n few_copies few_purchases below =
+    let most : copies * purchases ≤ 3 * 10000 = grind arith in
+    omega arith
+
+pub settlements_few : (s : ScenarioData) (w : World) → IsScenario s → IsFew s w → length (settlements s w) ≤ 30000
+settlements_few s w is few =
+    most_of s.copies (purchase_count s.lanes) (length (settlements s w)) is.tables.few_copies is.tables.few_purchases few.settlements
+
+-- The steps of an audit.
+asks_length : (i : ℕ) (card : CardData) (apps : List AppData) → length (flat_map (app_checks i card) apps) ≡ 3 * length apps
+asks_length i card [] = refl
+asks_length i card (app ∷ apps) =
+    let others : length (flat_map (app_checks i card) apps) ≡ 3 * length apps = asks_length i card apps in omega arith
+
+checks_length : (i : ℕ) (cards : List CardData) → ((k : ℕ) (card : CardData) → slice_get cards k ≡ Some card → length card.image ≤ 4)
+    → length (checks_from i cards) ≤ 13 * length cards
+unfolding checks_from
+checks_length i [] few = omega arith
+checks_length i (card ∷ cards) few =
+    let own : length (card_checks i card) ≡ 1 + 3 * length card.image = (let asks : length (flat_map (app_checks i card) card.image) ≡ 3 * length card.image =
+    asks_length i card card.image in omega arith) in
+    let both : length (card_checks i card ++ checks_from (i + 1) cards) ≡ length (card_checks i card) + length (checks_from (i + 1) cards) =
+    length-append (card_checks i card) (checks_from (i + 1) cards) in
+    let apps : length card.image ≤ 4 = few 0 card refl in
+    let others : length (checks_from (i + 1) cards) ≤ 13 * length cards = checks_length (i + 1) cards (λ k other here. few (suc k) other here) in
+    omega arith
+
+pub checks_few : (s : ScenarioData) → IsScenario s → length (checks s) ≤ 832
+checks_few s is =
+    let most : length (checks s) ≤ 13 * length s.cards = checks_length 0 s.cards apps in
+    let cards : length s.cards ≤ 64 = is.tables.cards.few in
+    omega arith
+  where
+    apps : (k : ℕ) (card : CardData) → slice_get s.cards k ≡ Some card → length card.image ≤ 4
+    apps k card here =
+        let rules : IsCard (get_or s.cards k card) = is.tables.cards.each k card (slice_get_within s.cards k card here) in
+        subst (λ (x : CardData). length x.image ≤ 4) (get_or_from_slice_get s.cards k card card here) rules.image.few

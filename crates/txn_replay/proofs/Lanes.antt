@@ -1,0 +1,52 @@
+-- What one exchange makes of its lane: it stays, runs, or has one purchase more that has ended.
+use Rattle.std.proofs.Common.{◌≡◌, ℕ, Bool, true, false, List, [], ◌∷◌, ◌++◌, Option, Some, None, refl}
+use Rattle.card_app.specs.Answering.{CardAnswer, card_answer}
+use Rattle.card_pages.specs.Cuts.{Cut, cut_of}
+use Rattle.emv_ports.specs.Cut.{is_named}
+use Rattle.kernel.specs.Dialogue.{dialogue}
+use Rattle.kernel.specs.Ended.{EndData}
+use Rattle.kernel.specs.Reply.{Reply, CardSaid, CardGone, Deed, ToCard, ToHost, Over}
+use Rattle.report_text.specs.declared.line.Line.{Line}
+use Rattle.txn_replay.specs.Part.{Part, lane_ended, settled_by, cut_ends, answered, asked, begun, begun_by, piece_by, piece}
+use Rattle.txn_replay.specs.Payment.{Payment, deal_for, end_at}
+use Rattle.txn_replay.specs.World.{Holder, CardRow, LaneRow}
+
+module _ (B : LaneRow → Type 0) (p : Payment) (part : Part) (stays : B part.lane)
+    (runs : (replies : List Reply) → B (record part.lane { running = Some replies }))
+    (ends : (replies : List Reply) (end : EndData) → B (lane_ended p replies end part.lane)) where
+  settled_lane : (replies : List Reply) (card : CardRow) (messages : List (List ℕ)) (lines : List Line) (e : Option EndData)
+      → B (settled_by p replies (record { lane = part.lane; card = card; messages = messages }) lines e).part.lane
+  settled_lane replies card messages lines None = runs replies
+  settled_lane replies card messages lines (Some end) = ends replies end
+
+  cut_lane : (replies : List Reply) (card : CardRow) (lines : List Line) (e : Option EndData)
+      → B (cut_ends p replies part (record part { card = card }) lines e).part.lane
+  cut_lane replies card lines None = stays
+  cut_lane replies card lines (Some end) = ends replies end
+
+  answer_lane : (replies : List Reply) (command : List ℕ) (said : CardAnswer) (cut : Option Cut) → B (answered p replies command part said cut).part.lane
+  answer_lane replies command said None =
+      settled_lane (replies ++ CardSaid said.answer part.lane.log ∷ []) _ part.messages _ (end_at p (replies ++ CardSaid said.answer part.lane.log ∷ []))
+  answer_lane replies command said (Some cut) = cut_lane (replies ++ CardGone ∷ []) _ _ (end_at p (replies ++ CardGone ∷ []))
+
+  ask_lane : (replies : List Reply) (deed : Deed) → B (asked p replies part deed).part.lane
+  ask_lane replies (ToCard command) =
+      answer_lane replies command (card_answer p.card.image part.card.kept part.card.session command)
+      (cut_of p.planned.tear part.card.made (card_answer p.card.image part.card.kept part.card.session command).new)
+  ask_lane replies (ToHost message) = settled_lane _ part.card _ _ _
+  ask_lane replies (Over ending) = stays
+
+  begin_lane : (choice torn_there : Bool) → B (begun_by p part choice torn_there).part.lane
+  begin_lane choice true = cut_lane (CardGone ∷ []) part.card _ (end_at p (CardGone ∷ []))
+  begin_lane choice false = settled_lane [] _ part.messages _ (end_at p [])
+
+  pub piece_lane : (choice : Bool) → B (piece p part choice).part.lane
+  piece_lane choice = by_lane part.lane.running
+    where
+      begins : (o : Option Holder) → B (begun p part choice o).part.lane
+      begins None = begin_lane choice (is_named p.planned.tear 0)
+      begins (Some h) = stays
+
+      by_lane : (o : Option (List Reply)) → B (piece_by p part choice o).part.lane
+      by_lane None = begins part.card.holder
+      by_lane (Some replies) = ask_lane replies (dialogue (deal_for p) replies).deed

@@ -1,0 +1,34 @@
+//! Laws over every run, whatever its scenario.
+ghost use Rattle.txn_replay.specs.Bounds.{WorldsAreFew, SettlementsAreFew, ChecksAreFew};
+ghost use Rattle.txn_replay.specs.Laws.{RunsAreFair, WholeRunsAreFair, WorldsAreSound, IdleLanesStay, LanesStayApart, StuckIsOver, CalmIsOver};
+
+use host_histories::transactions_are_booked_once;
+
+/// Wherever a scenario's tears cut the power: no transaction counter of an application serves the
+/// cryptograms of two purchases. Each completed power-up finds a prefix of the decisions taken, which
+/// leaves out at most the last one and none behind which an answer was made. And of the messages that came
+/// to the issuer's host at most one books a transaction, a presentment of it.
+pub fn runs_are_fair()
+    ensures reached { RunsAreFair }
+    ensures whole { WholeRunsAreFair }
+{
+    transactions_are_booked_once();
+}
+
+/// A lane runs only a purchase that has its card, and no two purchases have one card. An exchange leaves
+/// every other lane and every other card; that of a lane that waits changes nothing.
+pub fn lanes_are_sound()
+    ensures sound { WorldsAreSound }
+    ensures apart { LanesStayApart }
+    ensures idle { IdleLanesStay }
+{}
+
+/// Where every lane waits, every purchase is over, and so it is in the settlement and in the audit. A run
+/// comes to no more ended purchases, captures and steps of an audit than its scenario allows.
+pub fn runs_end()
+    ensures stuck { StuckIsOver }
+    ensures calm { CalmIsOver }
+    ensures few { WorldsAreFew }
+    ensures settlements { SettlementsAreFew }
+    ensures checks { ChecksAreFew }
+{}
