@@ -131,7 +131,7 @@ copies_length copies l [] = omega arith
 copies_length copies l (message ∷ captures) =
     let at : Settlement = record { lane = l; message = message } in
     let both : length (replicate copies at ++ flat_map (λ m. replicate copies (record { lane = l; message = m })) captures)
-        ≡ length (replicate copies at) + length (flat_map (λ m. replicate copies (record { lane = l; message = m })) captures) =
+    ≡ length (replicate copies at) + length (flat_map (λ m. replicate copies (record { lane = l; message = m })) captures) =
     length-append (replicate copies at) (flat_map (λ m. replicate copies (record { lane = l; message = m })) captures) in
     let one : length (replicate copies at) ≡ copies = length-replicate copies at in
     let others : length (flat_map (λ m. replicate copies (record { lane = l; message = m })) captures) ≡ copies * length captures =
