@@ -6,14 +6,15 @@ ghost use Rattle.issuer_host.specs.History.{HostStands};
 
 use app_cryptogram::{AcFields, ac};
 use auth_message::{Message, RequestFields, write_request};
+use ber_tlv::append;
 use card_keys::{master_key, session_ac};
 use emv_dict::Digits;
 use issuer_host::{Account, Host, HostKeys};
 use std::alloc::{AllocError, Global};
 use triple_des::Key16;
 
-/// How many accounts there are.
-const ACCOUNTS: u16 = 1000;
+/// The most accounts.
+pub const MOST_ACCOUNTS: u16 = 1000;
 
 /// US dollars.
 const CURRENCY: [u8; 2] = [0x08, 0x40];
@@ -22,7 +23,7 @@ const CURRENCY: [u8; 2] = [0x08, 0x40];
 const AC_KEY: u128 = 0x0123_4567_89ab_cdef_fedc_ba98_7654_3210;
 
 /// The keys of the issuer. The accounts have neither scripts nor PINs.
-pub fn issuer_keys() -> HostKeys {
+fn issuer_keys() -> HostKeys {
     HostKeys {
         ac: Key16::new(AC_KEY.to_be_bytes()),
         mac: Key16::new([0; 16]),
@@ -46,12 +47,13 @@ fn account_number(place: u16) -> Digits
     }
 }
 
-/// The accounts, each of which can pay for all of its requests.
-pub fn accounts(alloc: Global) -> Result<Vec<Account>, AllocError>
+/// So many accounts, each of which can pay for all of its requests.
+fn accounts(alloc: Global, count: u16) -> Result<Vec<Account>, AllocError>
+    requires { count ≤ 1000 }
     ensures { IfOk result (λ accounts. All IsAccount accounts.items) }
 {
     let mut accounts = Vec::new(alloc);
-    for place in 0..ACCOUNTS {
+    for place in 0..count {
         accounts.push(Account {
             pan: account_number(place),
             currency: CURRENCY,
@@ -106,12 +108,18 @@ fn write_card_request(place: u16, counter: u16, out: &mut Message)
     write_request(&fields, out);
 }
 
-/// Appends one request for each account.
-fn add_round(alloc: Global, counter: u16, requests: &mut Vec<Vec<u8>>) -> Result<(), AllocError>
-    requires { All (λ r. length r.items ≤ 2048) requests.old.items }
+/// Appends one request for each of so many accounts.
+fn add_round(
+    alloc: Global,
+    count: u16,
+    counter: u16,
+    requests: &mut Vec<Vec<u8>>,
+) -> Result<(), AllocError>
+    requires few { count ≤ 1000 }
+    requires short { All (λ r. length r.items ≤ 2048) requests.old.items }
     ensures { All (λ r. length r.items ≤ 2048) requests.new.items }
 {
-    for place in 0..ACCOUNTS {
+    for place in 0..count {
         let mut out = Message::new();
         write_card_request(place, counter, &mut out);
         requests.push(out.as_slice().to_vec(alloc)?)?;
@@ -119,23 +127,20 @@ fn add_round(alloc: Global, counter: u16, requests: &mut Vec<Vec<u8>>) -> Result
     Ok(())
 }
 
-/// So many requests for each account, all of the first transactions before the second ones.
-pub fn requests(alloc: Global, rounds: u16) -> Result<Vec<Vec<u8>>, AllocError>
+/// So many requests for each of so many accounts, all of the first transactions before the second ones.
+fn requests(alloc: Global, count: u16, rounds: u16) -> Result<Vec<Vec<u8>>, AllocError>
+    requires { count ≤ 1000 }
     ensures { IfOk result (λ requests. All (λ r. length r.items ≤ 2048) requests.items) }
 {
     let mut requests = Vec::new(alloc);
     for counter in 0..rounds {
-        add_round(alloc, counter, &mut requests)?;
+        add_round(alloc, count, counter, &mut requests)?;
     }
     Ok(requests)
 }
 
 /// Lets the host answer messages one after the other. `out` has the last reply.
-pub fn answer_all(
-    host: &mut Host,
-    messages: &[Vec<u8>],
-    out: &mut Message,
-) -> Result<(), AllocError>
+fn answer_all(host: &mut Host, messages: &[Vec<u8>], out: &mut Message) -> Result<(), AllocError>
     requires { All (λ m. length m.items ≤ 2048) messages.now }
     ensures { OnOk result ((before : List (List ℕ)) → HostStands host.old before → HostStands host.new (before ++ map (λ m. m.items) messages.now)) }
 {
@@ -143,4 +148,29 @@ pub fn answer_all(
         host.answer(message, out)?;
     }
     Ok(())
+}
+
+/// Makes so many requests for each of so many accounts. `out` has the last one.
+pub fn make(alloc: Global, count: u16, rounds: u16, out: &mut Message) -> Result<(), AllocError>
+    requires { count ≤ 1000 }
+{
+    let requests = requests(alloc, count, rounds)?;
+    out.clear();
+    if let Some(last) = requests.last() {
+        append(out, last);
+    }
+    Ok(())
+}
+
+/// Makes them, and lets a host answer all of them. `out` has the last reply.
+pub fn answer(alloc: Global, count: u16, rounds: u16, out: &mut Message) -> Result<(), AllocError>
+    requires { count ≤ 1000 }
+{
+    let requests = requests(alloc, count, rounds)?;
+    let accounts = accounts(alloc, count)?;
+    // The account numbers differ, so that only memory can be wanting.
+    let Ok(mut host) = Host::new(alloc, issuer_keys(), &accounts) else {
+        return Err(AllocError);
+    };
+    answer_all(&mut host, &requests, out)
 }
