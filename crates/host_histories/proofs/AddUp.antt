@@ -18,10 +18,10 @@ use Rattle.host_ledger.proofs.Sums.{own_sum, other_sum, found_again, others_agai
 use Rattle.issuer_host.specs.declared.keys.HostKeys.{HostKeys}
 use Rattle.issuer_host.specs.Account.{AccountData}
 use Rattle.issuer_host.specs.Balance.{account_of}
-use Rattle.host_histories.specs.BookedOnce.{AreApart, AddUp, BalancesAddUp}
+use Rattle.host_histories.specs.BookedOnce.{AreApart, BalancesAddUp}
 use Rattle.issuer_host.specs.Books.{Kept, Books, no_books, kept_at}
 use Rattle.issuer_host.specs.Code.{is_approved}
-use Rattle.issuer_host.specs.History.{books_with, books_from, books_of, kept_in, with_first}
+use Rattle.issuer_host.specs.History.{books_with, books_from, kept_in, with_first}
 use Rattle.issuer_host.specs.Records.{Agrees}
 use Rattle.issuer_host.specs.Reply.{request_key, present_key, reversal_key, new_request, new_present, new_reversal}
 use Rattle.issuer_host.proofs.Agreement.{with_request, with_presentment, with_reversal, held_entry, booked_entry, released_entry, request_agrees, request_declined, presentment_agrees, presentment_declined, reversal_agrees, reversal_declined}

@@ -1,11 +1,10 @@
 -- A booked transaction stays booked, with the amount of its presentment.
-use Rattle.std.proofs.Common.{◌≡◌, ℕ, ◌+◌, ◌-◌, ◌<◌, ◌≤◌, suc, Bool, true, false, cond, nat_lt, List, [], ◌∷◌, ◌++◌, take, drop, get_or, slice_get, Option, Some, None, Result, Ok, Err, refl, sym, ap, subst, ◌∙◌, arith, inl, inr, take-add}
+use Rattle.std.proofs.Common.{◌≡◌, ℕ, ◌+◌, ◌-◌, ◌<◌, ◌≤◌, suc, Bool, true, false, cond, nat_lt, List, [], ◌∷◌, ◌++◌, take, drop, get_or, Option, Some, None, Result, Ok, Err, refl, sym, ap, subst, ◌∙◌, arith, inl, inr, take-add}
 use Rattle.std.specs.Prelude.{option_map}
 use Rattle.std.proofs.lemmas.Bool.{cases_eq}
 use Rattle.std.proofs.lemmas.Bool.Decides.{nat_tests}
 use Rattle.std.proofs.lemmas.Option.{slice_get-get_or}
 use Rattle.std.proofs.Math.Seq.{take-suc}
-use Rattle.emv_dict.specs.Bcd.{number_in}
 use Rattle.auth_message.specs.Data.{PresentData}
 use Rattle.auth_message.specs.Message.{message_of}
 use Rattle.auth_message.specs.declared.fault.MessageFault.{MessageFault}
@@ -17,7 +16,7 @@ use Rattle.host_ledger.proofs.Keys.{same}
 use Rattle.issuer_host.specs.declared.keys.HostKeys.{HostKeys}
 use Rattle.issuer_host.specs.Account.{AccountData}
 use Rattle.issuer_host.specs.Balance.{is_booked}
-use Rattle.host_histories.specs.BookedOnce.{books_after, is_booked_after, IsBooking, TakesAmount, BookedOnce}
+use Rattle.host_histories.specs.BookedOnce.{books_after, IsBooking, TakesAmount, BookedOnce}
 use Rattle.issuer_host.specs.Books.{Kept, Books, no_books, kept_at, was_approved}
 use Rattle.issuer_host.specs.Code.{is_approved}
 use Rattle.issuer_host.specs.History.{books_with, books_from, books_of, kept_in, with_first}

@@ -1,5 +1,5 @@
 -- No transaction is booked twice, and a balance loses the amounts of its transactions (own).
-use Rattle.std.specs.Prelude.{◌≡◌, ℕ, ◌+◌, ◌<◌, pos, ◌-ℤ◌, Bool, true, false, List, [], ◌∷◌, length, take, slice_get, Option, Some, None, option_map, Ok}
+use Rattle.std.specs.Prelude.{◌≡◌, ℕ, ◌+◌, ◌<◌, pos, ◌-ℤ◌, Bool, true, false, List, [], ◌∷◌, length, take, slice_get, Some, None, option_map, Ok}
 use Rattle.emv_dict.specs.Bcd.{number_in}
 use Rattle.auth_message.specs.Data.{PresentData}
 use Rattle.auth_message.specs.Message.{message_of}
