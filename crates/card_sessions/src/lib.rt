@@ -47,8 +47,6 @@ pub fn turned_off<'i, P: Pages>(card: Card<'i, P>) -> P
 
 /// Turns on a card in its place, under a plan to cut the power once, or none. Behind a loss it is a card
 /// still, off.
-// Not inlined: with all that it calls it would be compiled again at each of its calls.
-#[inline(never)]
 pub fn turn_on<'i, P: Pages>(chip: &mut Chip<'i, P>, tear: Option<Tear>) -> Result<(), Gone>
     requires card { IsChipOff chip.old }
     requires tear { IsTrue (is_plan tear) }
@@ -63,8 +61,6 @@ pub fn turn_on<'i, P: Pages>(chip: &mut Chip<'i, P>, tear: Option<Tear>) -> Resu
 }
 
 /// Sends a command to a card in its place. It goes on, or is off behind a loss.
-// Not inlined: with all that it calls it would be compiled again at each of its calls.
-#[inline(never)]
 pub fn send<'i, P: Pages>(
     chip: &mut Chip<'i, P>,
     command: &[u8],
@@ -83,8 +79,6 @@ pub fn send<'i, P: Pages>(
 }
 
 /// Turns off a card in its place.
-// Not inlined: with all that it calls it would be compiled again at each of its calls.
-#[inline(never)]
 pub fn turn_off<'i, P: Pages>(chip: &mut Chip<'i, P>)
     requires card { IsChipOn chip.old }
     requires runs { is_on chip.old ≡ true }
