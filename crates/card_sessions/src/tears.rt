@@ -1,5 +1,5 @@
 //! A purchase whose power is cut at each place, and what is found behind it.
-ghost use Rattle.std.specs.Prelude.{◌≡◌, ◌+◌, ◌≤◌, Some, None, false, IsTrue};
+ghost use Rattle.std.specs.Prelude.{◌≡◌, Some, None, false, IsTrue};
 ghost use Rattle.emv_ports.specs.Cut.{is_plan};
 ghost use Rattle.card_app.specs.SeenChip.{IsChipOff};
 
@@ -115,55 +115,32 @@ fn state_found<'i, P: Pages>(chip: &mut Chip<'i, P>, tear: Option<Tear>) -> Opti
     }
 }
 
-/// Power-ups that are cut, so many of them, at one place behind another and round again.
-fn find_none<'i, P: Pages>(rt: &impl Abort, chip: &mut Chip<'i, P>, place: u8, count: u8)
-    requires card { IsChipOff chip.old }
-    requires few { place + count ≤ 255 }
-    ensures off { IsChipOff chip.new }
-{
-    if count > 0 {
-        let found = state_found(chip, Some(plan_of(place % PLACES)));
-        assert!(rt; found.is_none(), "place {place}");
-        find_none(rt, chip, place + 1, count - 1);
-    }
-}
-
-/// Power-ups with the plans from this number on, none of which cuts a power-up: each finds this state.
-fn find_again<'i, P: Pages>(rt: &impl Abort, chip: &mut Chip<'i, P>, number: u8, state: AppState)
-    requires card { IsChipOff chip.old }
-    requires number { number ≤ 117 }
-    ensures off { IsChipOff chip.new }
-{
-    if number < PLANS {
-        let found = state_found(chip, Some(plan_of(number)));
-        assert_eq!(rt; found, Some(state), "plan {number}");
-        find_again(rt, chip, number + 1, state);
-    }
-}
-
-/// A purchase that is cut by the plan of this number, a power-up with each plan, and one without a plan:
-/// first those that cut it, beginning at the place of the purchase's own cut, and then the others.
-fn try_plan<P: Pages>(rt: &impl Abort, image: &Image, pages: P, number: u8)
+/// A purchase that is cut, a power-up with another plan, and one without.
+fn try_plans<P: Pages>(rt: &impl Abort, image: &Image, pages: P, first: Tear, again: Tear)
     requires off { (P.memory pages).on ≡ false }
     requires plan { (P.memory pages).plan ≡ None }
+    requires first { IsTrue (is_plan (Some first)) }
+    requires again { IsTrue (is_plan (Some again)) }
 {
-    let first = plan_of(number);
     let mut chip = Chip::new(image, pages);
     purchase_cut(rt, &mut chip, first);
-    find_none(rt, &mut chip, number % PLACES, PLACES);
-    let spared = Some(plan_of(PLACES));
-    let state = state_found(&mut chip, spared).expect(rt, "a card that is on");
-    assert!(rt; may_be_left(first, state), "{first:?}");
-    find_again(rt, &mut chip, PLACES + 1, state);
-    let last = state_found(&mut chip, None);
-    assert_eq!(rt; last, Some(state), "{first:?}");
+    let then = state_found(&mut chip, Some(again));
+    assert_eq!(rt; then.is_none(), again.commit == 0, "{first:?}, {again:?}");
+    let last = state_found(&mut chip, None).expect(rt, "a card that is on");
+    assert!(rt; may_be_left(first, last), "{first:?}, {again:?}");
+    if let Some(state) = then {
+        assert_eq!(rt; state, last, "{first:?}, {again:?}");
+    }
 }
 
 #[test]
 fn what_is_found_is_what_the_plans_leave(rt: HostRuntime) -> Result<(), Fail> {
     let image = image_of(&rt, rt.alloc(), Variant::Online)?;
-    for number in 0..PLANS {
-        try_plan(&rt, &image, MemoryPages::blank(), number);
+    for first in 0..PLANS {
+        for again in 0..PLANS {
+            let pages = MemoryPages::blank();
+            try_plans(&rt, &image, pages, plan_of(first), plan_of(again));
+        }
     }
     Ok(())
 }
