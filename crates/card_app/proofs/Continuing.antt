@@ -10,8 +10,8 @@ use Rattle.card_state.specs.Totals.{totals}
 use Rattle.card_state.specs.declared.state.CardState.{CardState}
 use Rattle.emv_ports.specs.Memory.{Memory}
 use Rattle.emv_ports.specs.declared.tear.Tear.{Tear}
-use Rattle.card_app.specs.Answering.{reply_in, card_reply, said, response_in}
-use Rattle.card_app.specs.Replies.{ReplyData}
+use Rattle.card_app.specs.Answering.{reply_in, card_reply}
+use Rattle.card_pages.specs.Replies.{ReplyData, said, response_in}
 use Rattle.card_pages.specs.SeenKept.{KeptState, Took, Takes, CutAt, IsCut}
 use Rattle.card_app.specs.SeenCard.{CardSeen, CardOn, Answered, CutOff}
 use Rattle.card_app.specs.SeenReply.{reply_data, Leads, phase_behind}

@@ -1,3 +1,3 @@
 mod Allowing
-mod Comparing
+mod Chips
 mod Continuing

@@ -1,7 +1,6 @@
 -- What a card decides and answers to any bytes (ISO/IEC 7816-4; EMV 4.3 Book 3 section 6.5).
-use Rattle.std.specs.Prelude.{ℕ, ◌==◌, ◌&&◌, ◌||◌, not, Bool, if◌then◌else◌, List, Option, Some, None}
+use Rattle.std.specs.Prelude.{ℕ, ◌==◌, ◌&&◌, not, Bool, if◌then◌else◌, List, Option, Some, None}
 use Rattle.apdu_core.specs.Command.{CommandData, command_of}
-use Rattle.apdu_core.specs.Response.{ResponseData, response_bytes}
 use Rattle.card_files.specs.Files.{opening_of}
 use Rattle.card_files.specs.Views.{AppData}
 use Rattle.card_state.specs.Decisions.{Decided}
@@ -11,9 +10,11 @@ use Rattle.card_app.specs.Cryptograms.{generate_row, authenticate_row}
 use Rattle.card_app.specs.Files.{select_row, record_row, data_row}
 use Rattle.card_app.specs.Options.{options_of}
 use Rattle.card_app.specs.Orders.{script_row}
+use Rattle.card_cryptogram.specs.Asked.{is_class}
 use Rattle.card_cryptogram.specs.Orders.{plain_order, pin_order, limit_order}
 use Rattle.card_app.specs.Pin.{verify_of}
-use Rattle.card_app.specs.Replies.{ReplyData, refused, with_app}
+use Rattle.card_app.specs.Replies.{with_app}
+use Rattle.card_pages.specs.Replies.{ReplyData, CardAnswer, refused, said}
 use Rattle.card_app.specs.Session.{Exchange, phase_of}
 use Rattle.card_cryptogram.specs.declared.orders.Order.TheVariants.{BlockApp, UnblockApp, BlockCard}
 use Rattle.card_cryptogram.specs.declared.phase.Phase.{Phase}
@@ -44,9 +45,6 @@ verify_in image state (Done app first) body = refused 0x6985
 unfoldable pub verify_row : List AppData → CardState → Phase → CommandData → ReplyData
 verify_row image state phase c =
     if not (c.p1 == 0 && c.p2 == 0x80) then refused 0x6A86 else verify_in image state phase c.body
-
-abbrev pub is_class : ℕ → Bool
-is_class class = class == 0x00 || (class == 0x04 || (class == 0x80 || class == 0x84))
 
 -- the row of a command of a known class; an unknown instruction is refused
 unfoldable pub instruction_row : List AppData → CardState → Phase → CommandData → ReplyData
@@ -80,18 +78,6 @@ reply_in image state phase command = row_or_refusal image state phase (command_o
 -- what it decides and answers behind these decisions since it was made and this session since power-up
 unfoldable pub card_reply : List AppData → List Decided → List Exchange → List ℕ → ReplyData
 card_reply image ds session command = reply_in image (totals (opening_of image) ds) (phase_of image session) command
-
--- the answer as it is read
-abbrev pub response_in : ReplyData → ResponseData
-response_in reply = record { body = reply.body; status = reply.status }
-
--- the new decisions, and the bytes of the answer
-pub record CardAnswer : Type 0 where
-  pub new : List Decided
-  pub answer : List ℕ
-
-abbrev pub said : ReplyData → CardAnswer
-said reply = record { new = reply.new; answer = response_bytes reply.body reply.status }
 
 abbrev pub card_answer : List AppData → List Decided → List Exchange → List ℕ → CardAnswer
 card_answer image ds session command = said (card_reply image ds session command)

@@ -1,11 +1,11 @@
 -- GENERATE AC and EXTERNAL AUTHENTICATE (EMV 4.3 Book 3 sections 6.5.5 and 6.5.4).
-use Rattle.std.specs.Prelude.{ℕ, ◌==◌, ◌&&◌, not, Bool, true, false, nat_le, if◌then◌else◌, List, [], length, Option, Some, None}
+use Rattle.std.specs.Prelude.{ℕ, ◌==◌, ◌&&◌, not, Bool, true, false, if◌then◌else◌, List, [], length, Option, Some, None}
 use Rattle.std.specs.Str.{bytes_eq}
 use Rattle.apdu_core.specs.Command.{CommandData}
 use Rattle.card_cryptogram.specs.Asked.{kind_asked, has_issuer_auth, is_right, is_online}
 use Rattle.card_cryptogram.specs.Bodies.{body_of}
 use Rattle.card_cryptogram.specs.Fields.{first_given, given_from, code_given}
-use Rattle.card_cryptogram.specs.Scripts.{authenticates}
+use Rattle.card_cryptogram.specs.Scripts.{authenticates, is_authentication_size}
 use Rattle.card_cryptogram.specs.declared.fields.Given.{Given}
 use Rattle.card_files.specs.Views.{AppData}
 use Rattle.card_policy.specs.Policy.{first_kind, second_kind}
@@ -19,7 +19,8 @@ use Rattle.emv_dict.specs.Bcd.{number_in}
 use Rattle.emv_dict.specs.declared.ending.Kind.{Kind}
 use Rattle.object_lists.specs.DolEntries.{total_of}
 use Rattle.card_app.specs.OwnLists.{cdol_of}
-use Rattle.card_app.specs.Replies.{ReplyData, refused, decides, with_app}
+use Rattle.card_app.specs.Replies.{with_app}
+use Rattle.card_pages.specs.Replies.{ReplyData, refused, decides}
 use Rattle.card_cryptogram.specs.declared.phase.First.{First as FirstData}
 use Rattle.card_cryptogram.specs.declared.phase.Phase.{Phase}
 use Rattle.card_cryptogram.specs.declared.phase.Phase.TheVariants.{Idle, Selected, Started, Online, Closed, Done}
@@ -83,7 +84,7 @@ generate_row image state phase c = generate_asked image state phase (kind_asked 
 unfoldable pub authenticate_for : ℕ → FirstData → List ℕ → AppData → AppState → ReplyData
 authenticate_for app first sent_data a s =
     if not (has_issuer_auth a.aip) then refused 0x6985
-    else if not (nat_le 8 (length sent_data) && nat_le (length sent_data) 16) then refused 0x6700
+    else if not (is_authentication_size (length sent_data)) then refused 0x6700
     else if authenticates a.ac_key s.counter first.cryptogram sent_data then decides app (Authenticated true) [] 0x9000
     else decides app (Authenticated false) [] 0x6300
 

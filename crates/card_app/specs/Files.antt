@@ -8,8 +8,10 @@ use Rattle.card_files.specs.Files.{record_of, has_file}
 use Rattle.card_files.specs.Views.{AppData}
 use Rattle.card_state.specs.declared.state.AppState.{AppState}
 use Rattle.card_state.specs.declared.state.CardState.{CardState}
-use Rattle.card_app.specs.Replies.{ReplyData, refused, shows, with_app}
+use Rattle.card_app.specs.Replies.{with_app}
+use Rattle.card_pages.specs.Replies.{ReplyData, refused, shows}
 use Rattle.card_app.specs.Selection.{found}
+use Rattle.card_cryptogram.specs.Asked.{is_by_name, is_name_size, is_record_named}
 use Rattle.card_cryptogram.specs.Phases.{current}
 use Rattle.card_cryptogram.specs.declared.phase.Phase.{Phase}
 
@@ -23,8 +25,8 @@ selected_reply image state (Some app) = with_app image state app shown_for
 
 unfoldable pub select_row : List AppData → CardState → Phase → CommandData → ReplyData
 select_row image state phase c =
-    if not (c.p1 == 4 && (c.p2 == 0 || c.p2 == 2)) then refused 0x6A86
-    else if not (nat_le 1 (length c.body) && nat_le (length c.body) 16) then refused 0x6700
+    if not (is_by_name c.p1 c.p2) then refused 0x6A86
+    else if not (is_name_size (length c.body)) then refused 0x6700
     else if state.blocked then refused 0x6A81
     else selected_reply image state (found image phase c.p2 c.body)
 
@@ -41,7 +43,7 @@ record_for image (Some app) c =
 
 unfoldable pub record_row : List AppData → Phase → CommandData → ReplyData
 record_row image phase c =
-    if c.p1 == 0 || (not (c.p2 % 8 == 4) || (c.p2 / 8 == 0 || nat_lt 30 (c.p2 / 8))) then refused 0x6A86
+    if not (is_record_named c.p1 c.p2) then refused 0x6A86
     else record_for image (current phase) c
 
 -- the counter, that of the last online transaction, or the PIN tries that are left

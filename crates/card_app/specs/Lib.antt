@@ -10,3 +10,4 @@ pub mod SeenCard
 pub mod SeenReply
 pub mod Selection
 pub mod Session
+pub mod SeenChip

@@ -2,30 +2,30 @@
 use Rattle.std.specs.Prelude.{ℕ, ◌++◌, ◌==◌, ◌&&◌, not, Bool, false, nat_lt, nat_le, if◌then◌else◌, List, length, Option, Some, None}
 use Rattle.ber_tlv.specs.Direct.{sole_value}
 use Rattle.ber_tlv.specs.Left.{items_of}
-use Rattle.ber_tlv.specs.Written.{written}
 use Rattle.card_files.specs.Views.{AppData}
-use Rattle.card_policy.specs.Policy.{is_blocked}
+use Rattle.card_cryptogram.specs.Options.{options_body}
+use Rattle.card_policy.specs.Policy.{may_start}
 use Rattle.card_state.specs.declared.decision.Decision.TheVariants.{Started as TakesCounter}
 use Rattle.card_state.specs.declared.state.AppState.{AppState}
 use Rattle.card_app.specs.OwnLists.{pdol_total}
-use Rattle.card_app.specs.Replies.{ReplyData, refused, decides}
+use Rattle.card_pages.specs.Replies.{ReplyData, refused, decides}
 
 -- the data is one object 83 alone, with the data of the list
 abbrev pub is_of_size : ℕ → Option (List ℕ) → Bool
 is_of_size count None = false
 is_of_size count (Some value) = length value == count
 
--- the profile and the locator: alone in format 1, each as an object in format 2
-unfoldable pub options_body : AppData → List ℕ
-options_body a = if a.gpo_format == 1 then written 0x80 (a.aip ++ a.afl) else written 0x77 (written 0x82 a.aip ++ written 0x94 a.afl)
+-- the profile and the locator
+abbrev pub body_for : AppData → List ℕ
+body_for a = options_body a.gpo_format a.aip a.afl
 
 -- a blocked card or application starts no transaction, nor does one without a counter left, nor one whose answer
 -- does not fit
-abbrev pub may_start : AppData → AppState → Bool → Bool
-may_start a s card_blocked = not (is_blocked s card_blocked) && (nat_lt s.counter 65535 && nat_le (length (options_body a)) 256)
+abbrev pub starts : AppData → AppState → Bool → Bool
+starts a s card_blocked = may_start s card_blocked && nat_le (length (body_for a)) 256
 
 unfoldable pub options_of : Bool → ℕ → List ℕ → AppData → AppState → ReplyData
 options_of card_blocked app body a s =
     if not (is_of_size (pdol_total a.pdol) (sole_value 0x83 (items_of body))) then refused 0x6700
-    else if not (may_start a s card_blocked) then refused 0x6985
-    else decides app TakesCounter (options_body a) 0x9000
+    else if not (starts a s card_blocked) then refused 0x6985
+    else decides app TakesCounter (body_for a) 0x9000

@@ -9,7 +9,8 @@ use Rattle.card_state.specs.declared.decision.Scripted.{Scripted}
 use Rattle.card_state.specs.declared.decision.Scripted.TheVariants.{Block, Unblock, CardBlock, PinUnblock, PinChange, Count}
 use Rattle.card_state.specs.declared.state.AppState.{AppState}
 use Rattle.card_state.specs.declared.state.CardState.{CardState}
-use Rattle.card_app.specs.Replies.{ReplyData, refused, decides, with_app}
+use Rattle.card_app.specs.Replies.{with_app}
+use Rattle.card_pages.specs.Replies.{ReplyData, refused, decides}
 use Rattle.card_cryptogram.specs.Orders.{size_of, limit_to}
 use Rattle.card_cryptogram.specs.declared.orders.Order.{Order}
 use Rattle.card_cryptogram.specs.declared.orders.Order.TheVariants.{BlockApp, UnblockApp, BlockCard, UnblockPin, ChangePin, LimitCount, LimitSum}

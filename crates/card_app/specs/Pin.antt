@@ -1,21 +1,10 @@
 -- VERIFY with a plain PIN block (EMV 4.3 Book 3 section 6.5.12): the try is decided before the comparison.
-use Rattle.std.specs.Prelude.{ℕ, ◌+◌, ◌-◌, ◌==◌, not, Bool, if◌then◌else◌, List, [], ◌∷◌, length, replicate}
+use Rattle.std.specs.Prelude.{ℕ, ◌==◌, not, if◌then◌else◌, List, length}
 use Rattle.std.specs.Str.{bytes_eq}
 use Rattle.card_files.specs.Views.{AppData}
-use Rattle.card_state.specs.declared.decision.Decision.TheVariants.{PinTry, PinRight}
 use Rattle.card_state.specs.declared.state.AppState.{AppState}
-use Rattle.card_app.specs.Replies.{ReplyData, refused}
-
--- a right PIN restores the tries; a wrong one is answered with the tries that are left
-abbrev pub compared : ℕ → ℕ → ℕ → Bool → ReplyData
-compared app limit tries right =
-    if right
-    then record { new = record { app = app; decision = PinTry } ∷ record { app = app; decision = PinRight limit } ∷ []; body = []; status = 0x9000 }
-    else record { new = record { app = app; decision = PinTry } ∷ []; body = []; status = 0x63C0 + (tries - 1) }
-
--- no PIN is eight zero bytes
-abbrev pub has_pin : AppState → Bool
-has_pin s = not (bytes_eq s.pin (replicate 8 0))
+use Rattle.card_pages.specs.Comparing.{compared, has_pin}
+use Rattle.card_pages.specs.Replies.{ReplyData, refused}
 
 unfoldable pub verify_of : ℕ → List ℕ → AppData → AppState → ReplyData
 verify_of app block a s =

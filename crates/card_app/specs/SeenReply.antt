@@ -1,27 +1,17 @@
 -- What a contract sees of a reply that is not carried out yet.
-use Rattle.std.specs.Prelude.{◌≡◌, ℕ, ◌<◌, List, length, slice_get, Bool, Option, Some, IfSome}
-use Rattle.std.specs.Str.{bytes_eq}
+use Rattle.std.specs.Prelude.{◌≡◌, ℕ, ◌<◌, List, length, slice_get, Option, Some, IfSome}
 use Rattle.apdu_core.specs.Command.{CommandData}
 use Rattle.card_files.specs.Views.{AppData}
+use Rattle.card_pages.specs.Comparing.{MayCompare, comparison_reply}
+use Rattle.card_pages.specs.Replies.{ReplyData, shows, decides}
 use Rattle.card_pages.specs.SeenKept.{MayTake}
-use Rattle.card_state.specs.declared.decision.Decision.TheVariants.{PinTry}
 use Rattle.card_state.specs.declared.state.AppState.{AppState}
 use Rattle.card_state.specs.declared.state.CardState.{CardState}
-use Rattle.card_app.specs.Pin.{compared}
-use Rattle.card_app.specs.Replies.{ReplyData, shows, decides}
 use Rattle.card_cryptogram.specs.Phases.{current}
 use Rattle.card_app.specs.Session.{after_said, next_phase}
 use Rattle.card_cryptogram.specs.declared.phase.Phase.{Phase}
-use Rattle.card_app.specs.declared.reply.Comparison.{Comparison}
 use Rattle.card_app.specs.declared.reply.Reply.{Reply}
 use Rattle.card_app.specs.declared.reply.Reply.TheVariants.{Plain, Decides, Compares}
-
--- whether the block is the PIN
-abbrev pub is_equal : Comparison → Bool
-is_equal k = bytes_eq k.block k.pin
-
-abbrev pub comparison_reply : Comparison → ReplyData
-comparison_reply k = compared k.app k.limit k.tries (is_equal k)
 
 -- what a reply with this body decides and answers
 abbrev pub reply_data : List ℕ → Reply → ReplyData
@@ -44,12 +34,6 @@ phase_behind phase (Compares k) = phase
 -- the phase names an application that is there
 abbrev pub IsAt : Phase → ℕ → Type 0
 IsAt phase count = IfSome (current phase) (λ app. app < count)
-
--- an application that is there, and that has this PIN and so many tries left
-pub record MayCompare (state : CardState) (k : Comparison) : Type 0 where
-  pub app : k.app < length state.apps.items
-  pub allowed : MayTake state k.app PinTry
-  pub size : length k.block ≡ 8
 
 -- the card may carry the reply out
 abbrev pub MayReply : CardState → Reply → Type 0

@@ -15,16 +15,10 @@ use crate::selection::select;
 use crate::verify::verify;
 use apdu_core::status::{CLASS_NOT_SUPPORTED, INSTRUCTION_NOT_SUPPORTED, WRONG_LENGTH};
 use apdu_core::{Command, read_command};
-use card_cryptogram::{Body, Order, Phase, limit_order, pin_order, plain_order};
+use card_cryptogram::Order::{BlockApp, BlockCard, UnblockApp};
+use card_cryptogram::{Body, Phase, is_class, limit_order, pin_order, plain_order};
 use card_files::Image;
 use card_state::CardState;
-
-/// Whether the class is one that a card knows.
-fn is_class(class: u8) -> bool
-    ensures { result ≡ spec.is_class class }
-{
-    class == 0x00 || class == 0x04 || class == 0x80 || class == 0x84
-}
 
 /// The reply to a command of a class that a card knows, by its row.
 #[tactic(auto, unfolding(crate::specs::Answering::instruction_row, crate::specs::Session::next_phase))]
@@ -51,27 +45,15 @@ fn answer_instruction(
         (0x80, 0xca) => refused(phase, get_data(image, state, phase, command, out)),
         (0x80, 0xae) => generate(image, state, phase, command, out),
         (0x00, 0x82) => authenticate(image, state, phase, command),
-        (0x84, 0x1e) => script(
-            image,
-            state,
-            phase,
-            plain_order(Order::BlockApp, p1, p2),
-            command,
-        ),
+        (0x84, 0x1e) => script(image, state, phase, plain_order(BlockApp, p1, p2), command),
         (0x84, 0x18) => script(
             image,
             state,
             phase,
-            plain_order(Order::UnblockApp, p1, p2),
+            plain_order(UnblockApp, p1, p2),
             command,
         ),
-        (0x84, 0x16) => script(
-            image,
-            state,
-            phase,
-            plain_order(Order::BlockCard, p1, p2),
-            command,
-        ),
+        (0x84, 0x16) => script(image, state, phase, plain_order(BlockCard, p1, p2), command),
         (0x84, 0x24) => script(image, state, phase, pin_order(p1, p2), command),
         (0x04, 0xda) => script(image, state, phase, limit_order(p1, p2), command),
         _ => refused(phase, INSTRUCTION_NOT_SUPPORTED),

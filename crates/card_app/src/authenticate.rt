@@ -11,16 +11,9 @@ use apdu_core::Command;
 use apdu_core::status::{
     AUTHENTICATION_FAILED, CONDITIONS_NOT_SATISFIED, NO_ERROR, WRONG_LENGTH, WRONG_PARAMETERS,
 };
-use card_cryptogram::{First, Phase, authenticates, has_issuer_auth};
+use card_cryptogram::{First, Phase, authenticates, has_issuer_auth, is_authentication_size};
 use card_files::{AppImage, Image};
 use card_state::{AppState, CardState, Decision};
-
-/// Whether the issuer authentication data has 8 to 16 bytes.
-fn is_size(size: usize) -> bool
-    ensures { result ≡ (nat_le 8 size && nat_le size 16) }
-{
-    8 <= size && size <= 16
-}
 
 /// The status of an issuer authentication.
 fn status_of(right: bool) -> u16
@@ -49,7 +42,7 @@ fn judge(app: &AppImage, state: &AppState, number: u8, first: First, command: &C
     if !has_issuer_auth(app.aip) {
         return refused(phase, CONDITIONS_NOT_SATISFIED);
     }
-    if !is_size(command.body.len()) {
+    if !is_authentication_size(command.body.len()) {
         return refused(phase, WRONG_LENGTH);
     }
     let right = authenticates(&app.ac_key, state.counter, first.cryptogram, command.body);

@@ -1,5 +1,5 @@
 //! The card as its terminal meets it.
-ghost use Rattle.std.specs.Prelude.{◌≡◌, ◌+◌, ◌-◌, ◌++◌, ◌∷◌, ℕ, List, [], Bool, Option, Some, None, length, true, false, IfOk, IfErr, OnOk, OnErr};
+ghost use Rattle.std.specs.Prelude.{◌≡◌, ◌++◌, ℕ, List, [], Bool, Option, Some, None, length, true, false, IfOk, IfErr, OnOk, OnErr};
 ghost use Rattle.card_files.specs.Files.{opening_of};
 ghost use Rattle.card_state.specs.Allowed.{Allowed};
 ghost use Rattle.card_state.specs.Decisions.{Decided};
@@ -8,22 +8,22 @@ ghost use Rattle.emv_ports.specs.Cut.{is_named};
 ghost use Rattle.emv_ports.specs.Memory.{powered_off};
 ghost use Rattle.emv_ports.specs.declared.tear.Tear.{Tear};
 ghost use Rattle.torn_store.specs.Store.{IsGone};
-ghost use Rattle.apdu_core.specs.Response.{response_bytes, response_of};
-ghost use Rattle.card_app.specs.Answering.{card_answer, said, response_in};
+ghost use Rattle.apdu_core.specs.Response.{response_of};
+ghost use Rattle.card_app.specs.Answering.{card_answer};
 ghost use Rattle.card_pages.specs.Pages.{StandsFor, MayStand, found_of};
+ghost use Rattle.card_pages.specs.Replies.{said, response_in};
 ghost use Rattle.card_pages.specs.SeenKept.{Takes, IsCut};
 ghost use Rattle.card_app.specs.SeenCard.{CardOn, Answered, CutOff};
-ghost use Rattle.card_app.specs.SeenReply.{MayReply, MayCompare, IsAt, reply_data, comparison_reply, is_equal, phase_behind};
+ghost use Rattle.card_app.specs.SeenReply.{MayReply, IsAt, reply_data, phase_behind};
 ghost use Rattle.card_app.specs.Session.{Exchange};
 
 use crate::answering::answer;
-use crate::reply::{Comparison, Reply};
-use apdu_core::status::NO_ERROR;
-use apdu_core::{Answer, Response, write_response};
+use crate::reply::Reply;
+use apdu_core::Answer;
 use card_cryptogram::{Body, Phase};
 use card_files::Image;
-use card_pages::{Kept, format};
-use card_state::{CardState, Decision};
+use card_pages::{Kept, compare, format, respond};
+use card_state::CardState;
 use emv_ports::Pages;
 use std::marker::Model;
 use torn_store::Lost;
@@ -208,62 +208,4 @@ fn carry_out<P: Pages>(
             Err(lost) => Err(lost),
         },
     }
-}
-
-/// Writes the answer of this body and status.
-fn respond(body: &Body, status: u16, out: &mut Answer)
-    ensures written { out.new.items ≡ response_bytes body.now.items status }
-    ensures read_again { response_of out.new.items ≡ Some (record { body = body.now.items; status = status }) }
-{
-    let response = Response {
-        body: body.as_slice(),
-        status,
-    };
-    write_response(&response, out);
-}
-
-/// Takes a PIN try, and only then compares: a right PIN is one more decision.
-fn compare<P: Pages>(kept: Kept<P>, with: &Comparison, out: &mut Answer) -> Result<Kept<P>, Lost<P>>
-    requires may { MayCompare kept.state with.now }
-    ensures takes { IfOk result (λ next. Takes kept next (comparison_reply with.now).new) }
-    ensures losses { IfOk result (λ next. next.memory.losses ≡ kept.memory.losses) }
-    ensures apps { IfOk result (λ next. length next.state.apps.items ≡ length kept.state.apps.items) }
-    ensures said { OnOk result (out.new.items ≡ (said (comparison_reply with.now)).answer) }
-    ensures read_again { OnOk result (response_of out.new.items ≡ Some (response_in (comparison_reply with.now))) }
-    ensures cut { IfErr result (λ lost. IsCut kept (P.memory lost.pages) (comparison_reply with.now).new) }
-    ensures gone { IfErr result (λ lost. IsGone kept.memory (P.memory lost.pages)) }
-    ensures silent { OnErr result (out.new.items ≡ []) }
-{
-    out.clear();
-    let kept = match kept.decide(with.app, &Decision::PinTry) {
-        Ok(kept) => kept,
-        Err(lost) => return Err(lost),
-    };
-    let body = Body::new();
-    if !is_right(with) {
-        respond(&body, tries_left(with.tries), out);
-        return Ok(kept);
-    }
-    let right = Decision::PinRight { limit: with.limit };
-    match kept.decide(with.app, &right) {
-        Ok(kept) => {
-            respond(&body, NO_ERROR, out);
-            Ok(kept)
-        }
-        Err(lost) => Err(lost),
-    }
-}
-
-/// Whether the block that came is the PIN's.
-fn is_right(with: &Comparison) -> bool
-    ensures { result ≡ is_equal with.now }
-{
-    with.block == with.pin
-}
-
-/// The status of a wrong PIN, which gives the tries that are left: one fewer than before.
-fn tries_left(before: u8) -> u16
-    ensures { result ≡ 0x63C0 + (before - 1) }
-{
-    0x63c0 + u16::from(before.saturating_sub(1))
 }

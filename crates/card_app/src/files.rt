@@ -3,7 +3,8 @@ ghost use Rattle.std.specs.Prelude.{◌≡◌, ◌/◌, ◌%◌, ◌<◌, ◌≤
 ghost use Rattle.apdu_core.specs.Seen.{seen_command};
 ghost use Rattle.card_files.specs.Files as files;
 ghost use Rattle.card_app.specs.Files as spec;
-ghost use Rattle.card_app.specs.Replies.{shows, with_app};
+ghost use Rattle.card_app.specs.Replies.{with_app};
+ghost use Rattle.card_pages.specs.Replies.{shows};
 ghost use Rattle.card_app.specs.SeenReply.{IsAt};
 
 use crate::apps::{app_at, state_at};
@@ -13,16 +14,9 @@ use apdu_core::status::{
     WRONG_LENGTH, WRONG_PARAMETERS,
 };
 use ber_tlv::Tag;
-use card_cryptogram::{Body, Phase, put};
+use card_cryptogram::{Body, Phase, is_record_named, put, replace};
 use card_files::{AppImage, Image};
 use card_state::{AppState, CardState};
-
-/// Whether P1 is a record's number, and P2 names a file by its identifier from 1 to 30.
-fn is_record_named(p1: u8, p2: u8) -> bool
-    ensures { not result ≡ ((p1 == 0) || (not (p2 % 8 == 4) || ((p2 / 8 == 0) || nat_lt 30 (p2 / 8)))) }
-{
-    p1 != 0 && (p2 % 8 == 4 && (p2 / 8 != 0 && p2 / 8 <= 30))
-}
 
 /// READ RECORD: the record P1 of a file of the selected application. Gives the status; the record goes
 /// to `out`.
@@ -50,22 +44,11 @@ fn give_record(image: &Image, app: u8, sfi: u8, number: u8, out: &mut Body) -> u
 {
     match image.record(app, sfi, number) {
         Some(bytes) => {
-            copy(bytes, out);
+            replace(bytes, out);
             NO_ERROR
         }
         None if image.has_file(app, sfi) => RECORD_NOT_FOUND,
         None => FILE_NOT_FOUND,
-    }
-}
-
-/// Replaces `out` by these bytes.
-fn copy(bytes: &[u8], out: &mut Body)
-    requires { length bytes.now ≤ 256 }
-    ensures { out.new.items ≡ bytes.now }
-{
-    out.clear();
-    if out.try_extend_from_slice(bytes).is_err() {
-        unreachable!();
     }
 }
 

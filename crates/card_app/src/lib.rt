@@ -8,6 +8,7 @@ mod answering;
 mod apps;
 mod authenticate;
 mod card;
+mod chip;
 mod files;
 mod generate;
 mod options;
@@ -19,3 +20,4 @@ mod verify;
 
 pub use card::{Card, personalise};
 pub use card_cryptogram::{First, Given, Phase};
+pub use chip::Chip;

@@ -3,22 +3,8 @@ ghost use Rattle.std.specs.Prelude.{◌≡◌};
 ghost use Rattle.card_app.specs.declared.reply.Reply.TheVariants.{Plain};
 
 use card_cryptogram::Phase;
+use card_pages::Comparison;
 use card_state::Decision;
-
-/// A PIN block to compare, behind one more PIN try.
-#[derive(Clone, Copy, PartialEq, Eq, Debug)]
-pub(crate) struct Comparison {
-    /// The application.
-    pub app: u8,
-    /// The block that came.
-    pub block: [u8; 8],
-    /// The block of the application's PIN.
-    pub pin: [u8; 8],
-    /// The tries that a right PIN restores.
-    pub limit: u8,
-    /// The tries that are left before this one.
-    pub tries: u8,
-}
 
 /// What a card is to decide and to answer; the body of the answer stands elsewhere. `phase` is the
 /// phase behind the answer.

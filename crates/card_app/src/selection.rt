@@ -3,7 +3,8 @@ ghost use Rattle.std.specs.Prelude.{◌≡◌, ◌⊎◌, ◌+◌, ◌<◌, ◌�
 ghost use Rattle.std.specs.Option.{option_map};
 ghost use Rattle.apdu_core.specs.Seen.{seen_command};
 ghost use Rattle.card_app.specs.Files as files_spec;
-ghost use Rattle.card_app.specs.Replies.{shows, with_app};
+ghost use Rattle.card_app.specs.Replies.{with_app};
+ghost use Rattle.card_pages.specs.Replies.{shows};
 ghost use Rattle.card_app.specs.SeenReply.{reply_data, Leads, MayReply, IsAt};
 ghost use Rattle.card_app.specs.Selection as spec;
 
@@ -14,14 +15,9 @@ use apdu_core::status::{
     FILE_INVALIDATED, FILE_NOT_FOUND, FUNCTION_NOT_SUPPORTED, NO_ERROR, WRONG_LENGTH,
     WRONG_PARAMETERS,
 };
-use card_cryptogram::{Body, Phase};
+use card_cryptogram::{Body, NEXT_OCCURRENCE, Phase, is_by_name, is_name_size};
 use card_files::{AppImage, Image};
 use card_state::CardState;
-
-/// P2 of the first occurrence, and of the next one.
-const FIRST: u8 = 0x00;
-
-const NEXT: u8 = 0x02;
 
 /// The first application whose name begins with these bytes, where the first one has this number.
 #[tactic(auto, unfolding(crate::specs::Selection::first_named))]
@@ -48,7 +44,7 @@ fn looks_from(phase: Phase, p2: u8, count: usize) -> u8
     ensures number { result ≡ spec.looks_from phase p2 }
     ensures within { result ≤ count }
 {
-    if p2 != NEXT {
+    if p2 != NEXT_OCCURRENCE {
         return 0;
     }
     match phase.current() {
@@ -81,20 +77,6 @@ fn show(image: &Image, state: &CardState, app: u8, out: &mut Body) -> u16
     } else {
         NO_ERROR
     }
-}
-
-/// Whether P1 P2 ask for an application by its name, the first or the next occurrence.
-fn is_by_name(p1: u8, p2: u8) -> bool
-    ensures { result ≡ ((p1 == 4) && ((p2 == 0) || (p2 == 2))) }
-{
-    p1 == 0x04 && (p2 == FIRST || p2 == NEXT)
-}
-
-/// Whether so many bytes may be the name or its beginning.
-fn is_name_size(size: usize) -> bool
-    ensures { result ≡ (nat_le 1 size && nat_le size 16) }
-{
-    1 <= size && size <= 16
 }
 
 /// SELECT: the first application whose name begins with the data, or the next one behind the selected

@@ -7,35 +7,19 @@ ghost use Rattle.card_app.specs.Pin as spec;
 ghost use Rattle.card_cryptogram.specs.declared.phase.Phase.TheVariants.{Started};
 
 use crate::apps::{app_at, state_at};
-use crate::reply::{Comparison, Reply, refused};
+use crate::reply::{Reply, refused};
 use apdu_core::Command;
 use apdu_core::status::{
     AUTHENTICATION_BLOCKED, CONDITIONS_NOT_SATISFIED, DATA_NOT_FOUND, WRONG_LENGTH,
     WRONG_PARAMETERS,
 };
-use card_cryptogram::Phase;
+use card_cryptogram::{Phase, block_of};
 use card_files::{AppImage, Image};
+use card_pages::{Comparison, has_pin};
 use card_state::{AppState, CardState};
 
 /// P2 of a plain PIN block.
 const PLAIN: u8 = 0x80;
-
-/// Whether the application has a PIN: its block isn't eight zero bytes.
-fn has_pin(state: &AppState) -> bool
-    ensures { result ≡ spec.has_pin state.now }
-{
-    state.pin != [0; 8]
-}
-
-/// Eight bytes as a block.
-fn block_of(bytes: &[u8]) -> [u8; 8]
-    requires { length bytes.now ≡ 8 }
-    ensures { result ≡ bytes.now }
-{
-    let mut block = [0; 8];
-    block.copy_from_slice(bytes);
-    block
-}
 
 /// The comparison that the application's PIN wants.
 #[tactic(auto, unfolding(crate::specs::Pin::verify_of, crate::specs::Session::next_phase))]

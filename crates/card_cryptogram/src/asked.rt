@@ -1,4 +1,4 @@
-//! What GENERATE AC asks for, and the phase behind its answer.
+//! What a command asks for by P1 and P2, and the phase behind a first cryptogram.
 ghost use Rattle.std.specs.Prelude.{◌≡◌, ◌==◌, length, Some, None, IsTrue, if◌then◌else◌};
 ghost use Rattle.object_lists.specs.DolEntries.{total_of};
 ghost use Rattle.card_cryptogram.specs.Asked as spec;
@@ -7,6 +7,40 @@ ghost use Rattle.card_cryptogram.specs.declared.phase.Phase.TheVariants.{Online,
 use crate::phase::{First, Phase};
 use emv_dict::Kind;
 use object_lists::{Dol, total};
+
+/// Whether the class is one that a card knows: of interindustry and of proprietary commands, each without
+/// and with secure messaging (EMV 4.3 Book 3 section 6.3.2).
+pub fn is_class(class: u8) -> bool
+    ensures { result ≡ spec.is_class class }
+{
+    class == 0x00 || class == 0x04 || class == 0x80 || class == 0x84
+}
+
+/// P2 of a SELECT of the next occurrence.
+pub const NEXT_OCCURRENCE: u8 = 0x02;
+
+/// Whether P1 P2 of SELECT ask for an application by its name, the first or the next occurrence (EMV 4.3
+/// Book 1 section 11.3.2).
+pub fn is_by_name(p1: u8, p2: u8) -> bool
+    ensures { result ≡ spec.is_by_name p1 p2 }
+{
+    p1 == 0x04 && (p2 == 0x00 || p2 == NEXT_OCCURRENCE)
+}
+
+/// Whether so many bytes may be an application's name or its beginning: from 1 to 16.
+pub fn is_name_size(size: usize) -> bool
+    ensures { result ≡ spec.is_name_size size }
+{
+    1 <= size && size <= 16
+}
+
+/// Whether P1 of READ RECORD is a record's number, and P2 names a file by its identifier from 1 to 30
+/// (EMV 4.3 Book 3 section 6.5.11).
+pub fn is_record_named(p1: u8, p2: u8) -> bool
+    ensures { result ≡ spec.is_record_named p1 p2 }
+{
+    p1 != 0 && (p2 % 8 == 4 && (p2 / 8 != 0 && p2 / 8 <= 30))
+}
 
 /// The kind that P1 asks for with its two high bits, the others and P2 zero.
 pub fn kind_asked(p1: u8, p2: u8) -> Option<Kind>

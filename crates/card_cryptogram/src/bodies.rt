@@ -62,6 +62,17 @@ pub fn put<const N: usize>(out: &mut ArrayVec<u8, N>, tag: Tag, value: &[u8])
     }
 }
 
+/// Replaces `out` by these bytes.
+pub fn replace(bytes: &[u8], out: &mut Body)
+    requires { length bytes.now ≤ 256 }
+    ensures { out.new.items ≡ bytes.now }
+{
+    out.clear();
+    if out.try_extend_from_slice(bytes).is_err() {
+        unreachable!();
+    }
+}
+
 /// Appends bytes for which there is room.
 fn append<const N: usize>(out: &mut ArrayVec<u8, N>, part: &[u8])
     requires { array_vec_len out.old + length part.now ≤ N }

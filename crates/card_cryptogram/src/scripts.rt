@@ -7,7 +7,7 @@ use card_keys::{session_ac, session_script};
 use triple_des::Key16;
 
 /// Eight bytes as a block.
-fn block_of(bytes: &[u8]) -> [u8; 8]
+pub fn block_of(bytes: &[u8]) -> [u8; 8]
     requires { length bytes.now ≡ 8 }
     ensures { result ≡ bytes.now }
 {
@@ -37,6 +37,14 @@ pub fn block_in(key: &Key16, first: [u8; 8], body: &[u8]) -> [u8; 8]
     ensures { result ≡ spec.block_in key.now first body.now }
 {
     session_script(key, first).decipher(block_of(&body[..8]))
+}
+
+/// Whether the data of EXTERNAL AUTHENTICATE may have so many bytes: the response cryptogram, and at
+/// most 8 of the issuer's own.
+pub fn is_authentication_size(size: usize) -> bool
+    ensures { result ≡ spec.is_authentication_size size }
+{
+    8 <= size && size <= 16
 }
 
 /// Whether the data of EXTERNAL AUTHENTICATE authenticates the issuer (EMV 4.3 Book 2 section 8.2.1):

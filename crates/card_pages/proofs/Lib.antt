@@ -1,3 +1,4 @@
+mod ComparingLemmas
 mod PowerUps
 mod Stands
 pub mod Steps

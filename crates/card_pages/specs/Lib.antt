@@ -1,3 +1,5 @@
 pub mod Cuts
 pub mod Pages
 pub mod SeenKept
+pub mod Replies
+pub mod Comparing

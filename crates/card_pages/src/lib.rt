@@ -3,6 +3,8 @@
 //! pending decision more.
 #![tactic(auto)]
 
+mod comparing;
 mod kept;
 
+pub use comparing::{Comparison, compare, has_pin, respond};
 pub use kept::{Kept, format};

@@ -1,6 +1,6 @@
 -- What a card answers to GENERATE AC (this project's own policy; EMV 4.3 Book 3 section 10.8 leaves
 -- card risk management to the issuer).
-use Rattle.std.specs.Prelude.{◌≡◌, ℕ, ◌+◌, List, [], ◌∷◌, Bool, true, false, not, ◌&&◌, ◌||◌, nat_le, if◌then◌else◌}
+use Rattle.std.specs.Prelude.{◌≡◌, ℕ, ◌+◌, List, [], ◌∷◌, Bool, true, false, not, ◌&&◌, ◌||◌, nat_le, nat_lt, if◌then◌else◌}
 use Rattle.std.specs.Str.{bytes_eq}
 use Rattle.emv_dict.specs.declared.ending.Kind.{Kind}
 use Rattle.emv_dict.specs.declared.ending.Kind.TheVariants.{Aac, Tc, Arqc}
@@ -12,6 +12,10 @@ use Rattle.card_state.specs.declared.state.AppState.{AppState}
 -- the card or the application is blocked
 abbrev pub is_blocked : AppState → Bool → Bool
 is_blocked state card_blocked = card_blocked || state.blocked
+
+-- a transaction may start: a counter is left
+abbrev pub may_start : AppState → Bool → Bool
+may_start state card_blocked = not (is_blocked state card_blocked) && nat_lt state.counter 65535
 
 -- one more offline approval of this amount is within both limits
 abbrev pub is_within_limits : AppState → ℕ → Bool

@@ -7,7 +7,7 @@ ghost use Rattle.emv_dict.specs.declared.ending.Kind.TheVariants.{Aac, Tc, Arqc}
 ghost use Rattle.emv_dict.specs.Kinds.{is_above};
 ghost use Rattle.card_state.specs.Change.{MayDecide};
 ghost use Rattle.card_state.specs.declared.decision.How.TheVariants.{Authenticated as ByIssuer, Offline};
-ghost use Rattle.card_state.specs.declared.decision.Decision.TheVariants.{First, Second};
+ghost use Rattle.card_state.specs.declared.decision.Decision.TheVariants.{Started, First, Second};
 ghost use Rattle.card_policy.specs.Policy as spec;
 ghost use Rattle.card_policy.specs.Policy.{ApprovesAlone, decline_of, first_kind, second_kind};
 
@@ -17,6 +17,15 @@ use emv_dict::Kind;
 /// The authorisation response code of a terminal that was unable to go online and would approve (EMV
 /// 4.3 Book 4 Annex A6).
 pub const UNABLE_TO_GO_ONLINE: [u8; 2] = *b"Y3";
+
+/// Whether a transaction may start: neither the card nor the application is blocked, and a transaction
+/// counter is left.
+pub fn may_start(state: &AppState, card_blocked: bool) -> bool
+    ensures exact { result ≡ spec.may_start state.now card_blocked }
+    ensures allowed { IsTrue result → MayDecide state.now Started }
+{
+    !(card_blocked || state.blocked) && state.counter < u16::MAX
+}
 
 /// The kind of the first cryptogram where `asked` is asked for, in this state of the application: never
 /// above it. A blocked card or application declines. `same_currency` tells whether the purchase is in

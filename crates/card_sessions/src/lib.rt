@@ -1,14 +1,19 @@
-//! Cards that are turned on and off again and again: what holds of the pages of a card from one session
-//! to the next. The sessions of whole cards that are tried stand in the tests.
+//! Cards that are turned on and off again and again: what holds of a card from one session to the next,
+//! and how far it has come in one. The sessions of whole cards that are tried stand in the tests.
 #![tactic(auto)]
 
-ghost use Rattle.std.specs.Prelude.{◌≡◌, IfOk, IfErr, IsTrue};
+ghost use Rattle.std.specs.Prelude.{◌≡◌, true, IfOk, IfErr, OnOk, OnErr, IsTrue};
 ghost use Rattle.emv_ports.specs.Cut.{is_plan};
 ghost use Rattle.card_app.specs.SeenCard.{IsRunning, IsCardOff};
+ghost use Rattle.card_app.specs.SeenChip.{IsChipOn, IsChipOff, is_on};
 
-use card_app::Card;
+mod law;
+
+use apdu_core::Answer;
+use card_app::{Card, Chip};
 use card_files::Image;
-use emv_ports::{Pages, Tear};
+use emv_ports::{Gone, Pages, Tear};
+pub use law::phases_are_told;
 use torn_store::Lost;
 
 /// Turns on pages of a card of this image, under a plan to cut the power once, or none. Behind a loss
@@ -40,5 +45,53 @@ pub fn turned_off<'i, P: Pages>(card: Card<'i, P>) -> P
     card.power_off()
 }
 
+/// Turns on a card in its place, under a plan to cut the power once, or none. Behind a loss it is a card
+/// still, off.
+pub fn turn_on<'i, P: Pages>(chip: &mut Chip<'i, P>, tear: Option<Tear>) -> Result<(), Gone>
+    requires card { IsChipOff chip.old }
+    requires tear { IsTrue (is_plan tear) }
+    ensures on { OnOk result (IsChipOn chip.new) }
+    ensures runs { OnOk result (is_on chip.new ≡ true) }
+    ensures off { OnErr result (IsChipOff chip.new) }
+{
+    match chip.power_up(tear) {
+        Ok(()) => Ok(()),
+        Err(gone) => Err(gone),
+    }
+}
+
+/// Sends a command to a card in its place. It goes on, or is off behind a loss.
+pub fn send<'i, P: Pages>(
+    chip: &mut Chip<'i, P>,
+    command: &[u8],
+    out: &mut Answer,
+) -> Result<(), Gone>
+    requires card { IsChipOn chip.old }
+    requires runs { is_on chip.old ≡ true }
+    ensures on { OnOk result (IsChipOn chip.new) }
+    ensures runs { OnOk result (is_on chip.new ≡ true) }
+    ensures off { OnErr result (IsChipOff chip.new) }
+{
+    match chip.process(command, out) {
+        Ok(()) => Ok(()),
+        Err(gone) => Err(gone),
+    }
+}
+
+/// Turns off a card in its place.
+pub fn turn_off<'i, P: Pages>(chip: &mut Chip<'i, P>)
+    requires card { IsChipOn chip.old }
+    requires runs { is_on chip.old ≡ true }
+    ensures off { IsChipOff chip.new }
+{
+    chip.power_off();
+}
+
 #[cfg(test)]
-mod tests;
+mod cards;
+#[cfg(test)]
+mod refusals;
+#[cfg(test)]
+mod sessions;
+#[cfg(test)]
+mod tears;

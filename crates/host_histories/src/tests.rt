@@ -2,7 +2,6 @@ mod fixture;
 mod table;
 
 use auth_message::Message;
-use emv_dict::Digits;
 use fixture::{account_number, accounts_of, bytes_of, issuer_keys};
 use issuer_host::Host;
 use std::alloc::Global;
@@ -21,31 +20,51 @@ fn said(turns: &[Turn], turn: &Turn) -> Option<(&'static str, &'static str)> {
     }
 }
 
-/// Lets a host answer the messages, and compares the replies and the balances that are left.
-fn hold(rt: &impl Abort, alloc: Global, history: &History) -> Result<(), Fail> {
-    let accounts = accounts_of(rt, alloc, history.accounts)?;
-    let mut host = Host::new(alloc, issuer_keys(), &accounts)
-        .ok()
-        .ok_or("a host")?;
+/// Lets the host answer a message, both as hexadecimal texts, and compares the reply.
+fn answer(
+    rt: &impl Abort,
+    alloc: Global,
+    host: &mut Host,
+    message: &str,
+    reply: &str,
+) -> Result<(), Fail> {
+    let bytes = bytes_of(alloc, message)?;
+    let wanted = bytes_of(alloc, reply)?;
+    assert!(rt; bytes.len() <= 2048);
     let mut out = Message::new();
-    for turn in history.turns {
-        let (text, reply) = said(history.turns, turn).ok_or("a turn")?;
-        let message = bytes_of(alloc, text)?;
-        assert!(rt; message.len() <= 2048);
-        host.answer(&message, &mut out)?;
-        assert_eq!(rt;
-            out.as_slice(),
-            bytes_of(alloc, reply)?.as_slice(),
-            "to {text}"
-        );
+    host.answer(&bytes, &mut out)?;
+    assert_eq!(rt; out.as_slice(), wanted.as_slice(), "to {message}");
+    Ok(())
+}
+
+/// Lets the host answer the messages of a history.
+fn answer_all(rt: &impl Abort, alloc: Global, host: &mut Host, turns: &[Turn]) -> Result<(), Fail> {
+    for turn in turns {
+        let (message, reply) = said(turns, turn).ok_or("a turn")?;
+        answer(rt, alloc, host, message, reply)?;
     }
-    for (pan, balance) in history.balances {
+    Ok(())
+}
+
+/// Compares the balances that are left.
+fn compare(rt: &impl Abort, host: &Host, balances: &[(&str, i128)]) {
+    for (pan, balance) in balances {
         assert_eq!(rt;
             host.balance(&account_number(rt, pan)),
             Some(*balance),
             "of {pan}"
         );
     }
+}
+
+/// A host that has had no message, with these accounts, gets a history.
+fn hold(rt: &impl Abort, alloc: Global, history: &History) -> Result<(), Fail> {
+    let accounts = accounts_of(rt, alloc, history.accounts)?;
+    let mut host = Host::new(alloc, issuer_keys(), &accounts)
+        .ok()
+        .ok_or("a host")?;
+    answer_all(rt, alloc, &mut host, history.turns)?;
+    compare(rt, &host, history.balances);
     Ok(())
 }
 

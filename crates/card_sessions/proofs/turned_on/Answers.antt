@@ -1,5 +1,5 @@
 -- The card stands for the decisions that were found, at the start of a session.
-use Rattle.std.proofs.Common.{◌≡◌, [], sym, subst}
+use Rattle.std.proofs.Common.{[], sym, subst}
 use Rattle.emv_ports.specs.Memory.{Memory}
 use Rattle.card_files.specs.Files.{opening_of}
 use Rattle.card_pages.specs.Pages.{MayStand, found_of}

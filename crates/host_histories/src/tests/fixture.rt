@@ -176,7 +176,8 @@ pub fn accounts_of(
 {
     let mut accounts = Vec::new(alloc);
     for opening in openings {
-        accounts.push(account_of(rt, alloc, opening)?)?;
+        let account = account_of(rt, alloc, opening)?;
+        accounts.push(account)?;
     }
     Ok(accounts)
 }

@@ -5,7 +5,7 @@ use Rattle.card_state.specs.Allowed.{Allowed}
 use Rattle.card_state.specs.Totals.{totals}
 use Rattle.card_state.specs.declared.state.CardState.{CardState}
 use Rattle.card_app.specs.Answering.{reply_in, card_reply}
-use Rattle.card_app.specs.Replies.{ReplyData}
+use Rattle.card_pages.specs.Replies.{ReplyData}
 use Rattle.card_app.specs.SeenCard.{CardSeen, CardOn, Answered, CutOff}
 use Rattle.card_app.specs.SeenReply.{reply_data, MayReply}
 use Rattle.card_app.proofs.Allowing.{card_allowed}

@@ -1,0 +1,103 @@
+//! A PIN that is compared behind the try that it costs.
+ghost use Rattle.std.specs.Prelude.{◌≡◌, ◌+◌, ◌-◌, [], length, Some, IfOk, IfErr, OnOk, OnErr};
+ghost use Rattle.apdu_core.specs.Response.{response_bytes, response_of};
+ghost use Rattle.torn_store.specs.Store.{IsGone};
+ghost use Rattle.card_pages.specs.Comparing as spec;
+ghost use Rattle.card_pages.specs.Comparing.{MayCompare, comparison_reply, is_equal};
+ghost use Rattle.card_pages.specs.Replies.{said, response_in};
+ghost use Rattle.card_pages.specs.SeenKept.{Takes, IsCut};
+
+use crate::kept::Kept;
+use apdu_core::status::NO_ERROR;
+use apdu_core::{Answer, Response, write_response};
+use arrayvec::ArrayVec;
+use card_state::{AppState, Decision};
+use emv_ports::Pages;
+use torn_store::Lost;
+
+/// A PIN block to compare, behind one more PIN try.
+#[derive(Clone, Copy, PartialEq, Eq, Debug)]
+pub struct Comparison {
+    /// The application.
+    pub app: u8,
+    /// The block that came.
+    pub block: [u8; 8],
+    /// The block of the application's PIN.
+    pub pin: [u8; 8],
+    /// The tries that a right PIN restores.
+    pub limit: u8,
+    /// The tries that are left before this one.
+    pub tries: u8,
+}
+
+/// Whether the application has a PIN: its block isn't eight zero bytes.
+pub fn has_pin(state: &AppState) -> bool
+    ensures { result ≡ spec.has_pin state.now }
+{
+    state.pin != [0; 8]
+}
+
+/// Replaces `out` by the answer of this body, which has at most 256 bytes, and this status.
+pub fn respond(body: &ArrayVec<u8, 256>, status: u16, out: &mut Answer)
+    ensures written { out.new.items ≡ response_bytes body.now.items status }
+    ensures read_again { response_of out.new.items ≡ Some (record { body = body.now.items; status = status }) }
+{
+    let response = Response {
+        body: body.as_slice(),
+        status,
+    };
+    write_response(&response, out);
+}
+
+/// Takes a PIN try, and only then compares: a right PIN is one more decision. The answer goes to `out`
+/// behind the decisions.
+///
+/// `Lost` comes exactly where the plan cuts one of the two decisions; `out` is empty then.
+pub fn compare<P: Pages>(
+    kept: Kept<P>,
+    with: &Comparison,
+    out: &mut Answer,
+) -> Result<Kept<P>, Lost<P>>
+    requires may { MayCompare kept.state with.now }
+    ensures takes { IfOk result (λ next. Takes kept next (comparison_reply with.now).new) }
+    ensures losses { IfOk result (λ next. next.memory.losses ≡ kept.memory.losses) }
+    ensures apps { IfOk result (λ next. length next.state.apps.items ≡ length kept.state.apps.items) }
+    ensures said { OnOk result (out.new.items ≡ (said (comparison_reply with.now)).answer) }
+    ensures read_again { OnOk result (response_of out.new.items ≡ Some (response_in (comparison_reply with.now))) }
+    ensures cut { IfErr result (λ lost. IsCut kept (P.memory lost.pages) (comparison_reply with.now).new) }
+    ensures gone { IfErr result (λ lost. IsGone kept.memory (P.memory lost.pages)) }
+    ensures silent { OnErr result (out.new.items ≡ []) }
+{
+    out.clear();
+    let kept = match kept.decide(with.app, &Decision::PinTry) {
+        Ok(kept) => kept,
+        Err(lost) => return Err(lost),
+    };
+    let body = ArrayVec::new();
+    if !is_right(with) {
+        respond(&body, tries_left(with.tries), out);
+        return Ok(kept);
+    }
+    let right = Decision::PinRight { limit: with.limit };
+    match kept.decide(with.app, &right) {
+        Ok(kept) => {
+            respond(&body, NO_ERROR, out);
+            Ok(kept)
+        }
+        Err(lost) => Err(lost),
+    }
+}
+
+/// Whether the block that came is the PIN's.
+fn is_right(with: &Comparison) -> bool
+    ensures { result ≡ is_equal with.now }
+{
+    with.block == with.pin
+}
+
+/// The status of a wrong PIN, which gives the tries that are left: one fewer than before.
+fn tries_left(before: u8) -> u16
+    ensures { result ≡ 0x63C0 + (before - 1) }
+{
+    0x63c0 + u16::from(before.saturating_sub(1))
+}

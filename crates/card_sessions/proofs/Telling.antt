@@ -1,0 +1,163 @@
+-- The phase is what the last SELECT with file control information, and the exchanges behind it, make of it.
+use Rattle.std.proofs.Common.{◌≡◌, ℕ, Bool, true, false, List, [], ◌∷◌, map, slice_get, Option, Some, None, refl, ap, ◌∙◌}
+use Rattle.std.specs.Prelude.{◌==◌, if◌then◌else◌}
+use Rattle.std.specs.List.{fold, list_any}
+use Rattle.std.proofs.lemmas.List.Sums.{fold-append}
+use Rattle.apdu_core.specs.Command.{CommandData, command_of}
+use Rattle.apdu_core.specs.Response.{ResponseData, response_of}
+use Rattle.card_app.specs.Selection.{found}
+use Rattle.card_app.specs.Session.{Exchange, after, after_said, authenticated, begun, first_in, is_request, is_shown, next_phase, phase_of, selected, started, with_cryptogram}
+use Rattle.card_cryptogram.specs.Bodies.{kind_in}
+use Rattle.card_cryptogram.specs.declared.phase.First.{First}
+use Rattle.card_cryptogram.specs.declared.phase.Phase.{Phase}
+use Rattle.card_cryptogram.specs.declared.phase.Phase.TheVariants.{Idle, Selected, Started, Online, Closed, Done}
+use Rattle.card_files.specs.Views.{AppData}
+use Rattle.card_sessions.specs.Told.{Turn, Selects, Opens, Makes, Authenticates, Other, turn_said, turn_of, is_selection, behind_opening, Made, first_made, sent_in, told_request, told_made, told_of, BeginsIdle, IsTold}
+
+module _ (image : List AppData) where
+  -- what a turn makes of a phase
+  abbrev turned : Phase → Turn → Phase
+  turned phase (Selects p2 name) = selected (found image phase p2 name) phase
+  turned phase Opens = started phase
+  turned phase (Makes filled body) = with_cryptogram image filled body phase
+  turned phase (Authenticates right) = authenticated right phase
+  turned phase Other = phase
+
+  by_tests : (phase : Phase) (c : CommandData) (body : List ℕ) (selects opens makes authenticates shown done failed : Bool)
+      → (if selects then (if shown then selected (found image phase c.p2 c.body) phase else phase)
+      else if opens then (if done then started phase else phase)
+      else if makes then (if done then with_cryptogram image c.body body phase else phase)
+      else if authenticates then
+      (if done then authenticated true phase else if failed then authenticated false phase else phase)
+      else phase)
+      ≡ turned phase
+      (if selects then (if shown then Selects c.p2 c.body else Other)
+      else if opens then (if done then Opens else Other)
+      else if makes then (if done then Makes c.body body else Other)
+      else if authenticates then (if done then Authenticates true else if failed then Authenticates false else Other)
+      else Other)
+  by_tests phase c body true opens makes authenticates true done failed = refl
+  by_tests phase c body true opens makes authenticates false done failed = refl
+  by_tests phase c body false true makes authenticates shown true failed = refl
+  by_tests phase c body false true makes authenticates shown false failed = refl
+  by_tests phase c body false false true authenticates shown true failed = refl
+  by_tests phase c body false false true authenticates shown false failed = refl
+  by_tests phase c body false false false true shown true failed = refl
+  by_tests phase c body false false false true shown false true = refl
+  by_tests phase c body false false false true shown false false = refl
+  by_tests phase c body false false false false shown done failed = refl
+
+  said_is : (phase : Phase) (c : Option CommandData) (r : Option ResponseData) → after_said image phase c r ≡ turned phase (turn_said c r)
+  unfolding next_phase
+  said_is phase (Some c) (Some r) =
+      by_tests phase c r.body (c.ins == 0xA4) (c.ins == 0xA8) (c.ins == 0xAE) (c.ins == 0x82) (is_shown r.status) (r.status == 0x9000) (r.status == 0x6300)
+  said_is phase (Some c) None = refl
+  said_is phase None r = refl
+
+  -- the phase behind some turns
+  after_turns : Phase → List Turn → Phase
+  after_turns phase [] = phase
+  after_turns phase (t ∷ ts) = after_turns (turned phase t) ts
+
+  folded : (phase : Phase) (session : List Exchange) → fold (after image) phase session ≡ after_turns phase (map turn_of session)
+  unfolding after_turns
+  folded phase [] = refl
+  folded phase (x ∷ xs) =
+      folded (after image phase x) xs
+      ∙ ap (λ (p : Phase). after_turns p (map turn_of xs)) (said_is phase (command_of x.command) (response_of x.answer))
+
+  idle_stays : (ts : List Turn) → list_any is_selection ts ≡ false → after_turns Idle ts ≡ Idle
+  unfolding after_turns
+  idle_stays [] none = refl
+  idle_stays (Selects p2 name ∷ ts) none = cc
+  idle_stays (Opens ∷ ts) none = idle_stays ts none
+  idle_stays (Makes filled body ∷ ts) none = idle_stays ts none
+  idle_stays (Authenticates right ∷ ts) none = idle_stays ts none
+  idle_stays (Other ∷ ts) none = idle_stays ts none
+
+  closed_stays : (app : ℕ) (ts : List Turn) → list_any is_selection ts ≡ false → after_turns (Closed app) ts ≡ Closed app
+  unfolding after_turns
+  closed_stays app [] none = refl
+  closed_stays app (Selects p2 name ∷ ts) none = cc
+  closed_stays app (Opens ∷ ts) none = closed_stays app ts none
+  closed_stays app (Makes filled body ∷ ts) none = closed_stays app ts none
+  closed_stays app (Authenticates right ∷ ts) none = closed_stays app ts none
+  closed_stays app (Other ∷ ts) none = closed_stays app ts none
+
+  done_stays : (app : ℕ) (first : First) (ts : List Turn) → list_any is_selection ts ≡ false → after_turns (Done app first) ts ≡ Done app first
+  unfolding after_turns
+  done_stays app first [] none = refl
+  done_stays app first (Selects p2 name ∷ ts) none = cc
+  done_stays app first (Opens ∷ ts) none = done_stays app first ts none
+  done_stays app first (Makes filled body ∷ ts) none = done_stays app first ts none
+  done_stays app first (Authenticates right ∷ ts) none = done_stays app first ts none
+  done_stays app first (Other ∷ ts) none = done_stays app first ts none
+
+  online_goes : (app : ℕ) (first : First) (sent : Option Bool) (ts : List Turn) → list_any is_selection ts ≡ false
+      → after_turns (Online app first sent) ts ≡ told_request app first sent ts (first_made ts)
+  unfolding first_made sent_in after_turns
+  online_goes app first sent [] none = refl
+  online_goes app first sent (Selects p2 name ∷ ts) none = cc
+  online_goes app first sent (Opens ∷ ts) none = online_goes app first sent ts none ∙ same_sent (first_made ts)
+    where
+      same_sent : (m : Option Made) → told_request app first sent ts m ≡ told_request app first sent (Opens ∷ ts) m
+      same_sent None = refl
+      same_sent (Some made) = refl
+  online_goes app first sent (Makes filled body ∷ ts) none = done_stays app first ts none
+  online_goes app first sent (Authenticates right ∷ ts) none = online_goes app first (Some right) ts none ∙ same_sent (first_made ts)
+    where
+      same_sent : (m : Option Made) → told_request app first (Some right) ts m ≡ told_request app first sent (Authenticates right ∷ ts) m
+      same_sent None = refl
+      same_sent (Some made) = refl
+  online_goes app first sent (Other ∷ ts) none = online_goes app first sent ts none ∙ same_sent (first_made ts)
+    where
+      same_sent : (m : Option Made) → told_request app first sent ts m ≡ told_request app first sent (Other ∷ ts) m
+      same_sent None = refl
+      same_sent (Some made) = refl
+
+  module _ (app : ℕ) (a : AppData) (here : slice_get image app ≡ Some a) where
+    begun_is : (filled body : List ℕ) → with_cryptogram image filled body (Started app) ≡ begun app a filled body
+    begun_is filled body = rw here refl
+
+    begun_goes : (filled body : List ℕ) (request : Bool) (ts : List Turn) → list_any is_selection ts ≡ false
+        → after_turns (if request then Online app (first_in a filled body) None else Closed app) ts
+        ≡ (if request then told_request app (first_in a filled body) None ts (first_made ts) else Closed app)
+    begun_goes filled body true ts none = online_goes app (first_in a filled body) None ts none
+    begun_goes filled body false ts none = closed_stays app ts none
+
+    started_goes : (ts : List Turn) → list_any is_selection ts ≡ false → after_turns (Started app) ts ≡ told_made a app (first_made ts)
+    unfolding first_made after_turns
+    started_goes [] none = refl
+    started_goes (Selects p2 name ∷ ts) none = cc
+    started_goes (Opens ∷ ts) none = started_goes ts none
+    started_goes (Makes filled body ∷ ts) none =
+        ap (λ (p : Phase). after_turns p ts) (begun_is filled body)
+        ∙ begun_goes filled body (is_request (kind_in a.ac_format body)) ts none
+    started_goes (Authenticates right ∷ ts) none = started_goes ts none
+    started_goes (Other ∷ ts) none = started_goes ts none
+
+    selected_goes : (ts : List Turn) → list_any is_selection ts ≡ false → after_turns (Selected app) ts ≡ told_of a app ts
+    unfolding behind_opening after_turns
+    selected_goes [] none = refl
+    selected_goes (Selects p2 name ∷ ts) none = cc
+    selected_goes (Opens ∷ ts) none = started_goes ts none
+    selected_goes (Makes filled body ∷ ts) none = selected_goes ts none
+    selected_goes (Authenticates right ∷ ts) none = selected_goes ts none
+    selected_goes (Other ∷ ts) none = selected_goes ts none
+
+  pub begins_idle : BeginsIdle image
+  unfolding phase_of
+  begins_idle session none = folded Idle session ∙ idle_stays (map turn_of session) none
+
+  pub is_told : IsTold image
+  unfolding phase_of
+  is_told before x behind app a (p2, name, turn, finds) here none =
+      let at : Phase = phase_of image before in
+      let chosen : after image at x ≡ Selected app =
+      said_is at (command_of x.command) (response_of x.answer)
+      ∙ ap (λ (t : Turn). turned at t) turn
+      ∙ ap (λ (o : Option ℕ). selected o at) finds in
+      fold-append (after image) Idle before (x ∷ behind)
+      ∙ ap (λ (p : Phase). fold (after image) p behind) chosen
+      ∙ folded (Selected app) behind
+      ∙ selected_goes app a here (map turn_of behind) none

@@ -1,0 +1,169 @@
+//! A purchase whose power is cut at each place, and what is found behind it.
+ghost use Rattle.std.specs.Prelude.{◌≡◌, ◌+◌, ◌≤◌, Some, None, false, IsTrue};
+ghost use Rattle.emv_ports.specs.Cut.{is_plan};
+ghost use Rattle.card_app.specs.SeenChip.{IsChipOff};
+
+use crate::cards::{
+    APPROVED, AUTHENTICATE, Line, OPTIONS, REQUEST, SELECT, VERIFY, Variant, go_through, image_of,
+    opening_of,
+};
+use crate::{turn_off, turn_on};
+use card_app::Chip;
+use card_files::Image;
+use card_state::AppState;
+use emv_ports::{Gone, MemoryPages, Pages, Tear, TearAt};
+use std::process::Abort;
+use std::test::Fail;
+
+/// A purchase with two scripts: a limit before the second cryptogram, and a new PIN behind it. It makes
+/// eight decisions.
+const PURCHASE: [Line; 8] = [
+    SELECT,
+    OPTIONS,
+    VERIFY,
+    REQUEST,
+    AUTHENTICATE,
+    ("04dadf01090935c47f63c1704132", "9000"),
+    APPROVED,
+    ("8424000210b0869a45da56310b591ffd95cee7feef", "9000"),
+];
+
+/// The state behind so many decisions of the purchase: the counter is taken, a PIN try, the try is
+/// restored, the first cryptogram, the issuer is authenticated, the limit, the second cryptogram, and the
+/// PIN.
+fn state_behind(decisions: u8) -> AppState {
+    AppState {
+        counter: if decisions < 1 { 10 } else { 11 },
+        tries: if decisions == 2 { 2 } else { 3 },
+        count_limit: if decisions < 6 { 0 } else { 9 },
+        last_online: if decisions < 7 { 9 } else { 11 },
+        pin: if decisions < 8 {
+            [0x24, 0x12, 0x34, 0xff, 0xff, 0xff, 0xff, 0xff]
+        } else {
+            [0x24, 0x98, 0x76, 0xff, 0xff, 0xff, 0xff, 0xff]
+        },
+        ..opening_of(Variant::Online)
+    }
+}
+
+/// How many places of a commit are tried: before and within each of six writes, and the release.
+const PLACES: u8 = 13;
+
+/// How many plans there are, for the power-up and eight commits.
+const PLANS: u8 = 117;
+
+/// The plan of this number.
+fn plan_of(number: u8) -> Tear
+    ensures { IsTrue (is_plan (Some result)) }
+{
+    let place = number % PLACES;
+    Tear {
+        commit: number / PLACES,
+        at: if place < 6 {
+            TearAt::Before(place + 1)
+        } else if place < 12 {
+            TearAt::Within(place - 5)
+        } else {
+            TearAt::Release
+        },
+    }
+}
+
+/// Whether the plan leaves this state: without the decision that it cuts where the first write was cut
+/// before it began, with it at the release, and either at any other place.
+fn may_be_left(tear: Tear, state: AppState) -> bool {
+    if tear.commit == 0 {
+        return state == state_behind(0);
+    }
+    let dropped = state == state_behind(tear.commit - 1);
+    let kept = state == state_behind(tear.commit);
+    match tear.at {
+        TearAt::Before(1) => dropped,
+        TearAt::Release => kept,
+        TearAt::Before(_) | TearAt::Within(_) => dropped || kept,
+    }
+}
+
+/// A purchase that is cut.
+fn purchase_cut<'i, P: Pages>(rt: &impl Abort, chip: &mut Chip<'i, P>, tear: Tear)
+    requires card { IsChipOff chip.old }
+    requires tear { IsTrue (is_plan (Some tear)) }
+    ensures off { IsChipOff chip.new }
+{
+    match turn_on(chip, Some(tear)) {
+        Ok(()) => match go_through(rt, chip, &PURCHASE) {
+            Ok(()) => panic!(rt; "the plan cuts nothing"),
+            Err(Gone) => {}
+        },
+        Err(Gone) => assert_eq!(rt; tear.commit, 0),
+    }
+}
+
+/// The state that a power-up finds, where the plan doesn't cut it.
+fn state_found<'i, P: Pages>(chip: &mut Chip<'i, P>, tear: Option<Tear>) -> Option<AppState>
+    requires card { IsChipOff chip.old }
+    requires tear { IsTrue (is_plan tear) }
+    ensures off { IsChipOff chip.new }
+{
+    match turn_on(chip, tear) {
+        Ok(()) => {
+            let state = chip.totals().apps.as_slice().first().copied();
+            turn_off(chip);
+            state
+        }
+        Err(Gone) => None,
+    }
+}
+
+/// Power-ups that are cut, so many of them, at one place behind another and round again.
+fn find_none<'i, P: Pages>(rt: &impl Abort, chip: &mut Chip<'i, P>, place: u8, count: u8)
+    requires card { IsChipOff chip.old }
+    requires few { place + count ≤ 255 }
+    ensures off { IsChipOff chip.new }
+{
+    if count > 0 {
+        let found = state_found(chip, Some(plan_of(place % PLACES)));
+        assert!(rt; found.is_none(), "place {place}");
+        find_none(rt, chip, place + 1, count - 1);
+    }
+}
+
+/// Power-ups with the plans from this number on, none of which cuts a power-up: each finds this state.
+fn find_again<'i, P: Pages>(rt: &impl Abort, chip: &mut Chip<'i, P>, number: u8, state: AppState)
+    requires card { IsChipOff chip.old }
+    requires number { number ≤ 117 }
+    ensures off { IsChipOff chip.new }
+{
+    if number < PLANS {
+        let found = state_found(chip, Some(plan_of(number)));
+        assert_eq!(rt; found, Some(state), "plan {number}");
+        find_again(rt, chip, number + 1, state);
+    }
+}
+
+/// A purchase that is cut by the plan of this number, a power-up with each plan, and one without a plan:
+/// first those that cut it, beginning at the place of the purchase's own cut, and then the others.
+fn try_plan<P: Pages>(rt: &impl Abort, image: &Image, pages: P, number: u8)
+    requires off { (P.memory pages).on ≡ false }
+    requires plan { (P.memory pages).plan ≡ None }
+{
+    let first = plan_of(number);
+    let mut chip = Chip::new(image, pages);
+    purchase_cut(rt, &mut chip, first);
+    find_none(rt, &mut chip, number % PLACES, PLACES);
+    let spared = Some(plan_of(PLACES));
+    let state = state_found(&mut chip, spared).expect(rt, "a card that is on");
+    assert!(rt; may_be_left(first, state), "{first:?}");
+    find_again(rt, &mut chip, PLACES + 1, state);
+    let last = state_found(&mut chip, None);
+    assert_eq!(rt; last, Some(state), "{first:?}");
+}
+
+#[test]
+fn what_is_found_is_what_the_plans_leave(rt: HostRuntime) -> Result<(), Fail> {
+    let image = image_of(&rt, rt.alloc(), Variant::Online)?;
+    for number in 0..PLANS {
+        try_plan(&rt, &image, MemoryPages::blank(), number);
+    }
+    Ok(())
+}

@@ -1,0 +1,183 @@
+//! A whole dialogue, exchange by exchange.
+ghost use Rattle.std.specs.Prelude.{◌≤◌};
+ghost use Rattle.std.specs.List.{All};
+ghost use Rattle.emv_dict.specs.Settings.{most_amount};
+
+use crate::deal::{Deal, Difference, put_bytes};
+use crate::names::text_of;
+use arrayvec::ArrayVec;
+use auth_message::Message;
+use emv_dict::Logged;
+use kernel::{Capture, Ended, Kernel, Next, Tally};
+use online_step::Ac;
+use report_text::{EndParts, Line, Text, write_line};
+use std::alloc::Global;
+
+/// The line of a dialogue in its parts.
+#[derive(Clone, Copy)]
+struct Parts<'t> {
+    deal: &'t str,
+    exchanges: &'t str,
+    end: &'t str,
+    capture: &'t str,
+}
+
+/// Plays the dialogue of a line: its name, the words by which the terminal and the purchase differ from the
+/// base, `: `, the commands and the messages with their replies between ` > `, ` = `, the end as a report
+/// prints it, and behind ` | ` what is captured. Bytes are hexadecimal digits or a name, and `-` stands for
+/// none. A host's exchange begins with `host`; a card can be `gone`, and a silent host says `none`.
+pub fn play(alloc: Global, line: &str) -> Result<(), Difference> {
+    let parts = parts_of(line)?;
+    let deal = Deal::read(parts.deal);
+    let settings = deal.settings(alloc)?;
+    let purchase = deal.purchase(alloc)?;
+    let log = deal.log(alloc)?;
+    let mut kernel = Kernel::begin(&settings, &purchase);
+    let replies = exchange_all(&mut kernel, parts.exchanges, &log)?;
+    match kernel.next() {
+        Next::Ended => {}
+        Next::ToCard | Next::ToHost => return Err(Difference::Deed(replies)),
+    }
+    let mut tally = Tally::new();
+    let ended = kernel.into_ended(&mut tally);
+    compare(ended, &parts)?;
+    if tally.counts() == counts_of(parts.end, replies) {
+        Ok(())
+    } else {
+        Err(Difference::Tally)
+    }
+}
+
+fn parts_of(line: &str) -> Result<Parts<'_>, Difference> {
+    let Some((deal, rest)) = line.split_once(": ") else {
+        return Err(Difference::Line);
+    };
+    let Some((exchanges, rest)) = rest.split_once(" = ") else {
+        return Err(Difference::Line);
+    };
+    let (end, capture) = rest.split_once(" | ").unwrap_or((rest, ""));
+    Ok(Parts {
+        deal,
+        exchanges,
+        end,
+        capture,
+    })
+}
+
+/// Goes through all exchanges, and counts them.
+fn exchange_all(kernel: &mut Kernel<'_>, exchanges: &str, log: &[Logged]) -> Result<u64, Difference>
+    requires { All (λ logged. logged.amount ≤ most_amount) log.now }
+{
+    let mut bytes = Message::new();
+    let mut count = 0u64;
+    for word in exchanges.split(" > ") {
+        for exchange in text_of(word).split(" > ") {
+            if !is_taken(kernel, exchange, log, &mut bytes) {
+                return Err(Difference::Deed(count));
+            }
+            count = count.saturating_add(1);
+        }
+    }
+    Ok(count)
+}
+
+/// Whether the terminal does next what an exchange says; then it has taken the reply.
+fn is_taken(kernel: &mut Kernel<'_>, exchange: &str, log: &[Logged], bytes: &mut Message) -> bool
+    requires { All (λ logged. logged.amount ≤ most_amount) log.now }
+{
+    let message = exchange.strip_prefix("host ");
+    let (deed, reply) = message
+        .unwrap_or(exchange)
+        .split_once(' ')
+        .unwrap_or((exchange, ""));
+    put_bytes(bytes, text_of(deed));
+    if kernel.bytes() != bytes.as_slice() {
+        return false;
+    }
+    put_bytes(bytes, text_of(reply));
+    match (kernel.next(), message) {
+        (Next::ToCard, None) if reply == "gone" => kernel.take_gone(),
+        (Next::ToCard, None) => kernel.take_card(bytes, log),
+        (Next::ToHost, Some(_)) if reply == "none" => kernel.take_host(None),
+        (Next::ToHost, Some(_)) => kernel.take_host(Some(bytes)),
+        _ => return false,
+    }
+    true
+}
+
+/// Compares the end record.
+fn compare(ended: Ended, parts: &Parts<'_>) -> Result<(), Difference> {
+    let Ended {
+        ending,
+        tvr,
+        tsi,
+        cvm,
+        pan: _,
+        card: _,
+        code,
+        last,
+        scripts,
+        capture,
+    } = ended;
+    if !is_captured(capture, parts.capture) {
+        return Err(Difference::Capture);
+    }
+    let end = EndParts {
+        ending,
+        tvr,
+        tsi,
+        cvm,
+        arc: code,
+        atc_ac: counter_and_cryptogram(&last),
+        scripts,
+    };
+    if is_end(end, parts.end) {
+        Ok(())
+    } else {
+        Err(Difference::End)
+    }
+}
+
+fn counter_and_cryptogram(last: &Option<Ac>) -> Option<(u16, [u8; 8])> {
+    match last {
+        Some(ac) => {
+            let cryptogram = ac.cryptogram;
+            Some((ac.counter, cryptogram))
+        }
+        None => None,
+    }
+}
+
+/// Whether this is what is captured, nothing where there is none.
+fn is_captured(capture: Option<Capture>, text: &str) -> bool {
+    let mut message = Message::new();
+    let mut bytes = Message::new();
+    if let Some(capture) = capture {
+        capture.into_message(&mut message);
+    }
+    put_bytes(&mut bytes, text_of(text));
+    message.as_slice() == bytes.as_slice()
+}
+
+/// Whether a report prints the end so.
+fn is_end(parts: EndParts, end: &str) -> bool {
+    let mut text = Text::new();
+    let line = Line::End {
+        lane: 0,
+        number: 1,
+        parts,
+    };
+    write_line(&line, &mut text);
+    text.as_slice().trim_ascii_end().strip_prefix(b"L0 end 1 ") == Some(end.as_bytes())
+}
+
+/// The tally of one dialogue with this end.
+fn counts_of(end: &str, replies: u64) -> [u64; 4] {
+    if end.starts_with("approved ") {
+        [1, 0, 0, replies]
+    } else if end.starts_with("declined ") {
+        [0, 1, 0, replies]
+    } else {
+        [0, 0, 1, replies]
+    }
+}

@@ -1,0 +1,18 @@
+mod table;
+
+use crate::play::play;
+use std::alloc::AllocGlobal;
+use std::process::Abort;
+
+fn play_all(rt: &(impl AllocGlobal + Abort), lines: &str) {
+    for line in lines.lines() {
+        assert_eq!(rt; play(rt.alloc(), line), Ok(()), "{line}");
+    }
+}
+
+#[test]
+fn dialogues_go_as_the_rules_say(rt: HostRuntime) {
+    for lines in table::TOPICS {
+        play_all(&rt, lines);
+    }
+}
