@@ -3,6 +3,7 @@ use Rattle.std.proofs.Common.{◌≡◌, ◌⊎◌, ℕ, zero, suc, ◌+◌, ◌
 use Rattle.std.specs.List.{flat_map, sum_by}
 use Rattle.std.specs.Prelude.{option_to_list, option_and_then, option_map}
 use Rattle.std.proofs.lemmas.List.{length-replicate}
+use Rattle.std.proofs.lemmas.List.Sums.{sum_by-cons}
 use Rattle.std.proofs.lemmas.Option.{slice_get_within, get_or_from_slice_get}
 use Rattle.card_files.specs.Views.{AppData}
 use Rattle.emv_dict.specs.Views.{PurchaseData}
@@ -77,7 +78,7 @@ one_ended s l p row replies end few room =
       ended = omega arith;
     }
 
-abbrev LanesFew : ScenarioData → World → Type 0
+abbrev pub LanesFew : ScenarioData → World → Type 0
 LanesFew s w = (l : ℕ) → IsFewIn s l (lane_at w l)
 
 module _ (s : ScenarioData) where
@@ -110,7 +111,7 @@ module _ (s : ScenarioData) where
       subst (λ (row : LaneRow). IsFewIn s l row) (sym (get_or-map_const s.lanes l new_lane))
       (record { captures = omega arith; log = omega arith; ended = omega arith })
 
-  lanes_few : (place : Place) (n : ℕ) (choices : List Bool) (lines : List Line) (w : World) → Reached s place n choices lines w → LanesFew s w
+  pub lanes_few : (place : Place) (n : ℕ) (choices : List Bool) (lines : List Line) (w : World) → Reached s place n choices lines w → LanesFew s w
   lanes_few = reached_keeps s (LanesFew s) first_few event_few
 
 -- each row below its lane's purchases, and so in the sum
@@ -123,20 +124,25 @@ sum_below f (row ∷ rows) [] same below = absurd (omega arith)
 sum_below f (row ∷ rows) (lane ∷ lanes) same below =
     let first : f row ≤ length lane.purchases = below 0 row refl in
     let others : sum_by f rows ≤ purchase_count lanes = sum_below f rows lanes (omega arith) (λ i other here. below (suc i) other here) in
+    let left : sum_by f (row ∷ rows) ≡ f row + sum_by f rows = sum_by-cons f row rows in
+    let right : purchase_count (lane ∷ lanes) ≡ length lane.purchases + purchase_count lanes =
+    sum_by-cons (λ (x : LaneData). length x.purchases) lane lanes in
     omega arith
 
 copies_length : (copies l : ℕ) (captures : List (List ℕ))
-    → length (flat_map (λ message. replicate copies (record { lane = l; message = message })) captures) ≡ copies * length captures
+    → length {A = Settlement} (flat_map (λ message. replicate copies (record { lane = l; message = message })) captures) ≡ copies * length captures
 copies_length copies l [] = omega arith
 copies_length copies l (message ∷ captures) =
     let at : Settlement = record { lane = l; message = message } in
-    let both : length (replicate copies at ++ flat_map (λ m. replicate copies (record { lane = l; message = m })) captures)
-    ≡ length (replicate copies at) + length (flat_map (λ m. replicate copies (record { lane = l; message = m })) captures) =
-    length-append (replicate copies at) (flat_map (λ m. replicate copies (record { lane = l; message = m })) captures) in
+    let later : List Settlement = flat_map (λ m. replicate copies (record { lane = l; message = m })) captures in
+    let both : length (replicate copies at ++ later) ≡ length (replicate copies at) + length later = length-append (replicate copies at) later in
     let one : length (replicate copies at) ≡ copies = length-replicate copies at in
-    let others : length (flat_map (λ m. replicate copies (record { lane = l; message = m })) captures) ≡ copies * length captures =
-    copies_length copies l captures in
+    let others : length later ≡ copies * length captures = copies_length copies l captures in
     omega arith
+
+-- a product over a sum
+added : (c a b d e : ℕ) → a ≡ c * b → d ≡ c * e → a + d ≡ c * (b + e)
+added c a b d e first second = omega arith
 
 settlements_length : (copies l : ℕ) (rows : List LaneRow) → length (settlements_from copies l rows) ≡ copies * sum_by (λ row. length row.captures) rows
 unfolding settlements_from
@@ -148,7 +154,10 @@ settlements_length copies l (row ∷ rows) =
     let one : length own ≡ copies * length row.captures = copies_length copies l row.captures in
     let others : length (settlements_from copies (l + 1) rows) ≡ copies * sum_by (λ (x : LaneRow). length x.captures) rows =
     settlements_length copies (l + 1) rows in
-    omega arith
+    let sum : sum_by (λ (x : LaneRow). length x.captures) (row ∷ rows) ≡ length row.captures + sum_by (λ (x : LaneRow). length x.captures) rows =
+    sum_by-cons (λ (x : LaneRow). length x.captures) row rows in
+    both ∙ added copies (length own) (length row.captures) (length (settlements_from copies (l + 1) rows)) (sum_by (λ (x : LaneRow). length x.captures) rows) one others
+    ∙ ap (λ n. copies * n) (sym sum)
 
 times_le : (c a b : ℕ) → a ≤ b → c * a ≤ c * b
 times_le c a b le = grind arith

@@ -1,15 +1,20 @@
 -- What one exchange makes of its lane: it stays, runs, or has one purchase more that has ended.
 use Rattle.std.proofs.Common.{◌≡◌, ℕ, Bool, true, false, List, [], ◌∷◌, ◌++◌, Option, Some, None, refl}
-use Rattle.card_app.specs.Answering.{CardAnswer, card_answer}
+use Rattle.card_app.specs.Answering.{card_answer}
 use Rattle.card_pages.specs.Cuts.{Cut, cut_of}
+use Rattle.card_pages.specs.Pages.{found_of}
+use Rattle.card_pages.specs.Replies.{CardAnswer}
 use Rattle.emv_ports.specs.Cut.{is_named}
 use Rattle.kernel.specs.Dialogue.{dialogue}
 use Rattle.kernel.specs.Ended.{EndData}
 use Rattle.kernel.specs.Reply.{Reply, CardSaid, CardGone, Deed, ToCard, ToHost, Over}
 use Rattle.report_text.specs.declared.line.Line.{Line}
+use Rattle.txn_replay.specs.Changes.{powered, exchanged, torn}
+use Rattle.txn_replay.specs.Lines.{answer_lines, torn_lines, power_torn_line}
 use Rattle.txn_replay.specs.Part.{Part, lane_ended, settled_by, cut_ends, answered, asked, begun, begun_by, piece_by, piece}
 use Rattle.txn_replay.specs.Payment.{Payment, deal_for, end_at}
 use Rattle.txn_replay.specs.World.{Holder, CardRow, LaneRow}
+use Rattle.txn_replay.proofs.Moves.{this_one}
 
 module _ (B : LaneRow → Type 0) (p : Payment) (part : Part) (stays : B part.lane)
     (runs : (replies : List Reply) → B (record part.lane { running = Some replies }))
@@ -26,8 +31,10 @@ module _ (B : LaneRow → Type 0) (p : Payment) (part : Part) (stays : B part.la
 
   answer_lane : (replies : List Reply) (command : List ℕ) (said : CardAnswer) (cut : Option Cut) → B (answered p replies command part said cut).part.lane
   answer_lane replies command said None =
-      settled_lane (replies ++ CardSaid said.answer part.lane.log ∷ []) _ part.messages _ (end_at p (replies ++ CardSaid said.answer part.lane.log ∷ []))
-  answer_lane replies command said (Some cut) = cut_lane (replies ++ CardGone ∷ []) _ _ (end_at p (replies ++ CardGone ∷ []))
+      settled_lane (replies ++ CardSaid said.answer part.lane.log ∷ []) (exchanged p.card.image part.card command said) part.messages
+      (answer_lines p.lane command said.answer) (end_at p (replies ++ CardSaid said.answer part.lane.log ∷ []))
+  answer_lane replies command said (Some cut) =
+      cut_lane (replies ++ CardGone ∷ []) (torn part.card p.planned.tear cut) (torn_lines p.lane command) (end_at p (replies ++ CardGone ∷ []))
 
   ask_lane : (replies : List Reply) (deed : Deed) → B (asked p replies part deed).part.lane
   ask_lane replies (ToCard command) =
@@ -37,8 +44,9 @@ module _ (B : LaneRow → Type 0) (p : Payment) (part : Part) (stays : B part.la
   ask_lane replies (Over ending) = stays
 
   begin_lane : (choice torn_there : Bool) → B (begun_by p part choice torn_there).part.lane
-  begin_lane choice true = cut_lane (CardGone ∷ []) part.card _ (end_at p (CardGone ∷ []))
-  begin_lane choice false = settled_lane [] _ part.messages _ (end_at p [])
+  begin_lane choice true = cut_lane (CardGone ∷ []) part.card (power_torn_line p.lane p.card ∷ []) (end_at p (CardGone ∷ []))
+  begin_lane choice false =
+      settled_lane [] (powered part.card (found_of part.card.kept part.card.pending choice) (Some (this_one p part))) part.messages _ (end_at p [])
 
   pub piece_lane : (choice : Bool) → B (piece p part choice).part.lane
   piece_lane choice = by_lane part.lane.running

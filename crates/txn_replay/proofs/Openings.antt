@@ -7,7 +7,6 @@ use Rattle.std.proofs.lemmas.Option.{same_Some}
 use Rattle.apdu_core.specs.Command.{CommandData, command_of}
 use Rattle.apdu_core.specs.Response.{ResponseData, response_of, response_bytes}
 use Rattle.card_app.specs.Answering.{row, reply_in, card_reply, card_answer, row_or_refusal}
-use Rattle.card_app.specs.Replies.{ReplyData, refused}
 use Rattle.card_app.specs.Selection.{found}
 use Rattle.card_app.specs.Session.{Exchange, is_shown, selected, started, is_request, begun, begun_of, first_in, with_cryptogram, authenticated, next_phase, after_said, after, phase_of}
 use Rattle.card_cryptogram.specs.Bodies.{kind_in}
@@ -17,6 +16,7 @@ use Rattle.card_cryptogram.specs.declared.phase.Phase.{Phase}
 use Rattle.card_cryptogram.specs.declared.phase.Phase.TheVariants.{Idle, Selected, Started, Online, Closed, Done}
 use Rattle.card_files.specs.Files.{opening_of}
 use Rattle.card_files.specs.Views.{AppData}
+use Rattle.card_pages.specs.Replies.{ReplyData}
 use Rattle.card_state.specs.Decisions.{Decided}
 use Rattle.card_state.specs.Totals.{totals}
 use Rattle.card_state.specs.declared.state.CardState.{CardState}

@@ -4,10 +4,11 @@ use Rattle.std.specs.Prelude.{fold}
 use Rattle.std.proofs.lemmas.List.{append_assoc}
 use Rattle.std.proofs.lemmas.List.Sums.{fold_push}
 use Rattle.std.proofs.lemmas.Option.{same_Some}
-use Rattle.card_app.specs.Answering.{CardAnswer, card_answer}
+use Rattle.card_app.specs.Answering.{card_answer}
 use Rattle.card_files.specs.Views.{AppData}
 use Rattle.card_pages.specs.Cuts.{Cut, Left, Dropped, Joined, Pending, left_of, kept_by, pending_by}
 use Rattle.card_pages.specs.Pages.{found_of}
+use Rattle.card_pages.specs.Replies.{CardAnswer}
 use Rattle.card_state.specs.Decisions.{Decided}
 use Rattle.emv_ports.specs.declared.tear.Tear.{Tear}
 use Rattle.txn_replay.specs.Changes.{powered, exchanged, torn, freed}

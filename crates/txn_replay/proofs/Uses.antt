@@ -4,12 +4,13 @@ use Rattle.std.proofs.lemmas.Bool.{and_parts}
 use Rattle.std.proofs.lemmas.Option.{same_Some}
 use Rattle.apdu_core.specs.Command.{command_of}
 use Rattle.apdu_core.specs.Response.{response_of}
-use Rattle.card_app.specs.Answering.{CardAnswer, card_answer}
+use Rattle.card_app.specs.Answering.{card_answer}
 use Rattle.card_app.specs.Session.{phase_of}
 use Rattle.card_cryptogram.specs.Phases.{current}
 use Rattle.card_files.specs.Views.{AppData}
 use Rattle.card_pages.specs.Cuts.{Cut, Left, Dropped, Joined, Pending, left_of, kept_by}
 use Rattle.card_pages.specs.Pages.{found_of}
+use Rattle.card_pages.specs.Replies.{CardAnswer}
 use Rattle.card_state.specs.Decisions.{Decided}
 use Rattle.emv_ports.specs.declared.tear.Tear.{Tear}
 use Rattle.txn_replay.specs.Changes.{is_generate, is_good, counter_of, given_for, given_by, powered, exchanged, torn, freed}

@@ -76,11 +76,11 @@ below_lanes s v w same (suc n) =
     ap (λ (lanes : List LaneRow). lane_over s (record { cards = v.cards; lanes = lanes; messages = v.messages }) n && all_below s v n) same
     ∙ ap (λ b. lane_over s w n && b) (below_lanes s v w same n)
 
-settle_lanes : (s : ScenarioData) (w : World) (o : Option Settlement) → (settles s w o).world.lanes ≡ w.lanes
+pub settle_lanes : (s : ScenarioData) (w : World) (o : Option Settlement) → (settles s w o).world.lanes ≡ w.lanes
 settle_lanes s w None = refl
 settle_lanes s w (Some at) = refl
 
-audit_lanes : (w : World) (choice : Bool) (o : Option Check) → (audits w choice o).world.lanes ≡ w.lanes
+pub audit_lanes : (w : World) (choice : Bool) (o : Option Check) → (audits w choice o).world.lanes ≡ w.lanes
 audit_lanes w choice None = refl
 audit_lanes w choice (Some (PowersUp i card)) = refl
 audit_lanes w choice (Some (Asks i card command)) = refl

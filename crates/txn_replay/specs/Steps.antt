@@ -1,9 +1,10 @@
 -- The events of a run: an exchange of a lane, a message of the settlement, a step of the audit (this project's own).
 use Rattle.std.specs.Prelude.{◌≡◌, ℕ, ◌+◌, Bool, true, false, List, [], ◌∷◌, ◌++◌, length, map, flat_map, replicate, slice_get, slice_set, Option, Some, None, unwrap_or}
 use Rattle.app_select.specs.Said.{select_command}
-use Rattle.card_app.specs.Answering.{CardAnswer, card_answer}
+use Rattle.card_app.specs.Answering.{card_answer}
 use Rattle.card_files.specs.Views.{AppData}
 use Rattle.card_pages.specs.Pages.{found_of}
+use Rattle.card_pages.specs.Replies.{CardAnswer}
 use Rattle.issuer_host.specs.History.{host_reply}
 use Rattle.report_text.specs.declared.line.Line.{Line}
 use Rattle.risk_mgmt.specs.Counters.{counter_tag, last_online_tag, get_data}
