@@ -14,5 +14,6 @@ pub mod Waiting
 pub mod Lanes
 pub mod Few
 pub mod Apart
+pub mod Endings
 pub mod Fairness
 mod Worked
