@@ -24,6 +24,7 @@ use auth_message::Message;
 use emv_dict::{Digits, Ending, Logged};
 use kernel::{Capture, Ended, Kernel, Tally};
 use object_lists::CardData;
+use scenario_lanes::Planned;
 
 /// A terminal: how many of its purchases have ended, the one that runs, its log of approvals, the messages
 /// for settlement, and what reading gave in the purchase that ended last.
@@ -78,10 +79,17 @@ pub(crate) fn finish<'s>(
         scripts: _,
         capture,
     } = ended;
-    let planned = at.planned;
-    add_approval(&mut lane.log, ending, pan, planned.purchase.amount);
+    let amount = amount_of(at.planned);
+    add_approval(&mut lane.log, ending, pan, amount);
     add_capture(&mut lane.captures, capture);
     lane.card = card;
+}
+
+/// The amount of a purchase.
+fn amount_of(planned: &Planned) -> u64
+    ensures { result ≡ planned.now.purchase.amount }
+{
+    planned.purchase.amount
 }
 
 /// An approval joins the log, under the number of the card's account.

@@ -33,7 +33,7 @@ returns-clause-stands c = λ issuer accounts replies row end stands is.
     let pan : c.ended.inside.pan ≡ option_map (λ card. card.pan) end.card = ap (λ (x : EndedData). x.pan) c.ended.view_is ∙ ap (λ (x : EndedData). x.pan) (sym same) in
     let card : c.ended.inside.card ≡ end.card = ap (λ (x : EndedData). x.card) c.ended.view_is ∙ ap (λ (x : EndedData). x.card) (sym same) in
     let capture : c.ended.inside.capture ≡ end.capture = ap (λ (x : EndedData). x.capture) c.ended.view_is ∙ ap (λ (x : EndedData). x.capture) (sym same) in
-    let amount : c.args.at.now.planned.now.purchase.amount ≡ c.planned.inside.purchase.amount = ap (λ (x : Planned). x.purchase.amount) (sym c.planned.view_is) in
+    let amount : c.args.at.now.planned.now.purchase.amount ≡ c.amount_of-amount.result = sym c.amount_of-amount.ensures in
     let log : c.add_approval.new.log.items ≡ row.log ++ approval c.args.at.now.planned.now.purchase end.ending end.card =
     c.add_approval.ensures.appended c.args.at.now.planned.now.purchase end.card amount pan
     ∙ ap (λ (xs : List Logged). xs ++ approval c.args.at.now.planned.now.purchase c.ended.inside.ending end.card) stands.log
