@@ -1,7 +1,7 @@
 -- What a value stands for of a run.
-use Rattle.std.specs.Prelude.{◌≡◌, ⊤, ℕ, ◌≤◌, Bool, true, false, is_some, List, ◌++◌, length, map, fold, Option, Some, None, option_and_then}
+use Rattle.std.specs.Prelude.{◌≡◌, ⊤, ℕ, ◌≤◌, Bool, true, false, List, ◌++◌, length, map, fold, Option, Some, None, option_and_then}
 use Rattle.std.specs.List.{All}
-use Rattle.card_app.specs.SeenChip.{ChipSeen, ChipOn, ChipOff, is_on}
+use Rattle.card_app.specs.SeenChip.{ChipSeen, ChipOn, ChipOff}
 use Rattle.emv_dict.specs.Settings.{most_amount}
 use Rattle.emv_ports.specs.declared.tear.Tear.{Tear}
 use Rattle.issuer_host.specs.Account.{AccountData}
@@ -17,7 +17,7 @@ use Rattle.scenario.specs.Seen.{seen_card}
 use Rattle.txn_replay.specs.Part.{Part, Moved}
 use Rattle.txn_replay.specs.Payment.{Payment, deal_for}
 use Rattle.txn_replay.specs.Reading.{last_past, past_card}
-use Rattle.txn_replay.specs.World.{CardRow, LaneRow, Past}
+use Rattle.txn_replay.specs.World.{Holder, CardRow, LaneRow, Past}
 use Rattle.txn_replay.specs.declared.lane.Lane.{Lane}
 use Rattle.txn_replay.specs.declared.payment.Payment.{Payment as Paying}
 
@@ -47,18 +47,20 @@ pub record LaneStands (lane : Lane) (p : Payment) (row : LaneRow) : Type 0 where
   pub card : lane.card ≡ option_and_then past_card (last_past row.ended)
   pub running : RunStands lane.running p row.running
 
--- a card that is on, with its plan, or off
-abbrev pub PowerStands : Bool → ChipSeen → Option Tear → CardRow → Type 0
-PowerStands true chip plan row = ChipOn chip row.session row.kept plan row.made × (row.pending ≡ None)
-PowerStands false chip plan row = ChipOff chip row.kept row.pending
+-- on for the purchase that has it, under its plan and with no decision pending; off for none
+abbrev pub PlaceStands : ChipSeen → Option Tear → CardRow → Option Holder → Type 0
+PlaceStands chip plan row None = ChipOff chip row.kept row.pending
+PlaceStands chip plan row (Some holder) = ChipOn chip row.session row.kept plan row.made × (row.pending ≡ None)
 
 pub record CardStands (chip : ChipSeen) (card : CardData) (plan : Option Tear) (row : CardRow) : Type 0 where
   pub image : chip.image ≡ card.image
-  pub stands : PowerStands (is_on chip) chip plan row
+  pub stands : PlaceStands chip plan row row.holder
 
--- the purchase that runs: its terminal has taken these replies, and its card is on
+-- the purchase that runs: its terminal has taken these replies, and its card is on for it
 pub record PartRuns (p : Payment) (lane : Lane) (chip : ChipSeen) (replies : List Reply) (part : Part) : Type 0 where
   pub lane_is : LaneStands lane p (record part.lane { running = Some replies })
+  pub holder : Holder
+  pub has : part.card.holder ≡ Some holder
   pub on : ChipOn chip part.card.session part.card.kept p.planned.tear part.card.made
   pub none : part.card.pending ≡ None
   pub image : chip.image ≡ p.card.image
@@ -84,7 +86,6 @@ counted counts pasts = fold count_past counts pasts
 pub record MovedTo (p : Payment) (lane : Lane) (chip : ChipSeen) (lines : List Line) (m : Moved) : Type 0 where
   pub lane_is : LaneStands lane p m.part.lane
   pub card : CardStands chip p.card p.planned.tear m.part.card
-  pub held : is_on chip ≡ is_some m.part.lane.running
   pub lines_are : lines ≡ m.lines
 
 -- and the purchase that ended in it, if one did, is counted

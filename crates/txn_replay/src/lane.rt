@@ -51,10 +51,10 @@ pub(crate) fn finish<'s>(
     requires amount { at.now.planned.now.purchase.amount ≤ most_amount }
     requires amounts { All (λ logged. logged.amount ≤ most_amount) lane.old.log.items }
     requires lines { length lines.old.items < 8 }
-    ensures stands { (issuer : HostKeys) (accounts : List AccountData) (replies : List Reply) (row : LaneRow) (end : EndData)
+    ensures stands { (issuer : HostKeys) (accounts : List AccountData) (replies : List Reply) (row : LaneRow)
         → LaneStands lane.old (seen_payment issuer accounts at.now) (record row { running = Some replies })
-        → end_at (seen_payment issuer accounts at.now) replies ≡ Some end
-        → LaneStands lane.new (seen_payment issuer accounts at.now) (lane_ended (seen_payment issuer accounts at.now) replies end row)
+        → (end : EndData) × (end_at (seen_payment issuer accounts at.now) replies ≡ Some end)
+        × LaneStands lane.new (seen_payment issuer accounts at.now) (lane_ended (seen_payment issuer accounts at.now) replies end row)
         × (lines.new.items ≡ lines.old.items ++ end_line at.now.lane (length row.ended + 1) end ∷ [])
         × (tally.new ≡ raised tally.old end.ending (length replies)) }
     ensures amounts { All (λ logged. logged.amount ≤ most_amount) lane.new.log.items }

@@ -3,6 +3,7 @@
 
 pub mod event;
 pub mod laws;
+mod exchange;
 mod lane;
 mod lines;
 mod payment;
