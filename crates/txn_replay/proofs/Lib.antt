@@ -15,5 +15,6 @@ pub mod Lanes
 pub mod Few
 pub mod Apart
 pub mod Endings
+pub mod Exchanges
 pub mod Fairness
 mod Worked

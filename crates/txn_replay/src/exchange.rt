@@ -101,8 +101,8 @@ fn ask_card<'s, P: Pages>(
     };
     match chip.process(kernel.bytes(), &mut answer) {
         Ok(()) => {
-            add_answer(at.lane, kernel.bytes(), &answer, lines);
-            kernel.take_card(&answer, &lane.log);
+            add_answer(at.lane, kernel.bytes(), answer.as_slice(), lines);
+            kernel.take_card(answer.as_slice(), lane.log.as_slice());
             settle(at, lane, chip, tally, lines);
         }
         Err(Gone) => {
