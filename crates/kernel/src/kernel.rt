@@ -91,9 +91,12 @@ impl<'s> Kernel<'s> {
         stage_next(&self.stage)
     }
 
-    /// The command or the message to send, empty where the dialogue is over.
+    /// The command or the message to send, empty where the dialogue is over. A command has at most 261
+    /// bytes, and a message at most 2,048.
     pub fn bytes(&self) -> &[u8]
-        ensures { (replies : List Reply) → KernelStands self.now replies → result.now ≡ told_bytes (dialogue (deal_in self.now) replies) }
+        ensures told { (replies : List Reply) → KernelStands self.now replies → result.now ≡ told_bytes (dialogue (deal_in self.now) replies) }
+        ensures command { next_of self.now ≡ Next.ToCard → length result.now ≤ 261 }
+        ensures short { length result.now ≤ 2048 }
     {
         bytes_by(&self.table, stage_next(&self.stage))
     }
@@ -134,7 +137,9 @@ fn trading_next(trading: &Trading<'_>) -> Next
 
 /// The bytes of what a terminal does next.
 fn bytes_by<'a>(table: &'a Table<'_>, next: Next) -> &'a [u8]
-    ensures { result.now ≡ spec.bytes_by table.now next }
+    ensures bytes { result.now ≡ spec.bytes_by table.now next }
+    ensures command { next ≡ Next.ToCard → length result.now ≤ 261 }
+    ensures short { length result.now ≤ 2048 }
 {
     match next {
         Next::ToCard => table.command.as_slice(),

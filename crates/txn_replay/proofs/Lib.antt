@@ -14,5 +14,7 @@ pub mod Waiting
 pub mod Lanes
 pub mod Few
 pub mod Apart
+pub mod Endings
+pub mod Exchanges
 pub mod Fairness
 mod Worked

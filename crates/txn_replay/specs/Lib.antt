@@ -10,3 +10,4 @@ pub mod Counting
 pub mod Sound
 pub mod Laws
 pub mod Bounds
+pub mod Standing

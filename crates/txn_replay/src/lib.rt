@@ -3,6 +3,10 @@
 
 pub mod event;
 pub mod laws;
+mod exchange;
+mod lane;
+mod lines;
+mod payment;
 
 pub use event::Event;
 pub use laws::{lanes_are_sound, runs_are_fair, runs_end};

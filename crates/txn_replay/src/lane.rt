@@ -1,0 +1,126 @@
+//! A lane of a run: a terminal with its purchases.
+ghost use Rattle.std.specs.Prelude.{◌≡◌, ◌+◌, ◌≤◌, ◌<◌, ◌^◌, ◌++◌, ◌∷◌, [], ℕ, List, length, map, IsSomeAnd, Some, None, Option, option_map, option_to_list};
+ghost use Rattle.std.specs.List.{All};
+ghost use Rattle.std.specs.Vec.{vec_len, vec_capacity};
+ghost use Rattle.emv_dict.specs.Settings.{most_amount};
+ghost use Rattle.emv_dict.specs.Views.{PurchaseData};
+ghost use Rattle.issuer_host.specs.Account.{AccountData};
+ghost use Rattle.issuer_host.specs.declared.keys.HostKeys.{HostKeys};
+ghost use Rattle.kernel.specs.Ended.{EndData};
+ghost use Rattle.kernel.specs.Kernel.{next_of};
+ghost use Rattle.kernel.specs.Reply.{Reply};
+ghost use Rattle.kernel.specs.Tally.{raised};
+ghost use Rattle.kernel.specs.declared.kernel.Next.TheVariants as next;
+ghost use Rattle.object_lists.specs.CardRead.{ReadCard};
+ghost use Rattle.txn_replay.specs.Lines.{end_line};
+ghost use Rattle.txn_replay.specs.Part.{lane_ended, approval};
+ghost use Rattle.txn_replay.specs.Payment.{end_at};
+ghost use Rattle.txn_replay.specs.Standing.{LaneStands, seen_payment};
+ghost use Rattle.txn_replay.specs.World.{LaneRow};
+
+use crate::lines::{Lines, add_end};
+use crate::payment::Payment;
+use auth_message::Message;
+use emv_dict::{Digits, Ending, Logged};
+use kernel::{Capture, Ended, Kernel, Tally};
+use object_lists::CardData;
+use scenario_lanes::Planned;
+
+/// A terminal: how many of its purchases have ended, the one that runs, its log of approvals, the messages
+/// for settlement, and what reading gave in the purchase that ended last.
+#[derive(Drop)]
+pub(crate) struct Lane<'s> {
+    pub ended: u32,
+    pub running: Option<Kernel<'s>>,
+    pub log: Vec<Logged>,
+    pub captures: Vec<Message>,
+    pub card: Option<CardData>,
+}
+
+/// Ends the purchase whose dialogue is over: its end line, an approval for the log, and what is captured.
+pub(crate) fn finish<'s>(
+    at: &Payment<'s>,
+    lane: &mut Lane<'s>,
+    tally: &mut Tally,
+    lines: &mut Lines,
+)
+    requires over { IsSomeAnd lane.old.running (λ kernel. next_of kernel ≡ next.Ended) }
+    requires few { lane.old.ended < 10000 }
+    requires log { vec_len lane.old.log < vec_capacity lane.old.log }
+    requires captures { vec_len lane.old.captures < vec_capacity lane.old.captures }
+    requires amount { at.now.planned.now.purchase.amount ≤ most_amount }
+    requires amounts { All (λ logged. logged.amount ≤ most_amount) lane.old.log.items }
+    requires lines { length lines.old.items < 8 }
+    ensures stands { (issuer : HostKeys) (accounts : List AccountData) (replies : List Reply) (row : LaneRow)
+        → LaneStands lane.old (seen_payment issuer accounts at.now) (record row { running = Some replies })
+        → (end : EndData) × (end_at (seen_payment issuer accounts at.now) replies ≡ Some end)
+        × LaneStands lane.new (seen_payment issuer accounts at.now) (lane_ended (seen_payment issuer accounts at.now) replies end row)
+        × (lines.new.items ≡ lines.old.items ++ end_line at.now.lane (length row.ended + 1) end ∷ [])
+        × (tally.new ≡ raised tally.old end.ending (length replies)) }
+    ensures amounts { All (λ logged. logged.amount ≤ most_amount) lane.new.log.items }
+    ensures ended { lane.new.ended ≡ lane.old.ended + 1 }
+    ensures rests { lane.new.running ≡ None }
+{
+    let Some(kernel) = lane.running.take() else {
+        unreachable!();
+    };
+    let ended = kernel.into_ended(tally);
+    add_end(at.lane, lane.ended + 1, &ended, lines);
+    lane.ended += 1;
+    let Ended {
+        ending,
+        tvr: _,
+        tsi: _,
+        cvm: _,
+        pan,
+        card,
+        code: _,
+        last: _,
+        scripts: _,
+        capture,
+    } = ended;
+    let amount = amount_of(at.planned);
+    add_approval(&mut lane.log, ending, pan, amount);
+    add_capture(&mut lane.captures, capture);
+    lane.card = card;
+}
+
+/// The amount of a purchase.
+fn amount_of(planned: &Planned) -> u64
+    ensures { result ≡ planned.now.purchase.amount }
+{
+    planned.purchase.amount
+}
+
+/// An approval joins the log, under the number of the card's account.
+fn add_approval(log: &mut Vec<Logged>, ending: Ending, pan: Option<Digits>, amount: u64)
+    requires room { vec_len log.old < vec_capacity log.old }
+    ensures appended { (purchase : PurchaseData) (card : Option ReadCard) → purchase.amount ≡ amount → pan ≡ option_map (λ card. card.pan) card
+        → log.new.items ≡ log.old.items ++ approval purchase ending card }
+    ensures amounts { All (λ logged. logged.amount ≤ most_amount) log.old.items → amount ≤ most_amount → All (λ logged. logged.amount ≤ most_amount) log.new.items }
+{
+    let Ending::Approved { online: _ } = ending else {
+        return;
+    };
+    let Some(pan) = pan else {
+        return;
+    };
+    if log.push(Logged { pan, amount }).is_err() {
+        unreachable!();
+    }
+}
+
+/// What is captured waits for settlement.
+fn add_capture(captures: &mut Vec<Message>, capture: Option<Capture>)
+    requires room { vec_len captures.old < vec_capacity captures.old }
+    ensures { map (λ message. message.items) captures.new.items ≡ map (λ message. message.items) captures.old.items ++ option_to_list capture }
+{
+    let Some(capture) = capture else {
+        return;
+    };
+    let mut message = Message::new();
+    capture.into_message(&mut message);
+    if captures.push(message).is_err() {
+        unreachable!();
+    }
+}

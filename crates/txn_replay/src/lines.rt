@@ -1,0 +1,177 @@
+//! The lines of a report, as they are made.
+ghost use Rattle.std.specs.Prelude.{◌≡◌, ◌+◌, ◌≤◌, ◌<◌, ◌++◌, ◌∷◌, [], length, map, option_map, IfSome};
+ghost use Rattle.kernel.specs.Ended.{EndData};
+ghost use Rattle.kernel.specs.Shown.{EndedData, shown as shown_end};
+ghost use Rattle.report_text.specs.declared.line.Line.TheVariants.{Power, PowerTorn};
+ghost use Rattle.txn_replay.specs.Lines as spec;
+
+use arrayvec::ArrayVec;
+use ber_tlv::append;
+use card_state::{AppState, CardState, flags};
+use kernel::Ended;
+use online_step::Ac;
+use report_text::{EndParts, Line, Shown};
+
+/// The lines of one event.
+pub type Lines = ArrayVec<Line, 8>;
+
+/// An application's counters.
+#[tactic(auto, unfolding(crate::specs::Lines::shown_state))]
+fn shown(app: &AppState) -> Shown
+    ensures { result ≡ spec.shown_state app.now }
+{
+    Shown {
+        counter: app.counter,
+        last_online: app.last_online,
+        count: app.count,
+        sum: app.sum,
+        tries: app.tries,
+        flags: flags(app),
+    }
+}
+
+/// Those of each application.
+fn shown_apps(apps: &[AppState]) -> ArrayVec<Shown, 4>
+    requires { length apps.now ≤ 4 }
+    ensures { result.items ≡ map spec.shown_state apps.now }
+{
+    let mut all = ArrayVec::new();
+    for app in apps {
+        all.push(shown(app));
+    }
+    all
+}
+
+/// Those of a card.
+pub(crate) fn shown_all(state: &CardState) -> ArrayVec<Shown, 4>
+    ensures { result.items ≡ map spec.shown_state state.now.apps.items }
+{
+    shown_apps(state.apps.as_slice())
+}
+
+/// The counter and the cryptogram of the card's last one.
+fn last_of(last: &Option<Ac>) -> Option<(u16, [u8; 8])>
+    ensures { result ≡ option_map (λ ac. (ac.counter, ac.cryptogram)) last.now }
+{
+    match last {
+        Some(ac) => Some((ac.counter, ac.cryptogram)),
+        None => None,
+    }
+}
+
+/// The results of the scripts once more.
+fn results_of(results: &ArrayVec<[u8; 5], 8>) -> ArrayVec<[u8; 5], 8>
+    ensures { result.items ≡ results.now.items }
+{
+    let mut copy = ArrayVec::new();
+    if copy.try_extend_from_slice(results.as_slice()).is_err() {
+        unreachable!();
+    }
+    copy
+}
+
+/// The end line of a lane's purchase of this number.
+pub(crate) fn add_end(lane: u8, number: u32, ended: &Ended, lines: &mut Lines)
+    requires { length lines.old.items < 8 }
+    ensures { (end : EndData) → ended.now ≡ shown_end end → lines.new.items ≡ lines.old.items ++ spec.end_line lane number end ∷ [] }
+{
+    let parts = EndParts {
+        ending: ended.ending,
+        tvr: ended.tvr,
+        tsi: ended.tsi,
+        cvm: ended.cvm,
+        arc: ended.code,
+        atc_ac: last_of(&ended.last),
+        scripts: results_of(&ended.scripts),
+    };
+    lines.push(Line::End {
+        lane,
+        number,
+        parts,
+    });
+}
+
+/// The bytes of a line.
+fn bytes_of<const N: usize>(bytes: &[u8]) -> ArrayVec<u8, N>
+    requires { length bytes.now ≤ N }
+    ensures { result.items ≡ bytes.now }
+{
+    let mut copy = ArrayVec::new();
+    append(&mut copy, bytes);
+    copy
+}
+
+/// A command that is answered.
+pub(crate) fn add_answer(lane: u8, command: &[u8], answer: &[u8], lines: &mut Lines)
+    requires room { length lines.old.items < 7 }
+    requires command { length command.now ≤ 261 }
+    requires answer { length answer.now ≤ 258 }
+    ensures { lines.new.items ≡ lines.old.items ++ spec.answer_lines lane command.now answer.now }
+{
+    lines.push(Line::ToCard {
+        lane,
+        bytes: bytes_of(command),
+    });
+    lines.push(Line::FromCard {
+        lane,
+        bytes: bytes_of(answer),
+    });
+}
+
+/// One behind which the card is gone.
+pub(crate) fn add_torn(lane: u8, command: &[u8], lines: &mut Lines)
+    requires room { length lines.old.items < 7 }
+    requires command { length command.now ≤ 261 }
+    ensures { lines.new.items ≡ lines.old.items ++ spec.torn_lines lane command.now }
+{
+    lines.push(Line::ToCard {
+        lane,
+        bytes: bytes_of(command),
+    });
+    lines.push(Line::Torn { lane });
+}
+
+/// A message to the host, and its reply or silence.
+pub(crate) fn add_host(lane: u8, message: &[u8], reply: Option<&[u8]>, lines: &mut Lines)
+    requires room { length lines.old.items < 7 }
+    requires message { length message.now ≤ 2048 }
+    requires reply { IfSome reply (λ reply. length reply.now ≤ 2048) }
+    ensures { lines.new.items ≡ lines.old.items ++ spec.host_lines lane message.now (option_map (λ reply. reply.now) reply.entry) }
+{
+    lines.push(Line::ToHost {
+        lane,
+        bytes: bytes_of(message),
+    });
+    lines.push(match reply {
+        Some(reply) => Line::FromHost {
+            lane,
+            bytes: bytes_of(reply),
+        },
+        None => Line::NoReply { lane },
+    });
+}
+
+/// A card is powered up.
+pub(crate) fn add_power(lane: u8, name: &[u8], state: &CardState, lines: &mut Lines)
+    requires room { length lines.old.items < 8 }
+    requires name { length name.now ≤ 16 }
+    ensures { lines.new.items ≡ lines.old.items ++ Power lane (record { items = name.now }) (record { items = map spec.shown_state state.now.apps.items }) ∷ [] }
+{
+    lines.push(Line::Power {
+        lane,
+        card: bytes_of(name),
+        apps: shown_all(state),
+    });
+}
+
+/// The power is cut as a card is powered up.
+pub(crate) fn add_power_torn(lane: u8, name: &[u8], lines: &mut Lines)
+    requires room { length lines.old.items < 8 }
+    requires name { length name.now ≤ 16 }
+    ensures { lines.new.items ≡ lines.old.items ++ PowerTorn lane (record { items = name.now }) ∷ [] }
+{
+    lines.push(Line::PowerTorn {
+        lane,
+        card: bytes_of(name),
+    });
+}
