@@ -58,8 +58,8 @@ module _ (p : Payment) (lane : Lane) (chip next : ChipSeen) (replies : List Repl
       let is : answer ≡ (card_answer p.card.image part.card.kept part.card.session command).answer =
       said.answer_is ∙ ap (λ (image : List AppData). (card_answer image part.card.kept part.card.session command).answer) runs.image in
       let on : ChipOn next (part.card.session ++ record { command = command; answer = answer } ∷ [])
-          (part.card.kept ++ (card_answer p.card.image part.card.kept part.card.session command).new) p.planned.tear
-          (part.card.made + length (card_answer p.card.image part.card.kept part.card.session command).new) =
+      (part.card.kept ++ (card_answer p.card.image part.card.kept part.card.session command).new) p.planned.tear
+      (part.card.made + length (card_answer p.card.image part.card.kept part.card.session command).new) =
       subst (λ (image : List AppData). ChipOn next (part.card.session ++ record { command = command; answer = answer } ∷ [])
       (part.card.kept ++ (card_answer image part.card.kept part.card.session command).new) p.planned.tear
       (part.card.made + length (card_answer image part.card.kept part.card.session command).new)) runs.image said.on in

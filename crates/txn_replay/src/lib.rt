@@ -2,9 +2,9 @@
 #![tactic(auto)]
 
 pub mod event;
-pub mod laws;
 mod exchange;
 mod lane;
+pub mod laws;
 mod lines;
 mod payment;
 
