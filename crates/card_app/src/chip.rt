@@ -66,6 +66,7 @@ impl<'i, P: Pages> Chip<'i, P> {
         ensures lost { OnErr result ((kept : List Decided) (pending : Option Decided)
             → ChipOff self.old kept pending → ChipOff self.new kept pending) }
         ensures on { OnOk result (has_power self.new ≡ true) }
+        ensures off { OnErr result (has_power self.new ≡ false) }
         ensures spared { OnOk result (is_named tear 0 ≡ false) }
         ensures cut { OnErr result (is_named tear 0 ≡ true) }
         ensures image { self.new.image ≡ self.old.image }
@@ -103,6 +104,7 @@ impl<'i, P: Pages> Chip<'i, P> {
             → Allowed (opening_of self.old.image) (ds ++ (card_answer self.old.image ds session command.now).new) }
         ensures silent { OnErr result (out.new.items ≡ []) }
         ensures on { OnOk result (has_power self.new ≡ true) }
+        ensures off { OnErr result (has_power self.new ≡ false) }
         ensures image { self.new.image ≡ self.old.image }
         ensures losses { OnOk result (losses_of self.new ≡ losses_of self.old) }
         ensures gone { OnErr result (losses_of self.new ≡ one_more (losses_of self.old)) }
@@ -146,6 +148,7 @@ impl<'i, P: Pages> Chip<'i, P> {
         requires on { has_power self.old ≡ true }
         ensures stands { (session : List Exchange) (ds : List Decided) (plan : Option Plan) (made : ℕ)
             → ChipOn self.old session ds plan made → ChipOff self.new ds None }
+        ensures off { has_power self.new ≡ false }
         ensures image { self.new.image ≡ self.old.image }
         ensures losses { losses_of self.new ≡ losses_of self.old }
     {
