@@ -8,7 +8,7 @@ ghost use Rattle.emv_ports.specs.Causes.{one_more};
 ghost use Rattle.emv_ports.specs.Cut.{is_named, is_plan};
 ghost use Rattle.emv_ports.specs.declared.tear.Tear.{Tear as Plan};
 ghost use Rattle.card_app.specs.Answering.{card_answer};
-ghost use Rattle.card_app.specs.SeenChip.{ChipOn, ChipOff, IsChipOff, ChipAnswered, ChipCut, is_on, losses_of};
+ghost use Rattle.card_app.specs.SeenChip.{ChipOn, ChipOff, IsChipOff, ChipAnswered, ChipCut, is_on as has_power, losses_of};
 ghost use Rattle.card_app.specs.Session.{Exchange};
 ghost use Rattle.card_pages.specs.Pages.{MayStand, StandsFor, found_of};
 
@@ -65,7 +65,8 @@ impl<'i, P: Pages> Chip<'i, P> {
             → (with_it : Bool) × ChipOn self.new [] (found_of kept pending with_it) tear 0) }
         ensures lost { OnErr result ((kept : List Decided) (pending : Option Decided)
             → ChipOff self.old kept pending → ChipOff self.new kept pending) }
-        ensures on { OnOk result (is_on self.new ≡ true) }
+        ensures on { OnOk result (has_power self.new ≡ true) }
+        ensures off { OnErr result (has_power self.new ≡ false) }
         ensures spared { OnOk result (is_named tear 0 ≡ false) }
         ensures cut { OnErr result (is_named tear 0 ≡ true) }
         ensures image { self.new.image ≡ self.old.image }
@@ -91,7 +92,7 @@ impl<'i, P: Pages> Chip<'i, P> {
     /// Answers a command, as `Card::process` does. `Gone` comes exactly where the plan cuts one of its
     /// decisions: it is off then, and `out` is empty.
     pub fn process(&mut self, command: &[u8], out: &mut Answer) -> Result<(), Gone>
-        requires on { is_on self.old ≡ true }
+        requires on { has_power self.old ≡ true }
         ensures answered { OnOk result ((session : List Exchange) (ds : List Decided) (plan : Option Plan) (made : ℕ)
             → ChipOn self.old session ds plan made
             → ChipAnswered self.old self.new session ds plan made command.now out.new.items) }
@@ -102,7 +103,8 @@ impl<'i, P: Pages> Chip<'i, P> {
             → ChipOn self.old session ds plan made → Allowed (opening_of self.old.image) ds
             → Allowed (opening_of self.old.image) (ds ++ (card_answer self.old.image ds session command.now).new) }
         ensures silent { OnErr result (out.new.items ≡ []) }
-        ensures on { OnOk result (is_on self.new ≡ true) }
+        ensures on { OnOk result (has_power self.new ≡ true) }
+        ensures off { OnErr result (has_power self.new ≡ false) }
         ensures image { self.new.image ≡ self.old.image }
         ensures losses { OnOk result (losses_of self.new ≡ losses_of self.old) }
         ensures gone { OnErr result (losses_of self.new ≡ one_more (losses_of self.old)) }
@@ -122,9 +124,17 @@ impl<'i, P: Pages> Chip<'i, P> {
         }
     }
 
+    /// Whether the card is on.
+    pub fn is_on(&self) -> bool
+        ensures exact { result ≡ has_power self.now }
+        ensures off { (kept : List Decided) (pending : Option Decided) → ChipOff self.now kept pending → result ≡ false }
+    {
+        self.card.is_some()
+    }
+
     /// The state of the card that is on: the totals of its decisions.
     pub fn totals(&self) -> &CardState
-        requires on { is_on self.now ≡ true }
+        requires on { has_power self.now ≡ true }
         ensures totals { (session : List Exchange) (ds : List Decided) (plan : Option Plan) (made : ℕ)
             → ChipOn self.now session ds plan made → result.now ≡ totals_of (opening_of self.now.image) ds }
     {
@@ -136,9 +146,10 @@ impl<'i, P: Pages> Chip<'i, P> {
 
     /// Turns it off. Its pages stand for its decisions.
     pub fn power_off(&mut self)
-        requires on { is_on self.old ≡ true }
+        requires on { has_power self.old ≡ true }
         ensures stands { (session : List Exchange) (ds : List Decided) (plan : Option Plan) (made : ℕ)
             → ChipOn self.old session ds plan made → ChipOff self.new ds None }
+        ensures off { has_power self.new ≡ false }
         ensures image { self.new.image ≡ self.old.image }
         ensures losses { losses_of self.new ≡ losses_of self.old }
     {

@@ -3,7 +3,6 @@ ghost use Rattle.std.specs.Prelude.{◌≡◌, ◌/◌, ◌%◌, ◌<◌, ◌≤
 ghost use Rattle.apdu_core.specs.Seen.{seen_command};
 ghost use Rattle.card_files.specs.Files as files;
 ghost use Rattle.card_app.specs.Files as spec;
-ghost use Rattle.card_app.specs.Replies.{with_app};
 ghost use Rattle.card_pages.specs.Replies.{shows};
 ghost use Rattle.card_app.specs.SeenReply.{IsAt};
 
@@ -72,16 +71,7 @@ pub(crate) fn get_data(
     if !command.body.is_empty() {
         return WRONG_LENGTH;
     }
-    give_data(image, state, app, command.p1, command.p2, out)
-}
-
-/// The data object of an application.
-fn give_data(image: &Image, state: &CardState, app: u8, p1: u8, p2: u8, out: &mut Body) -> u16
-    requires empty { out.old.items ≡ [] }
-    requires apps { length state.now.apps.items ≡ length image.now }
-    requires app { app < length image.now }
-    ensures { shows out.new.items result ≡ with_app image.now state.now app (spec.data_object p1 p2) }
-{
+    let (p1, p2) = (command.p1, command.p2);
     give_object(app_at(image, app), state_at(state, app), p1, p2, out)
 }
 
