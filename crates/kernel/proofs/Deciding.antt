@@ -9,15 +9,17 @@ use Rattle.emv_dict.specs.declared.ending.Kind.{Kind}
 use Rattle.emv_dict.specs.declared.ending.Step.TheVariants as step
 use Rattle.emv_dict.specs.declared.purchase.Logged.{Logged}
 use Rattle.online_step.specs.Ac.{AcData, ac_of}
-use Rattle.online_step.specs.Generate.{list_data, generated, after_ac}
+use Rattle.online_step.specs.Generate.{list_data, generated, generate_command, after_ac}
 use Rattle.online_step.specs.Request.{request_of}
-use Rattle.kernel.specs.Course.{Standing, over, host_step}
+use Rattle.kernel.specs.Course.{Standing, over, host_step, cut_off}
 use Rattle.kernel.specs.Dialogue.{Trade, first_answered, online, is_offline_only, replied, unable_online, kind_unable, second, scripts_behind, decision, objects_at}
 use Rattle.kernel.specs.Marks.{Mark, HasFirst, HasSecond, WasUnable, moment, latest, card_of}
 use Rattle.kernel.specs.Reply.{Reply}
-use Rattle.kernel.specs.Stages.{TradingStands, Begins}
+use Rattle.kernel.specs.Stages.{TradingStands, Begins, generating, behind_if}
+use Rattle.kernel.specs.declared.stage.AtSecond.{AtSecond}
 use Rattle.kernel.specs.declared.stage.Trading.TheVariants as trading
 use Rattle.kernel.specs.declared.table.Table.{Table}
+use Rattle.kernel.proofs.Courses.{same}
 use Rattle.kernel.proofs.Following.{trading_stopped}
 
 -- the dialogue is over
@@ -68,6 +70,25 @@ second_unfilled t t2 trade marks log rest on asked behind begins none kept =
     trading_stopped t t2 trade step.Second marks log (generated 0x8D asked true (list_data 0x8D trade.card (objects_at trade marks)))
     (λ ac. scripts_behind (decision on ac.kind) behind (HasSecond ac ∷ marks)) (Dol (record { 0 = 0x8D })) rest kept
     (record { passed = begins.passed; tied = begins.tied; read = begins.read }) (λ later. rw none refl)
+
+-- it is filled, and its command asked
+second_asks : (given : List ℕ) → (asked : Kind) → (later : List (List ℕ)) → generated 0x8D asked true (Some given) later ≡ generating (generate_command asked given) asked true later
+second_asks given asked [] = refl
+second_asks given asked (answer ∷ later) = refl
+
+pub second_filled : (t t2 : Table) → (trade : Trade) → (marks : List Mark) → (log : List Logged) → (rest : List Reply → Standing Mark) → (state : AtSecond) → (given : List ℕ)
+    → Begins t trade.card marks rest (second trade state.online state.asked (behind_if state.online t.reply.scripts) marks log)
+    → list_data 0x8D trade.card (objects_at trade marks) ≡ Some given → t2.command.items ≡ generate_command state.asked given → t2.moment ≡ t.moment → t2.reply ≡ t.reply
+    → TradingStands t2 trade (trading.Second state) log rest
+unfolding second
+second_filled t t2 trade marks log rest state given begins is command kept replied = record {
+  marks = marks;
+  passed = λ later. begins.passed later ∙ rw (is, command, replied) (same (cut_off marks) step.Second step.Second marks (generated 0x8D state.asked true (Some given)) (generating (generate_command state.asked given) state.asked true)
+      (λ ac. scripts_behind (decision state.online ac.kind) (behind_if state.online t.reply.scripts) (HasSecond ac ∷ marks)) log later (λ at one two alike. refl) (second_asks given state.asked));
+  tied = kept ∙ begins.tied;
+  read = begins.read;
+  shows = tt;
+}
 
 -- an answer to GENERATE AC that gives a cryptogram, or a cause
 pub ac_given : (answer : List ℕ) → (asked : Kind) → (order : Bool) → (ac : AcData) → (later : List (List ℕ)) → ac_of answer asked order ≡ Ok ac → after_ac (ac_of answer asked order) later ≡ Done ac later

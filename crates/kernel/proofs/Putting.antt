@@ -1,5 +1,5 @@
--- An object that is put before those of greater tags.
-use Rattle.std.proofs.Common.{◌≡◌, ℕ, ◌+◌, ◌*◌, ◌<◌, ◌≤◌, List, [], ◌∷◌, length, true, false, None, Ok, refl, ap, arith}
+-- An object that is put before those of greater tags, or behind those of lesser ones.
+use Rattle.std.proofs.Common.{◌≡◌, ℕ, ◌+◌, ◌*◌, ◌<◌, ◌≤◌, List, [], ◌∷◌, ◌++◌, length, true, false, None, Ok, refl, ap, arith}
 use Rattle.std.specs.Prelude.{◌==◌, nat_lt, nat_le}
 use Rattle.std.specs.List.{AllByRecursion}
 use Rattle.std.proofs.lemmas.Bool.Decides.{nat_tests}
@@ -38,3 +38,27 @@ put_first tag value entries above few all_short short =
     let many : nat_le 512 (length entries) ≡ false = grind (arith, nat_tests) in
     let big : nat_lt 16384 (size_of_values entries + length value) ≡ false = grind (arith, nat_tests) in
     rw (absent_below tag entries above, many, big) (ap (λ (es : Entries). Ok es) (put_below tag value entries above))
+
+-- each tag is below this one
+abbrev AllBelow : ℕ → Entries → Type 0
+AllBelow tag entries = AllByRecursion (λ entry. entry.0 < tag) entries
+
+absent_above : (tag : ℕ) (entries : Entries) → AllBelow tag entries → value_of tag entries ≡ None
+absent_above tag [] below = refl
+absent_above tag (entry ∷ entries) below =
+    let other : (entry.0 == tag) ≡ false = (let less = below.0 in grind (arith, nat_tests)) in
+    rw other (absent_above tag entries below.1)
+
+put_above : (tag : ℕ) (value : List ℕ) (entries : Entries) → AllBelow tag entries → with_entry tag value entries ≡ entries ++ (tag, value) ∷ []
+put_above tag value [] below = refl
+put_above tag value (entry ∷ entries) below =
+    let over : nat_lt tag entry.0 ≡ false = (let less = below.0 in grind (arith, nat_tests)) in
+    rw over (ap (λ (es : Entries). entry ∷ es) (put_above tag value entries below.1))
+
+pub put_last : (tag : ℕ) (value : List ℕ) (entries : Entries) → AllByRecursion (λ entry. entry.0 < tag) entries → length entries ≤ 60 →
+    AllByRecursion (λ entry. length entry.1 ≤ 256) entries → length value ≤ 256 → put_of (record { 0 = tag }) value entries ≡ Ok (entries ++ (tag, value) ∷ [])
+put_last tag value entries below few all_short short =
+    let size : size_of_values entries ≤ 256 * length entries = size_small entries all_short in
+    let many : nat_le 512 (length entries) ≡ false = grind (arith, nat_tests) in
+    let big : nat_lt 16384 (size_of_values entries + length value) ≡ false = grind (arith, nat_tests) in
+    rw (absent_above tag entries below, many, big) (ap (λ (es : Entries). Ok es) (put_above tag value entries below))

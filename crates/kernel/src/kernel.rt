@@ -19,6 +19,7 @@ use crate::opening::OpeningNext;
 use crate::stage::{AtTrading, Opening, Stage, Trading};
 use crate::table::Table;
 use crate::trading::begin_trading;
+use apdu_core::Out;
 use emv_dict::{Logged, Purchase, Settings};
 use env_map::Env;
 use object_lists::CardData;
@@ -68,15 +69,15 @@ impl<'s> Kernel<'s> {
         requires purchase { IsPurchase purchase.now }
         ensures stands { KernelStands result [] }
         ensures deal { deal_in result ≡ record { settings = settings.now; purchase = purchase.now } }
+        ensures waits { next_of result ≡ Next.ToCard }
         // A dialogue ends after at most 20,000 replies and one more for each PIN entry.
         ensures few { rank_of result ≤ 20000 + length purchase.now.pins }
     {
-        let mut table = Table::new(settings, purchase);
-        let objects = Env::new();
-        let opening = opening::begin(&mut table, &objects);
+        let mut command = Out::new();
+        let opening = opening::begin(settings, purchase, &mut command);
         Kernel {
-            table,
-            objects,
+            table: Table::new(settings, purchase, command),
+            objects: Env::new(),
             card: None,
             stage: Stage::Opening(opening),
             taken: 0,

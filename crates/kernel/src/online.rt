@@ -93,8 +93,9 @@ fn go_online<'s>(table: &mut Table<'s>, card: &CardData, row: &AidRow) -> Tradin
     if is_offline_only(table.settings) {
         return be_unable(table, card, row, false);
     }
+    let mut terminal = Env::new();
     put_objects(
-        &mut table.terminal,
+        &mut terminal,
         table.settings,
         table.purchase,
         row,
@@ -102,7 +103,7 @@ fn go_online<'s>(table: &mut Table<'s>, card: &CardData, row: &AidRow) -> Tradin
     );
     write_online(
         &table.moment,
-        &table.terminal,
+        &terminal,
         table.settings,
         card,
         &mut table.message,
@@ -219,15 +220,16 @@ pub(crate) fn begin_second<'s>(
     ensures few { trading_rank table.new.reply.scripts result ≤ 1 + bytes_in (behind_if state.online table.old.reply.scripts) }
     ensures room { HasRoom table.new (scripts_left table.new.reply.scripts result) }
 {
+    let mut terminal = Env::new();
     put_terminal(
-        &mut table.terminal,
+        &mut terminal,
         table.settings,
         table.purchase,
         row,
         &table.moment,
     );
     let mut filled = ArrayVec::new();
-    if fill_list(SECOND_LIST, card, &table.terminal, &mut filled) {
+    if fill_list(SECOND_LIST, card, &terminal, &mut filled) {
         write_generate(state.asked, &filled, &mut table.command);
         Trading::Second(state)
     } else {

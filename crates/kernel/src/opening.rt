@@ -5,7 +5,7 @@ ghost use Rattle.app_select.specs.Leading.{HasRoom, rest_with, selected_with, an
 ghost use Rattle.app_select.specs.NextLeads.{SearchNextLeads, NextHasRoom};
 ghost use Rattle.app_select.specs.Selecting.{SelectedData};
 ghost use Rattle.emv_dict.specs.Progress.{Progress};
-ghost use Rattle.emv_dict.specs.Settings.{IsAidRow};
+ghost use Rattle.emv_dict.specs.Settings.{IsAidRow, IsSettings};
 ghost use Rattle.emv_dict.specs.declared.ending.Step.TheVariants as step;
 ghost use Rattle.emv_dict.specs.declared.purchase.Logged.{Logged};
 ghost use Rattle.env_map.specs.Entries.{Entries};
@@ -32,8 +32,9 @@ ghost use Rattle.kernel.specs.declared.stage.Opening.TheVariants as stage;
 use crate::stage::{AtInitiate, AtRead, AtSelect, Opening};
 use crate::table::Table;
 use crate::terminal::put_terminal;
+use apdu_core::Out;
 use app_select::{Choice, Search, SearchNext};
-use emv_dict::{AidRow, Ending, Step};
+use emv_dict::{AidRow, Ending, Purchase, Settings, Step};
 use env_map::Env;
 use read_records::{Course, CourseNext, Initiating, OptionsNext};
 
@@ -46,21 +47,25 @@ pub(crate) enum OpeningNext<'s> {
     Read(&'s AidRow),
 }
 
-/// A dialogue begins: no candidate is found, and no object is read.
+/// A dialogue begins with its first command: no candidate is found, and no object is read.
 #[tactic(auto, unfolding(crate::specs::Dialogue::dialogue))]
-pub(crate) fn begin<'s>(table: &mut Table<'s>, objects: &Env) -> Opening<'s>
-    requires deal { IsDeal (deal_of table.old) }
-    requires candidates { table.old.candidates ≡ [] }
-    requires objects { objects.now ≡ [] }
-    requires moment { table.old.moment ≡ moment [] }
-    ensures stands { OpeningStands table.new objects.now result [] (dialogue (deal_of table.old)) }
-    ensures same { deal_of table.new ≡ deal_of table.old }
-    ensures few { opening_rank table.new result ≤ 2 * 512 + (most_records + rank_behind table.old) }
-    ensures fits { OpeningFits table.new objects.now result }
+pub(crate) fn begin<'s>(
+    settings: &'s Settings,
+    purchase: &Purchase,
+    command: &mut Out,
+) -> Opening<'s>
+    requires settings { IsSettings settings.now }
+    ensures stands { (table : Table) → deal_of table ≡ record { settings = settings.now; purchase = purchase.now }
+        → table.candidates ≡ [] → table.moment ≡ moment [] → table.command.items ≡ command.new.items
+        → OpeningStands table [] result [] (dialogue (deal_of table)) }
+    ensures waits { opening_next result ≡ waits.ToCard }
+    ensures few { (table : Table) → table.candidates ≡ [] → opening_rank table result ≤ 2 * 512 + (most_records + rank_behind table) }
+    ensures fits { (table : Table) → table.candidates ≡ [] → table.moment ≡ moment [] → OpeningFits table [] result }
 {
-    let purchase = table.purchase;
-    let search = Search::begin(table.settings, purchase.confirm);
-    ask_search(table, objects, false, search)
+    let search = Search::begin(settings, purchase.confirm);
+    search.ask(command);
+    let begun = false;
+    Opening::Select(AtSelect { search, begun })
 }
 
 /// The next SELECT is asked.
@@ -120,14 +125,15 @@ fn initiate<'s>(table: &mut Table<'s>, objects: &Env, choice: Choice<'s>) -> Ope
     ensures few { opening_rank table.new result ≤ 1 + 2 * length table.old.candidates + (most_records + rank_behind table.old) }
     ensures fits { OpeningFits table.new objects.now result }
 {
+    let mut terminal = Env::new();
     put_terminal(
-        &mut table.terminal,
+        &mut terminal,
         table.settings,
         table.purchase,
         choice.row(),
         &table.moment,
     );
-    match Initiating::begin_over(choice.pdol(), objects, &table.terminal) {
+    match Initiating::begin_over(choice.pdol(), objects, &terminal) {
         Ok(initiating) => {
             initiating.ask(&mut table.command);
             Opening::Initiate(AtInitiate { initiating, choice })

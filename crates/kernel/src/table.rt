@@ -11,7 +11,6 @@ use app_select::Candidates;
 use arrayvec::ArrayVec;
 use auth_message::Message;
 use emv_dict::{Purchase, Settings};
-use env_map::Env;
 use std::marker::Model;
 
 /// The host's reply, kept for the steps behind it.
@@ -38,13 +37,12 @@ impl Model for HostReply {
     ghost invariant = { λ r. AreFew r.scripts.items };
 }
 
-/// The table. The map of the terminal's objects is filled anew for each list that is asked for.
+/// The table.
 #[derive(Drop)]
 pub(crate) struct Table<'s> {
     pub settings: &'s Settings,
     pub purchase: &'s Purchase,
     pub candidates: Candidates<'s>,
-    pub terminal: Env,
     pub moment: Moment,
     pub reply: HostReply,
     pub command: Out,
@@ -52,21 +50,21 @@ pub(crate) struct Table<'s> {
 }
 
 impl<'s> Table<'s> {
-    /// The table before the first command: nothing is known yet.
-    pub(crate) fn new(settings: &'s Settings, purchase: &'s Purchase) -> Table<'s>
+    /// The table with the first command: nothing is known yet.
+    pub(crate) fn new(settings: &'s Settings, purchase: &'s Purchase, command: Out) -> Table<'s>
         requires { IsSettings settings.now }
         ensures deal { deal_of result ≡ record { settings = settings.now; purchase = purchase.now } }
         ensures candidates { result.candidates ≡ [] }
         ensures moment { result.moment ≡ moment [] }
+        ensures command { result.command.items ≡ command.items }
     {
         Table {
             settings,
             purchase,
             candidates: Candidates::new(settings),
-            terminal: Env::new(),
             moment: Moment::new(),
             reply: HostReply::none(),
-            command: ArrayVec::new(),
+            command,
             message: ArrayVec::new(),
         }
     }

@@ -1,5 +1,5 @@
 //! The data objects that a terminal gives to the object lists of a card (EMV 4.3 Book 3 Annex A).
-ghost use Rattle.std.specs.Prelude.{◌≡◌, ◌≤◌, ◌<◌, ◌∷◌, ◌++◌, length, option_map};
+ghost use Rattle.std.specs.Prelude.{◌≡◌, ◌≤◌, ◌<◌, [], ◌∷◌, ◌++◌, length, option_map};
 ghost use Rattle.std.specs.List.{AllByRecursion};
 ghost use Rattle.emv_dict.specs.Settings.{IsSettings, IsPurchase};
 ghost use Rattle.kernel.specs.Terminal.{terminal_objects, lasting_objects, if_there};
@@ -45,7 +45,7 @@ fn put_issuer_data(env: &mut Env, value: &Option<IssuerData>)
     }
 }
 
-/// Those that are always there, the greatest tag first, so that each goes to the front.
+/// Those that are always there, by rising tag, so that each goes to the end and none is moved.
 #[tactic(auto, unfolding(crate::specs::Terminal::lasting_objects))]
 fn put_lasting(
     env: &mut Env,
@@ -63,22 +63,22 @@ fn put_lasting(
     ensures all_short { AllByRecursion (λ entry. length entry.1 ≤ 256) env.new }
 {
     env.clear();
-    add(env, Tag(0x9f37), &purchase.number);
-    add(env, Tag(0x9f35), &[two_digits(settings.kind)]);
-    add(env, Tag(0x9f34), &moment.results);
-    add(env, Tag(0x9f33), &settings.caps);
-    add(env, Tag(0x9f21), &purchase.time);
-    add(env, Tag(0x9f1c), &settings.id);
-    add(env, Tag(0x9f1a), &settings.country);
-    add(env, Tag(0x9f09), &row.version);
-    add(env, Tag(0x9f06), row.name.as_slice());
-    add(env, Tag(0x9f03), &amount_bytes(purchase.other));
-    add(env, Tag(0x9f02), &amount_bytes(purchase.amount));
-    add(env, Tag(0x5f2a), &purchase.currency);
-    add(env, Tag(0x9c), &[purchase.trade]);
-    add(env, Tag(0x9b), &moment.tsi.bytes());
-    add(env, Tag(0x9a), &purchase.date);
-    add(env, Tag(0x95), &moment.tvr.bytes());
+    add_last(env, Tag(0x95), &moment.tvr.bytes());
+    add_last(env, Tag(0x9a), &purchase.date);
+    add_last(env, Tag(0x9b), &moment.tsi.bytes());
+    add_last(env, Tag(0x9c), &[purchase.trade]);
+    add_last(env, Tag(0x5f2a), &purchase.currency);
+    add_last(env, Tag(0x9f02), &amount_bytes(purchase.amount));
+    add_last(env, Tag(0x9f03), &amount_bytes(purchase.other));
+    add_last(env, Tag(0x9f06), row.name.as_slice());
+    add_last(env, Tag(0x9f09), &row.version);
+    add_last(env, Tag(0x9f1a), &settings.country);
+    add_last(env, Tag(0x9f1c), &settings.id);
+    add_last(env, Tag(0x9f21), &purchase.time);
+    add_last(env, Tag(0x9f33), &settings.caps);
+    add_last(env, Tag(0x9f34), &moment.results);
+    add_last(env, Tag(0x9f35), &[two_digits(settings.kind)]);
+    add_last(env, Tag(0x9f37), &purchase.number);
 }
 
 /// Adds an object before those of greater tags.
@@ -88,6 +88,20 @@ fn add(env: &mut Env, tag: Tag, value: &[u8])
     requires all_short { AllByRecursion (λ entry. length entry.1 ≤ 256) env.old }
     requires short { length value.now ≤ 256 }
     ensures { env.new ≡ (tag.0, value.now) ∷ env.old }
+{
+    match env.put(tag, value) {
+        Ok(()) => {}
+        Err(_) => unreachable!(),
+    }
+}
+
+/// Adds an object behind those of lesser tags.
+fn add_last(env: &mut Env, tag: Tag, value: &[u8])
+    requires below { AllByRecursion (λ entry. entry.0 < tag.0) env.old }
+    requires few { length env.old ≤ 60 }
+    requires all_short { AllByRecursion (λ entry. length entry.1 ≤ 256) env.old }
+    requires short { length value.now ≤ 256 }
+    ensures { env.new ≡ env.old ++ (tag.0, value.now) ∷ [] }
 {
     match env.put(tag, value) {
         Ok(()) => {}

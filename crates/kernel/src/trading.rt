@@ -30,6 +30,7 @@ use arrayvec::ArrayVec;
 use ber_tlv::Tag;
 use cvm_list::{VerifyNext, Verifying};
 use emv_dict::{AidRow, Cause, Ending, Kind, Logged, Settings, Step};
+use env_map::Env;
 use object_lists::CardData;
 use online_step::{fill_list, write_generate};
 use restrictions::restrict;
@@ -257,15 +258,16 @@ fn begin_first<'s>(table: &mut Table<'s>, card: &CardData, row: &AidRow, asked: 
     ensures few { trading_rank table.new.reply.scripts result ≤ 4 + most_scripts }
     ensures room { HasRoom table.new (scripts_left table.new.reply.scripts result) }
 {
+    let mut terminal = Env::new();
     put_terminal(
-        &mut table.terminal,
+        &mut terminal,
         table.settings,
         table.purchase,
         row,
         &table.moment,
     );
     let mut filled = ArrayVec::new();
-    if fill_list(FIRST_LIST, card, &table.terminal, &mut filled) {
+    if fill_list(FIRST_LIST, card, &terminal, &mut filled) {
         write_generate(asked, &filled, &mut table.command);
         Trading::First(asked)
     } else {

@@ -1,13 +1,13 @@
 //! A whole dialogue, exchange by exchange.
 ghost use Rattle.std.specs.Prelude.{◌≤◌};
 ghost use Rattle.std.specs.List.{All};
-ghost use Rattle.emv_dict.specs.Settings.{most_amount};
+ghost use Rattle.emv_dict.specs.Settings.{IsPurchase, IsSettings, most_amount};
 
 use crate::deal::{Deal, Difference, put_bytes};
 use crate::names::text_of;
 use arrayvec::ArrayVec;
 use auth_message::Message;
-use emv_dict::Logged;
+use emv_dict::{Logged, Purchase, Settings};
 use kernel::{Capture, Ended, Kernel, Next, Tally};
 use online_step::Ac;
 use report_text::{EndParts, Line, Text, write_line};
@@ -32,15 +32,29 @@ pub fn play(alloc: Global, line: &str) -> Result<(), Difference> {
     let settings = deal.settings(alloc)?;
     let purchase = deal.purchase(alloc)?;
     let log = deal.log(alloc)?;
-    let mut kernel = Kernel::begin(&settings, &purchase);
-    let replies = exchange_all(&mut kernel, parts.exchanges, &log)?;
+    go_through(&settings, &purchase, &log, &parts)
+}
+
+/// Goes through a dialogue, and compares its end.
+fn go_through(
+    settings: &Settings,
+    purchase: &Purchase,
+    log: &[Logged],
+    parts: &Parts<'_>,
+) -> Result<(), Difference>
+    requires settings { IsSettings settings.now }
+    requires purchase { IsPurchase purchase.now }
+    requires log { All (λ logged. logged.amount ≤ most_amount) log.now }
+{
+    let mut kernel = Kernel::begin(settings, purchase);
+    let replies = exchange_all(&mut kernel, parts.exchanges, log)?;
     match kernel.next() {
         Next::Ended => {}
         Next::ToCard | Next::ToHost => return Err(Difference::Deed(replies)),
     }
     let mut tally = Tally::new();
     let ended = kernel.into_ended(&mut tally);
-    compare(ended, &parts)?;
+    compare(ended, parts)?;
     if tally.counts() == counts_of(parts.end, replies) {
         Ok(())
     } else {

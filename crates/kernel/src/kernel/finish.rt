@@ -24,7 +24,15 @@ impl<'s> Kernel<'s> {
             → dialogue (deal_in self.entry) (replies ++ more) ≡ dialogue (deal_in self.entry) replies }
     {
         let Kernel {
-            table,
+            table: Table {
+                settings,
+                purchase,
+                candidates: _,
+                moment,
+                reply: _,
+                command: _,
+                message: _,
+            },
             objects: _,
             card,
             stage,
@@ -32,16 +40,6 @@ impl<'s> Kernel<'s> {
         } = self;
         let ending = ending_of(&stage);
         tally.raise(ending, taken);
-        let Table {
-            settings,
-            purchase,
-            candidates: _,
-            terminal: _,
-            moment,
-            reply: _,
-            command: _,
-            message: _,
-        } = table;
         end_record(settings, purchase, moment, card, ending)
     }
 }

@@ -1,15 +1,17 @@
 //! A kernel takes the replies of the card and of the host.
-ghost use Rattle.std.specs.Prelude.{◌≡◌, ◌≤◌, ◌<◌, ◌∷◌, ◌++◌, [], List, Option, None, option_map};
+ghost use Rattle.std.specs.Prelude.{◌≡◌, ◌≤◌, ◌<◌, ◌∷◌, ◌++◌, [], List, Option, Some, None, option_map};
 ghost use Rattle.std.specs.List.{All};
 ghost use Rattle.emv_dict.specs.Settings.{most_amount};
 ghost use Rattle.emv_dict.specs.declared.purchase.Logged.{Logged as LoggedRow};
 ghost use Rattle.kernel.specs.Course.{Standing};
 ghost use Rattle.env_map.specs.Entries.{Entries};
-ghost use Rattle.object_lists.specs.CardRead.{ReadCard};
-ghost use Rattle.kernel.specs.Fits.{OpeningFits};
+ghost use Rattle.object_lists.specs.CardRead.{ReadCard, card_of};
+ghost use Rattle.object_lists.specs.Forms.{HasForms};
+ghost use Rattle.kernel.specs.Dialogue.{restrictions};
+ghost use Rattle.kernel.specs.Fits.{OpeningFits, HasReadCard};
 ghost use Rattle.kernel.specs.Kernel.{KernelStands, StageFits, StageGoes, TradingFits, TradingGoes, deal_in, next_of, stage_next, opening_next, trading_next};
 ghost use Rattle.kernel.specs.Marks.{Mark};
-ghost use Rattle.kernel.specs.Rank.{rank_of, stage_rank, opening_rank, trading_rank};
+ghost use Rattle.kernel.specs.Rank.{rank_of, stage_rank, opening_rank, trading_rank, rank_behind};
 ghost use Rattle.kernel.specs.Reply.{Reply, CardSaid, CardGone, HostSaid, HostSilent, from_host};
 ghost use Rattle.kernel.specs.Stages.{OpeningStands};
 ghost use Rattle.kernel.specs.Table.{IsDeal, deal_of};
@@ -18,11 +20,11 @@ ghost use Rattle.kernel.specs.declared.kernel.Next.TheVariants as next;
 use super::Kernel;
 use crate::opening;
 use crate::opening::OpeningNext;
-use crate::stage::{AtTrading, Opening, Stage};
+use crate::stage::{AtTrading, Opening, Stage, Trading};
 use crate::table::Table;
 use crate::trading::begin_trading;
 use crate::turns::{on_card, on_gone, on_host};
-use emv_dict::{Ending, Logged, Step};
+use emv_dict::{AidRow, Ending, Logged, Step};
 use env_map::Env;
 use object_lists::CardData;
 use std::mem;
@@ -40,12 +42,11 @@ impl<'s> Kernel<'s> {
         ensures deal { deal_in self.new ≡ deal_in self.old }
         ensures nearer { rank_of self.new < rank_of self.old }
     {
-        let stage = mem::replace(&mut self.stage, Stage::Opening(Opening::Over(TAKEN_OUT)));
-        self.stage = stage_said(
+        stage_said(
             &mut self.table,
             &mut self.objects,
             &mut self.card,
-            stage,
+            &mut self.stage,
             reply,
             log,
         );
@@ -157,13 +158,42 @@ fn on_opening<'s>(
 {
     match opening::on_answer(table, objects, state, reply) {
         OpeningNext::On(state) => Stage::Opening(state),
-        OpeningNext::Read(row) => {
-            let card = CardData::new(mem::replace(objects, Env::new()));
-            let trading = begin_trading(table, &card, row, log);
-            *held = Some(card);
-            Stage::Trading(AtTrading { row, trading })
-        }
+        OpeningNext::Read(row) => Stage::Trading(has_read(table, objects, held, row, log)),
     }
+}
+
+/// The card is read, and the trading begins. The data take their place before, and stay in it.
+fn has_read<'s>(
+    table: &mut Table<'s>,
+    objects: &mut Env,
+    held: &mut Option<CardData>,
+    row: &'s AidRow,
+    log: &[Logged],
+) -> AtTrading<'s>
+    requires deal { IsDeal (deal_of table.old) }
+    requires read { HasReadCard table.old objects.old row.now }
+    requires log { All (λ logged. logged.amount ≤ most_amount) log.now }
+    ensures stands { (rest : List Reply → Standing Mark)
+        → ((later : List Reply) → rest later ≡ restrictions (record { deal = deal_of table.old; row = row.entry.now; card = card_of objects.old }) log.now later)
+        → TradingGoes table.new held.new result log.now rest }
+    ensures same { deal_of table.new ≡ deal_of table.old }
+    ensures few { trading_rank table.new.reply.scripts result.trading ≤ rank_behind table.old }
+    ensures fits { TradingFits table.new held.new result }
+{
+    keep_card(objects, held);
+    let Some(card) = held else {
+        unreachable!();
+    };
+    let trading = begin_trading(table, card, row, log);
+    AtTrading { row, trading }
+}
+
+/// Keeps what these objects make.
+fn keep_card(objects: &mut Env, held: &mut Option<CardData>)
+    requires { HasForms objects.old }
+    ensures { held.new ≡ Some (card_of objects.old) }
+{
+    *held = Some(CardData::new(mem::replace(objects, Env::new())));
 }
 
 /// The card's answer at any stage.
@@ -171,24 +201,27 @@ fn stage_said<'s>(
     table: &mut Table<'s>,
     objects: &mut Env,
     held: &mut Option<CardData>,
-    stage: Stage<'s>,
+    stage: &mut Stage<'s>,
     reply: &[u8],
     log: &[Logged],
-) -> Stage<'s>
+)
     requires deal { IsDeal (deal_of table.old) }
-    requires fits { StageFits table.old objects.old held.old stage }
-    requires waits { stage_next stage ≡ next.ToCard }
+    requires fits { StageFits table.old objects.old held.old stage.old }
+    requires waits { stage_next stage.old ≡ next.ToCard }
     requires log { All (λ logged. logged.amount ≤ most_amount) log.now }
     ensures stands { (before : List LoggedRow) (rest : List Reply → Standing Mark)
-        → StageGoes table.old objects.old held.old stage.entry before rest
-        → StageGoes table.new objects.new held.new result log.now (λ later. rest (CardSaid reply.now log.now ∷ later)) }
+        → StageGoes table.old objects.old held.old stage.old before rest
+        → StageGoes table.new objects.new held.new stage.new log.now (λ later. rest (CardSaid reply.now log.now ∷ later)) }
     ensures same { deal_of table.new ≡ deal_of table.old }
-    ensures nearer { stage_rank table.new result < stage_rank table.old stage.entry }
-    ensures fits { StageFits table.new objects.new held.new result }
+    ensures nearer { stage_rank table.new stage.new < stage_rank table.old stage.old }
+    ensures fits { StageFits table.new objects.new held.new stage.new }
 {
     match stage {
-        Stage::Opening(state) => on_opening(table, objects, held, state, reply, log),
-        Stage::Trading(at) => Stage::Trading(trading_said(table, held, at, reply, log)),
+        Stage::Opening(opening) => {
+            let state = mem::replace(opening, Opening::Over(TAKEN_OUT));
+            *stage = on_opening(table, objects, held, state, reply, log);
+        }
+        Stage::Trading(at) => trading_said(table, held, at, reply, log),
     }
 }
 
@@ -196,27 +229,26 @@ fn stage_said<'s>(
 fn trading_said<'s>(
     table: &mut Table<'s>,
     held: &Option<CardData>,
-    at: AtTrading<'s>,
+    at: &mut AtTrading<'s>,
     reply: &[u8],
     log: &[Logged],
-) -> AtTrading<'s>
+)
     requires deal { IsDeal (deal_of table.old) }
-    requires fits { TradingFits table.old held.now at }
-    requires waits { trading_next at.trading ≡ next.ToCard }
+    requires fits { TradingFits table.old held.now at.old }
+    requires waits { trading_next at.old.trading ≡ next.ToCard }
     requires log { All (λ logged. logged.amount ≤ most_amount) log.now }
     ensures stands { (before : List LoggedRow) (rest : List Reply → Standing Mark)
-        → TradingGoes table.old held.now at.entry before rest
-        → TradingGoes table.new held.now result log.now (λ later. rest (CardSaid reply.now log.now ∷ later)) }
+        → TradingGoes table.old held.now at.old before rest
+        → TradingGoes table.new held.now at.new log.now (λ later. rest (CardSaid reply.now log.now ∷ later)) }
     ensures same { deal_of table.new ≡ deal_of table.old }
-    ensures nearer { trading_rank table.new.reply.scripts result.trading < trading_rank table.old.reply.scripts at.entry.trading }
-    ensures fits { TradingFits table.new held.now result }
+    ensures nearer { trading_rank table.new.reply.scripts at.new.trading < trading_rank table.old.reply.scripts at.old.trading }
+    ensures fits { TradingFits table.new held.now at.new }
 {
     let Some(card) = held else {
         unreachable!();
     };
-    let AtTrading { row, trading } = at;
-    let trading = on_card(table, card, row, log, trading, reply);
-    AtTrading { row, trading }
+    let trading = mem::replace(&mut at.trading, Trading::Over(TAKEN_OUT));
+    at.trading = on_card(table, card, at.row, log, trading, reply);
 }
 
 /// The card is gone at any stage.

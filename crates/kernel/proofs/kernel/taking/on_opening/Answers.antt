@@ -1,4 +1,5 @@
-use Rattle.std.proofs.Common.{refl, ◌∙◌}
+use Rattle.std.proofs.Common.{◌∷◌}
+use Rattle.kernel.specs.Reply.{CardSaid}
 use Rattle.kernel.proofs.kernel.taking.on_opening.Goals as goal
 
 pub returns-in-On-clause-stands : goal.returns-in-On-clause-stands
@@ -6,10 +7,4 @@ returns-in-On-clause-stands c = λ before rest stands. c.in-On.ensures.stands be
 
 pub returns-in-Read-clause-stands : goal.returns-in-Read-clause-stands
 returns-in-Read-clause-stands c = λ before rest stands.
-    let passed = c.in-Read.ensures.stands before c.args.log.now rest stands in
-    record {
-      card = c.new-card.result;
-      card_is = refl;
-      stands = rw c.begin_trading-trading.ensures.same
-          (c.begin_trading-trading.ensures.stands _ (λ later. passed later ∙ rw (c.new-card.ensures.card, c.replace.ensures.value) refl));
-    }
+    c.has_read.ensures.stands (λ later. rest (CardSaid c.args.reply.now c.args.log.now ∷ later)) (c.in-Read.ensures.stands before c.args.log.now rest stands)
