@@ -1,5 +1,5 @@
 -- An exchange of one lane leaves the other lanes and their cards.
-use Rattle.std.proofs.Common.{◌≡◌, ◌≢◌, ℕ, Bool, Option, Some, None, refl}
+use Rattle.std.proofs.Common.{◌≡◌, ℕ, Bool, Option, Some, None, refl}
 use Rattle.std.proofs.lemmas.List.{get_or-set_other}
 use Rattle.scenario.specs.Plan.{ScenarioData}
 use Rattle.txn_replay.specs.Laws.{LeavesOthers}

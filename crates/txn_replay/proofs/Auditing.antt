@@ -1,5 +1,5 @@
 -- The steps of an audit: each is of one of the scenario's cards, and its commands decide nothing.
-use Rattle.std.proofs.Common.{◌≡◌, ◌⊎◌, ℕ, zero, suc, ◌+◌, List, [], ◌∷◌, ◌++◌, slice_get, Option, Some, None, refl, sym, ap, ◌∙◌, subst, inl, inr, arith}
+use Rattle.std.proofs.Common.{◌≡◌, ℕ, zero, suc, ◌+◌, List, [], ◌∷◌, slice_get, Some, refl, subst, inl, inr, arith}
 use Rattle.std.specs.List.{flat_map}
 use Rattle.std.proofs.lemmas.Option.{same_Some}
 use Rattle.app_select.specs.Said.{select_command}
@@ -33,7 +33,7 @@ asked_of i card (app ∷ apps) (suc (suc zero)) check here =
     subst (λ (c : Check). IsCheckOf i card c) (same_Some (Asks i card (get_data last_online_tag)) check here) (refl, refl, data_idles last_online_tag)
 asked_of i card (app ∷ apps) (suc (suc (suc k))) check here = asked_of i card apps k check here
 
-card_check_of : (i : ℕ) (card : CardData) (k : ℕ) (check : Check) → slice_get (card_checks i card) k ≡ Some check → IsCheckOf i card check
+pub card_check_of : (i : ℕ) (card : CardData) (k : ℕ) (check : Check) → slice_get (card_checks i card) k ≡ Some check → IsCheckOf i card check
 card_check_of i card zero check here = subst (λ (c : Check). IsCheckOf i card c) (same_Some (PowersUp i card) check here) (refl, refl)
 card_check_of i card (suc k) check here = asked_of i card card.image k check here
 

@@ -1,5 +1,5 @@
 -- What each event keeps of a card holds of every card of every run.
-use Rattle.std.proofs.Common.{◌≡◌, ◌⊎◌, ℕ, Bool, true, false, List, [], ◌∷◌, ◌++◌, length, slice_get, Option, Some, None, refl, inl}
+use Rattle.std.proofs.Common.{◌≡◌, ◌⊎◌, ℕ, Bool, true, false, List, [], ◌∷◌, ◌++◌, length, Option, Some, None, refl, inl}
 use Rattle.card_app.specs.Answering.{card_answer}
 use Rattle.card_files.specs.Views.{AppData}
 use Rattle.card_pages.specs.Cuts.{Cut, cut_of}
@@ -10,7 +10,7 @@ use Rattle.kernel.specs.Dialogue.{dialogue}
 use Rattle.kernel.specs.Ended.{EndData}
 use Rattle.kernel.specs.Reply.{Reply, CardSaid, CardGone, Deed, ToCard, ToHost, Over}
 use Rattle.report_text.specs.declared.line.Line.{Line}
-use Rattle.txn_replay.specs.Changes.{powered, exchanged, torn, freed}
+use Rattle.txn_replay.specs.Changes.{powered, exchanged, torn, lost, freed}
 use Rattle.txn_replay.specs.Lines.{torn_lines, power_torn_line}
 use Rattle.txn_replay.specs.Part.{Part, settled_by, cut_ends, answered, asked, begun, begun_by, piece_by, piece}
 use Rattle.txn_replay.specs.Payment.{Payment, deal_for, end_at}
@@ -29,6 +29,7 @@ pub record Closed (P : List AppData → CardRow → Type 0) : Type 0 where
       → P image (exchanged image card command (card_answer image card.kept card.session command))
   pub cuts : (image : List AppData) (card : CardRow) (tear : Option Tear) (cut : Cut) (h : Holder) → card.holder ≡ Some h → P image card
       → P image (freed (torn card tear cut))
+  pub loses : (image : List AppData) (card : CardRow) → P image card → P image (lost card)
   pub frees : (image : List AppData) (card : CardRow) → P image card → P image (freed card)
 
 module _ (P : List AppData → CardRow → Type 0) (closed : Closed P) (p : Payment) where
@@ -64,7 +65,9 @@ module _ (P : List AppData → CardRow → Type 0) (closed : Closed P) (p : Paym
   ask_keeps replies part (Over ending) h has holds = holds
 
   begin_keeps : (part : Part) (choice torn_there : Bool) → P p.card.image part.card → P p.card.image (begun_by p part choice torn_there).part.card
-  begin_keeps part choice true holds = cut_keeps (CardGone ∷ []) part part (power_torn_line p.lane p.card ∷ []) (end_at p (CardGone ∷ [])) holds (closed.frees p.card.image part.card holds)
+  begin_keeps part choice true holds =
+      cut_keeps (CardGone ∷ []) part (record part { card = lost part.card }) (power_torn_line p.lane p.card ∷ []) (end_at p (CardGone ∷ [])) holds
+      (closed.frees p.card.image (lost part.card) (closed.loses p.card.image part.card holds))
   begin_keeps part choice false holds =
       let has : Option Holder = Some (record { lane = p.lane; number = length part.lane.ended }) in
       settled_keeps [] (record part { card = powered part.card (found_of part.card.kept part.card.pending choice) has }) _ (end_at p [])

@@ -1,21 +1,19 @@
 -- What a card decides for a command: which commands decide nothing, which need a transaction that has begun, and which
 -- begin one.
-use Rattle.std.proofs.Common.{◌≡◌, ◌⊎◌, ℕ, ◌+◌, ◌-◌, ◌*◌, ◌/◌, ◌%◌, ◌≤◌, ◌&&◌, not, Bool, true, false, if◌then◌else◌, List, [], ◌∷◌, ◌++◌, length, slice_get, Option, Some, None, refl, sym, ap, ◌∙◌, subst, inl, inr, arith}
-use Rattle.std.specs.Prelude.{◌==◌, nat_le, option_map}
+use Rattle.std.proofs.Common.{◌≡◌, ℕ, ◌+◌, ◌*◌, ◌/◌, ◌%◌, ◌≤◌, ◌&&◌, Bool, true, false, if◌then◌else◌, List, [], ◌++◌, slice_get, Option, Some, None, refl, sym, ap, ◌∙◌, subst, arith}
+use Rattle.std.specs.Prelude.{◌==◌, option_map}
 use Rattle.std.proofs.lemmas.Bool.{eqb-true}
 use Rattle.app_select.specs.Said.{select_command}
 use Rattle.apdu_core.specs.Command.{CommandData, command_of, tail_of, tail_bytes}
-use Rattle.apdu_core.specs.Response.{ResponseData, response_of, response_bytes}
-use Rattle.card_app.specs.Answering.{instruction_row, row, row_or_refusal, reply_in, card_reply, card_answer, options_row, options_in}
+use Rattle.apdu_core.specs.Response.{response_of, response_bytes}
+use Rattle.card_app.specs.Answering.{instruction_row, row, row_or_refusal, reply_in, card_reply, card_answer, options_row}
 use Rattle.card_app.specs.Cryptograms.{generate_row, generate_asked}
 use Rattle.card_app.specs.Files.{select_row, selected_reply, shown_for, data_row, data_for, data_object}
 use Rattle.card_app.specs.Options.{options_of}
 use Rattle.card_app.specs.Replies.{with_both}
-use Rattle.card_app.specs.Selection.{found}
 use Rattle.card_app.specs.Session.{Exchange, phase_of}
 use Rattle.card_cryptogram.specs.Asked.{is_class, kind_asked}
 use Rattle.card_cryptogram.specs.Phases.{current}
-use Rattle.card_cryptogram.specs.declared.phase.First.{First}
 use Rattle.card_cryptogram.specs.declared.phase.Phase.{Phase}
 use Rattle.card_cryptogram.specs.declared.phase.Phase.TheVariants.{Idle, Selected, Started, Online, Closed, Done}
 use Rattle.card_files.specs.Files.{opening_of}

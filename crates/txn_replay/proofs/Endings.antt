@@ -1,6 +1,6 @@
 -- A dialogue that is over, and the purchase that ends with it.
-use Rattle.std.proofs.Common.{◌≡◌, ℕ, ◌+◌, List, [], ◌∷◌, ◌++◌, length, Bool, true, false, Option, Some, None, refl, sym, ap, ◌∙◌, subst, arith, length-append}
-use Rattle.std.specs.Prelude.{option_map, option_and_then}
+use Rattle.std.proofs.Common.{◌≡◌, List, [], ◌∷◌, ◌++◌, false, Option, Some, None, refl, sym, ap, ◌∙◌, subst}
+use Rattle.std.specs.Prelude.{option_map}
 use Rattle.std.proofs.lemmas.Bool.{both_ways}
 use Rattle.std.proofs.lemmas.Option.{same_Some}
 use Rattle.kernel.specs.Course.{Standing}
@@ -11,7 +11,6 @@ use Rattle.kernel.specs.Marks.{Mark, moment, latest, card_of}
 use Rattle.kernel.specs.Reply.{Reply, Deed, ToCard, ToHost, Over}
 use Rattle.kernel.specs.Shown.{EndedData, shown}
 use Rattle.kernel.specs.Terminal.{Deal}
-use Rattle.kernel.specs.declared.kernel.Next.{Next}
 use Rattle.kernel.specs.declared.kernel.Next.TheVariants as next
 use Rattle.txn_replay.specs.Payment.{Payment, deal_for, end_at}
 use Rattle.txn_replay.specs.Reading.{last_past}

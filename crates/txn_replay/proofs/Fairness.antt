@@ -1,5 +1,5 @@
 -- The laws over every run.
-use Rattle.std.proofs.Common.{◌≡◌, ℕ, ◌<◌, ◌≤◌, Bool, List, [], length, slice_get, Some, refl, sym, ap, ◌∙◌, subst, arith}
+use Rattle.std.proofs.Common.{◌≡◌, ℕ, ◌<◌, ◌≤◌, Bool, List, length, slice_get, Some, subst, arith}
 use Rattle.std.proofs.lemmas.Option.{slice_get_within, get_or_from_slice_get}
 use Rattle.card_files.specs.Views.{AppData}
 use Rattle.host_histories.specs.BookedOnce.{BookedOnce}
@@ -7,12 +7,11 @@ use Rattle.report_text.specs.declared.line.Line.{Line}
 use Rattle.scenario.specs.Cards.{CardData}
 use Rattle.scenario.specs.Plan.{ScenarioData, IsScenario}
 use Rattle.txn_replay.specs.Bounds.{IsFew}
-use Rattle.txn_replay.specs.Laws.{OneUse, Prefix, IsFair}
+use Rattle.txn_replay.specs.Laws.{IsFair}
 use Rattle.txn_replay.specs.Run.{Place, Finished, Reached, Run}
 use Rattle.txn_replay.specs.Sound.{IsSound}
 use Rattle.txn_replay.specs.Steps.{settlements}
-use Rattle.txn_replay.specs.World.{CardRow, World, new_card, card_at}
-use Rattle.txn_replay.proofs.Closing.{Closed}
+use Rattle.txn_replay.specs.World.{CardRow, World, new_card}
 use Rattle.txn_replay.proofs.Few.{lanes_few, few_of, settlements_few}
 use Rattle.txn_replay.proofs.Folding.{AllHold, reached_holds}
 use Rattle.txn_replay.proofs.Lists.{some_at}

@@ -1,7 +1,7 @@
 -- How much a run comes to: purchases end one by one, and each captures at most one message.
-use Rattle.std.proofs.Common.{◌≡◌, ◌⊎◌, ℕ, zero, suc, ◌+◌, ◌*◌, ◌≤◌, ◌<◌, Bool, List, [], ◌∷◌, ◌++◌, length, map, replicate, get_or, slice_get, Option, Some, None, refl, sym, ap, ◌∙◌, subst, inl, inr, arith, length-append}
+use Rattle.std.proofs.Common.{◌≡◌, ℕ, suc, ◌+◌, ◌*◌, ◌≤◌, ◌<◌, Bool, List, [], ◌∷◌, ◌++◌, length, replicate, get_or, slice_get, Option, Some, None, refl, sym, ap, ◌∙◌, subst, arith, length-append}
 use Rattle.std.specs.List.{flat_map, sum_by}
-use Rattle.std.specs.Prelude.{option_to_list, option_and_then, option_map}
+use Rattle.std.specs.Prelude.{option_to_list, option_and_then}
 use Rattle.std.proofs.lemmas.List.{length-replicate}
 use Rattle.std.proofs.lemmas.List.Sums.{sum_by-cons}
 use Rattle.std.proofs.lemmas.Option.{slice_get_within, get_or_from_slice_get}
@@ -14,16 +14,16 @@ use Rattle.kernel.specs.Reply.{Reply}
 use Rattle.object_lists.specs.CardRead.{ReadCard}
 use Rattle.report_text.specs.declared.line.Line.{Line}
 use Rattle.scenario.specs.Cards.{CardData}
-use Rattle.scenario.specs.CardRules.{AreCards, IsCard}
+use Rattle.scenario.specs.CardRules.{IsCard}
 use Rattle.scenario.specs.Plan.{ScenarioData, IsScenario}
 use Rattle.scenario_lanes.specs.Plan.{LaneData, purchase_count}
 use Rattle.scenario_lanes.specs.declared.plan.Planned.{Planned}
 use Rattle.txn_replay.specs.Bounds.{purchases_in, IsFewIn, IsFew}
-use Rattle.txn_replay.specs.Part.{Part, approval, lane_ended, piece}
+use Rattle.txn_replay.specs.Part.{approval, lane_ended, piece}
 use Rattle.txn_replay.specs.Payment.{Payment, payment_of, payment_on, payment_in, next_of}
-use Rattle.txn_replay.specs.Run.{Place, Reached, ended_count}
+use Rattle.txn_replay.specs.Run.{Place, Reached}
 use Rattle.txn_replay.specs.Sound.{IsSound}
-use Rattle.txn_replay.specs.Steps.{Settlement, Check, settlements, settlements_from, app_checks, card_checks, checks_from, checks, part_of, turned_by, settles, audits, happens}
+use Rattle.txn_replay.specs.Steps.{Settlement, settlements, settlements_from, app_checks, card_checks, checks_from, checks, part_of, turned_by, settles, audits, happens}
 use Rattle.txn_replay.specs.World.{LaneRow, World, new_lane, first_world, lane_at}
 use Rattle.txn_replay.specs.declared.event.Event.{Event}
 use Rattle.txn_replay.specs.declared.event.Event.TheVariants.{Turn, Settle, Audit}
@@ -33,7 +33,7 @@ use Rattle.txn_replay.proofs.Lists.{at_set, get_or-map_const}
 use Rattle.txn_replay.proofs.Waiting.{settle_lanes, audit_lanes}
 
 -- a purchase that the scenario has is one of its lane's
-inside_lane : (s : ScenarioData) (l n : ℕ) (p : Payment) → payment_in s l n ≡ Some p → n < purchases_in (slice_get s.lanes l)
+pub inside_lane : (s : ScenarioData) (l n : ℕ) (p : Payment) → payment_in s l n ≡ Some p → n < purchases_in (slice_get s.lanes l)
 unfolding payment_in
 inside_lane s l n p is = by_lane (slice_get s.lanes l) is
   where
@@ -82,7 +82,7 @@ abbrev pub LanesFew : ScenarioData → World → Type 0
 LanesFew s w = (l : ℕ) → IsFewIn s l (lane_at w l)
 
 module _ (s : ScenarioData) where
-  turn_few : (w : World) (l : ℕ) (choice : Bool) (o : Option Payment) → next_of s w l ≡ o → LanesFew s w → LanesFew s (turned_by w l choice o).world
+  pub turn_few : (w : World) (l : ℕ) (choice : Bool) (o : Option Payment) → next_of s w l ≡ o → LanesFew s w → LanesFew s (turned_by w l choice o).world
   turn_few w l choice None is few = few
   turn_few w l choice (Some p) is few =
       at_set (IsFewIn s) w.lanes l (piece p (part_of w l p.planned.card) choice).part.lane new_lane here few
@@ -106,7 +106,7 @@ module _ (s : ScenarioData) where
   event_few w (Audit k) choice few =
       same_few w (audits w choice (slice_get (checks s) k)).world (audit_lanes w choice (slice_get (checks s) k)) few
 
-  first_few : LanesFew s (first_world s)
+  pub first_few : LanesFew s (first_world s)
   first_few l =
       subst (λ (row : LaneRow). IsFewIn s l row) (sym (get_or-map_const s.lanes l new_lane))
       (record { captures = omega arith; log = omega arith; ended = omega arith })
@@ -115,7 +115,7 @@ module _ (s : ScenarioData) where
   lanes_few = reached_keeps s (LanesFew s) first_few event_few
 
 -- each row below its lane's purchases, and so in the sum
-sum_below : (f : LaneRow → ℕ) (rows : List LaneRow) (lanes : List LaneData) → length rows ≡ length lanes
+pub sum_below : (f : LaneRow → ℕ) (rows : List LaneRow) (lanes : List LaneData) → length rows ≡ length lanes
     → ((i : ℕ) (row : LaneRow) → slice_get rows i ≡ Some row → f row ≤ purchases_in (slice_get lanes i))
     → sum_by f rows ≤ purchase_count lanes
 sum_below f [] [] same below = omega arith
@@ -129,7 +129,7 @@ sum_below f (row ∷ rows) (lane ∷ lanes) same below =
     sum_by-cons (λ (x : LaneData). length x.purchases) lane lanes in
     omega arith
 
-copies_length : (copies l : ℕ) (captures : List (List ℕ))
+pub copies_length : (copies l : ℕ) (captures : List (List ℕ))
     → length {A = Settlement} (flat_map (λ message. replicate copies (record { lane = l; message = message })) captures) ≡ copies * length captures
 copies_length copies l [] = omega arith
 copies_length copies l (message ∷ captures) =
@@ -144,7 +144,7 @@ copies_length copies l (message ∷ captures) =
 added : (c a b d e : ℕ) → a ≡ c * b → d ≡ c * e → a + d ≡ c * (b + e)
 added c a b d e first second = omega arith
 
-settlements_length : (copies l : ℕ) (rows : List LaneRow) → length (settlements_from copies l rows) ≡ copies * sum_by (λ row. length row.captures) rows
+pub settlements_length : (copies l : ℕ) (rows : List LaneRow) → length (settlements_from copies l rows) ≡ copies * sum_by (λ row. length row.captures) rows
 unfolding settlements_from
 settlements_length copies l [] = omega arith
 settlements_length copies l (row ∷ rows) =
@@ -196,12 +196,12 @@ settlements_few s w is few =
     most_of s.copies (purchase_count s.lanes) (length (settlements s w)) is.tables.few_copies is.tables.few_purchases few.settlements
 
 -- The steps of an audit.
-asks_length : (i : ℕ) (card : CardData) (apps : List AppData) → length (flat_map (app_checks i card) apps) ≡ 3 * length apps
+pub asks_length : (i : ℕ) (card : CardData) (apps : List AppData) → length (flat_map (app_checks i card) apps) ≡ 3 * length apps
 asks_length i card [] = refl
 asks_length i card (app ∷ apps) =
     let others : length (flat_map (app_checks i card) apps) ≡ 3 * length apps = asks_length i card apps in omega arith
 
-checks_length : (i : ℕ) (cards : List CardData) → ((k : ℕ) (card : CardData) → slice_get cards k ≡ Some card → length card.image ≤ 4)
+pub checks_length : (i : ℕ) (cards : List CardData) → ((k : ℕ) (card : CardData) → slice_get cards k ≡ Some card → length card.image ≤ 4)
     → length (checks_from i cards) ≤ 13 * length cards
 unfolding checks_from
 checks_length i [] few = omega arith

@@ -1,10 +1,9 @@
 -- What the events keep of a card holds of each card of each world that a run comes to.
-use Rattle.std.proofs.Common.{◌≡◌, ℕ, ◌+◌, ◌<◌, Bool, List, [], length, slice_get, Option, Some, None, refl, sym, ap, ◌∙◌, subst, inl, inr, arith}
+use Rattle.std.proofs.Common.{◌≡◌, ℕ, ◌+◌, Bool, List, slice_get, Option, Some, None, refl, sym, ap, ◌∙◌, subst, inr, arith}
 use Rattle.std.proofs.lemmas.Option.{same_Some}
 use Rattle.card_app.specs.Answering.{card_answer}
 use Rattle.card_files.specs.Views.{AppData}
 use Rattle.card_pages.specs.Pages.{found_of}
-use Rattle.kernel.specs.Reply.{Reply}
 use Rattle.report_text.specs.declared.line.Line.{Line}
 use Rattle.scenario.specs.Cards.{CardData}
 use Rattle.scenario.specs.Plan.{ScenarioData}
@@ -13,8 +12,8 @@ use Rattle.txn_replay.specs.Part.{piece}
 use Rattle.txn_replay.specs.Payment.{Payment, next_of}
 use Rattle.txn_replay.specs.Run.{Place, Reached, start, scheduled, rounds, round, again, settlement, settling, audit, auditing, finished}
 use Rattle.txn_replay.specs.Sound.{IsSound}
-use Rattle.txn_replay.specs.Steps.{Settlement, Check, PowersUp, Asks, settlements, checks, part_of, moved, turned, turned_by, settles, audits, with_card, happens, first_of, Step}
-use Rattle.txn_replay.specs.World.{Holder, CardRow, World, new_card, first_world, card_at}
+use Rattle.txn_replay.specs.Steps.{Settlement, Check, PowersUp, Asks, settlements, checks, part_of, turned_by, settles, audits, with_card, happens, first_of, Step}
+use Rattle.txn_replay.specs.World.{CardRow, World, new_card, first_world, card_at}
 use Rattle.txn_replay.specs.declared.event.Event.{Event}
 use Rattle.txn_replay.specs.declared.event.Event.TheVariants.{Turn, Settle, Audit}
 use Rattle.txn_replay.proofs.Auditing.{IsChecked, check_facts}

@@ -1,5 +1,5 @@
 -- What one exchange makes of its lane: it stays, runs, or has one purchase more that has ended.
-use Rattle.std.proofs.Common.{◌≡◌, ℕ, Bool, true, false, List, [], ◌∷◌, ◌++◌, Option, Some, None, refl}
+use Rattle.std.proofs.Common.{ℕ, Bool, true, false, List, [], ◌∷◌, ◌++◌, Option, Some, None}
 use Rattle.card_app.specs.Answering.{card_answer}
 use Rattle.card_pages.specs.Cuts.{Cut, cut_of}
 use Rattle.card_pages.specs.Pages.{found_of}
@@ -9,7 +9,7 @@ use Rattle.kernel.specs.Dialogue.{dialogue}
 use Rattle.kernel.specs.Ended.{EndData}
 use Rattle.kernel.specs.Reply.{Reply, CardSaid, CardGone, Deed, ToCard, ToHost, Over}
 use Rattle.report_text.specs.declared.line.Line.{Line}
-use Rattle.txn_replay.specs.Changes.{powered, exchanged, torn}
+use Rattle.txn_replay.specs.Changes.{powered, exchanged, torn, lost}
 use Rattle.txn_replay.specs.Lines.{answer_lines, torn_lines, power_torn_line}
 use Rattle.txn_replay.specs.Part.{Part, lane_ended, settled_by, cut_ends, answered, asked, begun, begun_by, piece_by, piece}
 use Rattle.txn_replay.specs.Payment.{Payment, deal_for, end_at}
@@ -44,7 +44,7 @@ module _ (B : LaneRow → Type 0) (p : Payment) (part : Part) (stays : B part.la
   ask_lane replies (Over ending) = stays
 
   begin_lane : (choice torn_there : Bool) → B (begun_by p part choice torn_there).part.lane
-  begin_lane choice true = cut_lane (CardGone ∷ []) part.card (power_torn_line p.lane p.card ∷ []) (end_at p (CardGone ∷ []))
+  begin_lane choice true = cut_lane (CardGone ∷ []) (lost part.card) (power_torn_line p.lane p.card ∷ []) (end_at p (CardGone ∷ []))
   begin_lane choice false =
       settled_lane [] (powered part.card (found_of part.card.kept part.card.pending choice) (Some (this_one p part))) part.messages _ (end_at p [])
 

@@ -13,8 +13,27 @@ pub mod Folding
 pub mod Waiting
 pub mod Lanes
 pub mod Few
+pub mod Again
 pub mod Apart
 pub mod Endings
 pub mod Exchanges
+pub mod Tallies
+pub mod Choices
+pub mod Beginnings
+pub mod Turning
+pub mod Checks
+pub mod Settling
+pub mod Audits
+pub mod Replies
+pub mod Begins
+pub mod Banking
+pub mod Values
+pub mod Settlements
+pub mod Checked
+pub mod Turned
+pub mod Founding
+pub mod Following
+pub mod Pieces
+pub mod Done
 pub mod Fairness
 mod Worked

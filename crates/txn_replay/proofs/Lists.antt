@@ -1,5 +1,7 @@
 -- Lists that grow at their end, or that change at one place.
-use Rattle.std.proofs.Common.{◌≡◌, ℕ, zero, suc, ◌⊎◌, ◌<◌, List, [], ◌∷◌, ◌++◌, length, take, get_or, set, map, slice_get, Some, refl, ap, arith, inl, inr}
+use Rattle.std.proofs.Common.{◌≡◌, ◌≢◌, ℕ, zero, suc, ◌⊎◌, ◌+◌, ◌<◌, ◌≤◌, List, [], ◌∷◌, ◌++◌, length, take, drop, get_or, set, map, slice_get, Some, refl, sym, ap, ◌∙◌, true, false, nat_lt, arith, inl, inr}
+use Rattle.std.proofs.lemmas.Bool.Decides.{nat_tests}
+use Rattle.std.proofs.lemmas.Option.{same_Some, slice_get-get_or}
 
 -- an element of the longer list stands among the earlier ones, or is the new one
 pub push_at : {A : Type 0} (xs : List A) (e : A) (k : ℕ) (x : A) → slice_get (xs ++ e ∷ []) k ≡ Some x
@@ -39,3 +41,57 @@ pub some_at : {A : Type 0} (xs : List A) (i : ℕ) → i < length xs → (x : A)
 some_at [] i within = absurd (omega arith)
 some_at (x ∷ xs) zero within = (x, refl)
 some_at (x ∷ xs) (suc i) within = some_at xs i (omega arith)
+
+pub set_other : {A : Type 0} (xs : List A) (i j : ℕ) (a : A) → j ≢ i → slice_get (set xs i a) j ≡ slice_get xs j
+set_other [] i j a other = refl
+set_other (x ∷ xs) zero zero a other = absurd (other refl)
+set_other (x ∷ xs) zero (suc j) a other = refl
+set_other (x ∷ xs) (suc i) zero a other = refl
+set_other (x ∷ xs) (suc i) (suc j) a other = set_other xs i j a (λ same. other (ap (λ n. suc n) same))
+
+pub set_here : {A : Type 0} (xs : List A) (i : ℕ) (a x : A) → slice_get (set xs i a) i ≡ Some x → a ≡ x
+set_here [] i a x here = cc
+set_here (y ∷ ys) zero a x here = same_Some a x here
+set_here (y ∷ ys) (suc i) a x here = set_here ys i a x here
+
+-- an element of the first of two lists, and one of the second
+pub append_first : {A : Type 0} (xs ys : List A) (k : ℕ) (x : A) → slice_get xs k ≡ Some x → slice_get (xs ++ ys) k ≡ Some x
+append_first [] ys k x here = cc
+append_first (a ∷ xs) ys zero x here = here
+append_first (a ∷ xs) ys (suc k) x here = append_first xs ys k x here
+
+pub append_second : {A : Type 0} (xs ys : List A) (k : ℕ) → slice_get (xs ++ ys) (length xs + k) ≡ slice_get ys k
+append_second [] ys k = let e : 0 + k ≡ k = omega arith in ap (λ n. slice_get ys n) e
+append_second (x ∷ xs) ys k =
+    let e : length (x ∷ xs) + k ≡ suc (length xs + k) = omega arith in
+    ap (λ n. slice_get (x ∷ (xs ++ ys)) n) e ∙ append_second xs ys k
+
+-- the rest of a list from one of its elements on
+pub drop_at : {A : Type 0} (xs : List A) (k : ℕ) (x : A) → slice_get xs k ≡ Some x → drop k xs ≡ x ∷ drop (k + 1) xs
+drop_at {A} xs k x here = from xs k here ∙ ap (λ n. x ∷ drop n xs) (let e : suc k ≡ k + 1 = omega arith in e)
+  where
+    from : (ys : List A) (n : ℕ) → slice_get ys n ≡ Some x → drop n ys ≡ x ∷ drop (suc n) ys
+    from [] n at = cc
+    from (y ∷ ys) zero at = ap (λ z. z ∷ ys) (same_Some y x at)
+    from (y ∷ ys) (suc n) at = from ys n at
+
+pub drop_past : {A : Type 0} (xs : List A) (k : ℕ) → length xs ≤ k → drop k xs ≡ []
+drop_past [] zero past = refl
+drop_past [] (suc k) past = refl
+drop_past (x ∷ xs) zero past = absurd (omega arith)
+drop_past (x ∷ xs) (suc k) past = drop_past xs k (omega arith)
+
+-- what `get` and an index find
+pub found_at : {A : Type 0} (xs : List A) (k : ℕ) (x : A) → k < length xs → x ≡ get_or xs k x → slice_get xs k ≡ Some x
+found_at {A} xs k x within is = slice_get-get_or xs k x within ∙ ap (λ (y : A). Some y) (sym is)
+
+pub is_within : (k n : ℕ) → true ≡ nat_lt k n → k < n
+is_within k n e = grind (arith, nat_tests)
+
+pub is_past : (k n : ℕ) → false ≡ nat_lt k n → n ≤ k
+is_past k n e = grind (arith, nat_tests)
+
+pub found_first : {A : Type 0} (xs ys : List A) (k : ℕ) (x : A) → k < length xs → slice_get (xs ++ ys) k ≡ Some x → slice_get xs k ≡ Some x
+found_first [] ys k x within here = absurd (omega arith)
+found_first (a ∷ xs) ys zero x within here = here
+found_first (a ∷ xs) ys (suc k) x within here = found_first xs ys k x (omega arith) here

@@ -10,7 +10,7 @@ use Rattle.kernel.specs.Dialogue.{dialogue}
 use Rattle.kernel.specs.Ended.{EndData}
 use Rattle.kernel.specs.Reply.{Reply, CardSaid, CardGone, Deed, ToCard, ToHost, Over}
 use Rattle.report_text.specs.declared.line.Line.{Line}
-use Rattle.txn_replay.specs.Changes.{powered, exchanged, torn}
+use Rattle.txn_replay.specs.Changes.{powered, exchanged, torn, lost}
 use Rattle.txn_replay.specs.Lines.{torn_lines, power_torn_line}
 use Rattle.txn_replay.specs.Part.{Part, settled_by, cut_ends, answered, asked, begun, begun_by, piece_by, piece}
 use Rattle.txn_replay.specs.Payment.{Payment, deal_for, end_at}
@@ -64,7 +64,7 @@ module _ (p : Payment) (before : Part) (was : (h : Holder) → before.card.holde
   after_ask replies (Over ending) has = kept refl
 
   after_begin : (choice torn_there : Bool) → Outcome p before (begun_by p before choice torn_there).part
-  after_begin choice true = after_cut (CardGone ∷ []) before.card (power_torn_line p.lane p.card ∷ []) (end_at p (CardGone ∷ []))
+  after_begin choice true = after_cut (CardGone ∷ []) (lost before.card) (power_torn_line p.lane p.card ∷ []) (end_at p (CardGone ∷ []))
   after_begin choice false =
       moves (after_settled [] (powered before.card (found_of before.card.kept before.card.pending choice) (Some (this_one p before))) before.messages _
       (end_at p []) refl)

@@ -1,17 +1,16 @@
 -- A transaction of a card's application begins only with a decision that raises the application's counter.
-use Rattle.std.proofs.Common.{◌≡◌, ◌⊎◌, ℕ, ◌+◌, ◌≤◌, Bool, true, false, if◌then◌else◌, List, [], ◌∷◌, ◌++◌, slice_get, Option, Some, None, refl, sym, ap, ◌∙◌, subst, inl, inr, arith}
+use Rattle.std.proofs.Common.{◌≡◌, ◌⊎◌, ℕ, ◌+◌, ◌≤◌, Bool, true, false, if◌then◌else◌, List, [], ◌∷◌, ◌++◌, slice_get, Option, Some, None, refl, sym, ap, ◌∙◌, subst, inl, inr}
 use Rattle.std.specs.Prelude.{◌==◌}
 use Rattle.std.proofs.lemmas.Bool.{eqb-true, and_parts}
 use Rattle.std.proofs.lemmas.List.Sums.{fold_push}
 use Rattle.std.proofs.lemmas.Option.{same_Some}
 use Rattle.apdu_core.specs.Command.{CommandData, command_of}
-use Rattle.apdu_core.specs.Response.{ResponseData, response_of, response_bytes}
+use Rattle.apdu_core.specs.Response.{ResponseData, response_of}
 use Rattle.card_app.specs.Answering.{row, reply_in, card_reply, card_answer, row_or_refusal}
 use Rattle.card_app.specs.Selection.{found}
-use Rattle.card_app.specs.Session.{Exchange, is_shown, selected, started, is_request, begun, begun_of, first_in, with_cryptogram, authenticated, next_phase, after_said, after, phase_of}
+use Rattle.card_app.specs.Session.{Exchange, is_shown, selected, started, is_request, begun_of, first_in, with_cryptogram, authenticated, next_phase, after_said, after, phase_of}
 use Rattle.card_cryptogram.specs.Bodies.{kind_in}
 use Rattle.card_cryptogram.specs.Phases.{current}
-use Rattle.card_cryptogram.specs.declared.phase.First.{First}
 use Rattle.card_cryptogram.specs.declared.phase.Phase.{Phase}
 use Rattle.card_cryptogram.specs.declared.phase.Phase.TheVariants.{Idle, Selected, Started, Online, Closed, Done}
 use Rattle.card_files.specs.Files.{opening_of}
@@ -21,7 +20,7 @@ use Rattle.card_state.specs.Decisions.{Decided}
 use Rattle.card_state.specs.Totals.{totals}
 use Rattle.card_state.specs.declared.state.CardState.{CardState}
 use Rattle.txn_replay.specs.Changes.{is_good, is_generate, counter_of}
-use Rattle.txn_replay.proofs.Deciding.{open_app, IsGood, answered_open, Raises, started_raises}
+use Rattle.txn_replay.proofs.Deciding.{open_app, IsGood, answered_open, started_raises}
 
 -- it had begun, or GET PROCESSING OPTIONS was answered 9000 behind SELECT
 pub record Begins (phase : Phase) (c : CommandData) (status app : ℕ) : Type 0 where

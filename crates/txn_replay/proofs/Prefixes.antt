@@ -1,6 +1,5 @@
 -- What a completed power-up finds is a prefix of the decisions taken.
-use Rattle.std.proofs.Common.{◌≡◌, ◌⊎◌, ℕ, ◌≤◌, Bool, true, false, List, [], ◌∷◌, ◌++◌, length, take, slice_get, Option, Some, None, refl, sym, ap, ◌∙◌, subst, inl, inr, arith, append-nil}
-use Rattle.std.specs.Prelude.{fold}
+use Rattle.std.proofs.Common.{◌≡◌, ℕ, ◌≤◌, Bool, true, false, List, [], ◌∷◌, ◌++◌, length, Option, Some, None, refl, sym, ap, ◌∙◌, subst, inl, inr, arith, append-nil}
 use Rattle.std.proofs.lemmas.List.{append_assoc}
 use Rattle.std.proofs.lemmas.List.Sums.{fold_push}
 use Rattle.std.proofs.lemmas.Option.{same_Some}
@@ -234,5 +233,6 @@ kept_closed = record {
   powers = powered_kept;
   answers = answer_kept;
   cuts = cut_kept;
+  loses = λ image card kept. record { prefix = kept.prefix; traced = kept.traced };
   frees = freed_kept;
 }

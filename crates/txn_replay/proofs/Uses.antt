@@ -1,5 +1,5 @@
 -- No transaction counter of a card's application serves two purchases.
-use Rattle.std.proofs.Common.{◌≡◌, ◌⊎◌, ℕ, zero, suc, ◌+◌, ◌<◌, ◌≤◌, ◌&&◌, Bool, true, false, if◌then◌else◌, List, [], ◌∷◌, ◌++◌, slice_get, Option, Some, None, refl, sym, ap, ◌∙◌, subst, inl, inr, arith}
+use Rattle.std.proofs.Common.{◌≡◌, ◌⊎◌, ℕ, zero, suc, ◌+◌, ◌≤◌, ◌&&◌, Bool, true, false, if◌then◌else◌, List, [], ◌∷◌, ◌++◌, slice_get, Option, Some, None, refl, sym, ap, ◌∙◌, subst, inl, inr, arith}
 use Rattle.std.proofs.lemmas.Bool.{and_parts}
 use Rattle.std.proofs.lemmas.Option.{same_Some}
 use Rattle.apdu_core.specs.Command.{command_of}
@@ -15,8 +15,8 @@ use Rattle.card_state.specs.Decisions.{Decided}
 use Rattle.emv_ports.specs.declared.tear.Tear.{Tear}
 use Rattle.txn_replay.specs.Changes.{is_generate, is_good, counter_of, given_for, given_by, powered, exchanged, torn, freed}
 use Rattle.txn_replay.specs.Laws.{OneUse}
-use Rattle.txn_replay.specs.World.{Holder, Given, CardRow, new_card}
-use Rattle.txn_replay.proofs.Closing.{Closed, Live}
+use Rattle.txn_replay.specs.World.{Holder, Given, CardRow}
+use Rattle.txn_replay.proofs.Closing.{Closed}
 use Rattle.txn_replay.proofs.Counters.{counter_grows}
 use Rattle.txn_replay.proofs.Deciding.{open_app}
 use Rattle.txn_replay.proofs.Lists.{append_at}
@@ -180,5 +180,6 @@ counted_closed = record {
   powers = λ image card with_it holder counted. powered_counted image card with_it holder counted;
   answers = λ image card command live counted. answer_counted image card command counted;
   cuts = λ image card tear cut h has counted. cut_counted image card tear cut counted;
+  loses = λ image card counted. record { low = counted.low; fresh = counted.fresh; once = counted.once };
   frees = λ image card counted. freed_counted image card counted;
 }

@@ -1,19 +1,18 @@
 -- Lanes that wait, and the end of the turns.
-use Rattle.std.proofs.Common.{◌≡◌, ◌⊎◌, ℕ, zero, suc, ◌+◌, ◌<◌, ◌≤◌, Bool, true, false, ◌&&◌, List, [], length, set, slice_get, Option, Some, None, refl, sym, ap, ◌∙◌, subst, inl, inr, arith}
+use Rattle.std.proofs.Common.{◌≡◌, ℕ, zero, suc, ◌<◌, Bool, true, ◌&&◌, List, [], length, slice_get, Option, Some, None, refl, sym, ap, ◌∙◌, inl, inr, arith}
 use Rattle.std.proofs.lemmas.Bool.{and_from}
 use Rattle.std.proofs.lemmas.List.{set-get_or}
-use Rattle.std.proofs.lemmas.Option.{same_Some}
 use Rattle.kernel.specs.Reply.{Reply}
 use Rattle.report_text.specs.declared.line.Line.{Line}
 use Rattle.scenario.specs.Plan.{ScenarioData}
 use Rattle.std.specs.Prelude.{is_none}
 use Rattle.txn_replay.specs.Part.{Part, Moved, still, begun, piece_by, piece}
-use Rattle.txn_replay.specs.Payment.{Payment, payment_in, next_of}
-use Rattle.txn_replay.specs.Run.{Place, Scheduled, Round, Settling, Auditing, Finished, Reached, start, scheduled, rounds, round, again, settlement, settling, audit, auditing, finished, lane_over, all_below, all_over}
+use Rattle.txn_replay.specs.Payment.{Payment, next_of}
+use Rattle.txn_replay.specs.Run.{Place, Reached, start, scheduled, rounds, round, again, settlement, settling, audit, auditing, finished, lane_over, all_below, all_over}
 use Rattle.txn_replay.specs.Sound.{IsSound, HeldBy, IsHeld, IsIdle, IsCalm}
-use Rattle.txn_replay.specs.Steps.{Settlement, Check, PowersUp, Asks, After, nothing, part_of, moved, turned_by, settles, settlements, audits, checks, happens, first_of, Step}
-use Rattle.txn_replay.specs.World.{Holder, LaneRow, World, new_card, new_lane, card_at, lane_at}
-use Rattle.txn_replay.specs.declared.event.Event.TheVariants.{Turn, Settle, Audit}
+use Rattle.txn_replay.specs.Steps.{Settlement, Check, PowersUp, Asks, nothing, part_of, moved, turned_by, settles, settlements, audits, checks, happens, first_of}
+use Rattle.txn_replay.specs.World.{Holder, LaneRow, World, new_card, new_lane, lane_at}
+use Rattle.txn_replay.specs.declared.event.Event.TheVariants.{Turn}
 use Rattle.txn_replay.proofs.Payments.{payment_facts}
 
 -- an exchange that isn't one changes nothing
@@ -85,7 +84,7 @@ audit_lanes w choice None = refl
 audit_lanes w choice (Some (PowersUp i card)) = refl
 audit_lanes w choice (Some (Asks i card command)) = refl
 
-stays_over : (s : ScenarioData) (v w : World) → w.lanes ≡ v.lanes → all_over s v ≡ true → all_over s w ≡ true
+pub stays_over : (s : ScenarioData) (v w : World) → w.lanes ≡ v.lanes → all_over s v ≡ true → all_over s w ≡ true
 stays_over s v w same over_before = below_lanes s w v same (length s.lanes) ∙ over_before
 
 pub calm_over : (s : ScenarioData) (place : Place) (n : ℕ) (choices : List Bool) (lines : List Line) (w : World)

@@ -1,5 +1,5 @@
 -- Rows worked out from the definitions: a run without cards and lanes, and one whose only power-up is cut.
-use Rattle.std.proofs.Common.{◌≡◌, ℕ, ◌<◌, Bool, true, false, List, [], ◌∷◌, ◌++◌, Some, None, refl, arith}
+use Rattle.std.proofs.Common.{◌≡◌, Bool, true, false, List, [], ◌∷◌, ◌++◌, Some, None, refl, arith}
 use Rattle.std.specs.Prelude.{codes}
 use Rattle.app_select.specs.Selecting.{listing}
 use Rattle.emv_dict.specs.declared.ending.Ending.TheVariants.{CutOff}
@@ -16,7 +16,7 @@ use Rattle.scenario_lanes.specs.declared.plan.Link.TheVariants.{Sound}
 use Rattle.scenario_lanes.specs.declared.plan.Planned.{Planned}
 use Rattle.card_state.specs.Totals.{totals, apps_totals}
 use Rattle.txn_replay.specs.Payment.{payment_in}
-use Rattle.txn_replay.specs.Run.{Reached, start, rounds, round, again, settlement, audit, auditing, finished, Run}
+use Rattle.txn_replay.specs.Run.{start, rounds, round, again, settlement, audit, auditing, finished, Run}
 use Rattle.txn_replay.specs.Steps.{settlements_from, checks_from, happens}
 use Rattle.txn_replay.specs.World.{World, first_world}
 use Rattle.txn_replay.specs.declared.event.Event.TheVariants.{Turn, Audit}

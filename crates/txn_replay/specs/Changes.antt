@@ -2,7 +2,7 @@
 use Rattle.std.specs.Prelude.{ℕ, ◌+◌, ◌==◌, ◌&&◌, Bool, false, if◌then◌else◌, List, [], ◌∷◌, ◌++◌, length, slice_get, Option, Some, None}
 use Rattle.apdu_core.specs.Command.{CommandData, command_of}
 use Rattle.apdu_core.specs.Response.{ResponseData, response_of}
-use Rattle.card_app.specs.Session.{Exchange, phase_of}
+use Rattle.card_app.specs.Session.{phase_of}
 use Rattle.card_cryptogram.specs.Phases.{current}
 use Rattle.card_files.specs.Files.{opening_of}
 use Rattle.card_files.specs.Views.{AppData}
@@ -54,6 +54,7 @@ powered card found holder = record {
   holder = holder;
   given = card.given;
   acts = card.acts ++ Found found ∷ [];
+  losses = card.losses;
 }
 
 -- a command is answered
@@ -66,6 +67,7 @@ exchanged image card command said = record {
   holder = card.holder;
   given = card.given ++ given_by image card command said;
   acts = card.acts ++ Answering said.new ∷ [];
+  losses = card.losses;
 }
 
 -- the tear cuts one of the decisions for a command
@@ -78,7 +80,12 @@ torn card tear cut = record {
   holder = card.holder;
   given = card.given;
   acts = card.acts ++ Breaking (cut.before ++ cut.cut ∷ []) ∷ [];
+  losses = card.losses + 1;
 }
+
+-- the power is cut before the first decision
+abbrev pub lost : CardRow → CardRow
+lost card = record card { losses = card.losses + 1 }
 
 -- no purchase has it
 abbrev pub freed : CardRow → CardRow

@@ -1,6 +1,6 @@
 -- What holds of every run, whatever its scenario: no counter serves two purchases, no power-up loses a decision that an
 -- answer rests on, and no transaction is booked twice (this project's own).
-use Rattle.std.specs.Prelude.{◌≡◌, ◌≢◌, ℕ, ◌≤◌, ◌<◌, Bool, true, List, [], ◌∷◌, ◌++◌, fold, length, take, slice_get, Some, None}
+use Rattle.std.specs.Prelude.{◌≡◌, ◌≢◌, ℕ, ◌≤◌, ◌<◌, Bool, true, List, [], ◌∷◌, ◌++◌, fold, length, take, slice_get, Some}
 use Rattle.card_state.specs.Decisions.{Decided}
 use Rattle.host_ledger.specs.declared.key.Key.{Key}
 use Rattle.host_histories.specs.BookedOnce.{IsBooking, TakesAmount}

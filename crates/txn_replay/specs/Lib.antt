@@ -11,3 +11,6 @@ pub mod Sound
 pub mod Laws
 pub mod Bounds
 pub mod Standing
+pub mod Audited
+pub mod Banked
+pub mod Seen

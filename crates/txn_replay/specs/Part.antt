@@ -18,7 +18,7 @@ use Rattle.object_lists.specs.CardRead.{ReadCard}
 use Rattle.report_text.specs.declared.line.Line.{Line}
 use Rattle.scenario_lanes.specs.declared.plan.Link.{Link}
 use Rattle.scenario_lanes.specs.declared.plan.Link.TheVariants.{Sound, RequestLost, ReplyLost, Twice}
-use Rattle.txn_replay.specs.Changes.{powered, exchanged, torn, freed}
+use Rattle.txn_replay.specs.Changes.{powered, exchanged, torn, lost, freed}
 use Rattle.txn_replay.specs.Lines.{power_line, power_torn_line, answer_lines, torn_lines, host_lines, end_line}
 use Rattle.txn_replay.specs.Payment.{Payment, deal_for, end_at}
 use Rattle.txn_replay.specs.World.{Holder, CardRow, LaneRow}
@@ -136,9 +136,9 @@ powered_up p part found =
     chosen (settled p [] (record part { card = powered part.card found (Some (record { lane = p.lane; number = length part.lane.ended })) })
     (power_line p.lane p.card found ∷ []))
 
--- a tear in commit 0 cuts it, and leaves the card as it was
+-- a tear in commit 0 cuts it, and leaves the card's decisions as they were
 abbrev pub begun_by : Payment → Part → Bool → Bool → Moved
-begun_by p part choice true = cut_short p [] part part.card (power_torn_line p.lane p.card ∷ [])
+begun_by p part choice true = cut_short p [] part (lost part.card) (power_torn_line p.lane p.card ∷ [])
 begun_by p part choice false = powered_up p part (found_of part.card.kept part.card.pending choice)
 
 -- a purchase begins where none has its card

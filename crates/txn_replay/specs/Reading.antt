@@ -1,5 +1,5 @@
 -- The reading of a card: the first lane's first purchase, up to the end of reading (this project's own).
-use Rattle.std.specs.Prelude.{◌≡◌, ℕ, ◌+◌, Bool, true, false, is_some, List, [], ◌∷◌, ◌++◌, map, flat_map, Option, Some, None, option_and_then}
+use Rattle.std.specs.Prelude.{◌≡◌, ℕ, ◌+◌, Bool, true, false, is_some, List, [], ◌∷◌, ◌++◌, map, flat_map, Option, Some, None, option_map, option_and_then}
 use Rattle.emv_dict.specs.declared.ending.Ending.{Ending}
 use Rattle.kernel.specs.Dialogue.{dialogue}
 use Rattle.kernel.specs.Marks.{latest, card_of}
@@ -12,7 +12,7 @@ use Rattle.scenario_lanes.specs.Plan.{LaneData}
 use Rattle.scenario_lanes.specs.declared.plan.Planned.{Planned}
 use Rattle.txn_replay.specs.Payment.{Payment, deal_for, next_of}
 use Rattle.txn_replay.specs.Steps.{Step}
-use Rattle.txn_replay.specs.World.{Past, LaneRow, World, first_world, lane_at}
+use Rattle.txn_replay.specs.World.{Past, World, first_world, lane_at}
 use Rattle.txn_replay.specs.declared.event.Event.TheVariants.{Turn}
 
 -- the purchase is taken without its tear
@@ -51,8 +51,11 @@ abbrev pub data_at : ScenarioData → World → ℕ → Option ReadCard
 data_at s w l = data_by s w l (lane_at w l).running
 
 -- how a lane's latest purchase ended
+abbrev pub latest_ending : List Past → Option Ending
+latest_ending pasts = option_map (λ past. past.end.ending) (last_past pasts)
+
 abbrev pub ending_at : World → ℕ → Option Ending
-ending_at w l = option_and_then (λ past. Some past.end.ending) (last_past (lane_at w l).ended)
+ending_at w l = latest_ending (lane_at w l).ended
 
 -- reading is finished, or the purchase has ended
 abbrev pub is_read_by : Option ReadCard → Option Ending → Bool

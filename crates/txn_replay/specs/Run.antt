@@ -1,6 +1,6 @@
 -- The runs of a scenario: the turns of its schedule, then rounds over its lanes until no purchase is left, then the
 -- settlement and the audit (this project's own).
-use Rattle.std.specs.Prelude.{◌≡◌, ℕ, ℤ, zero, suc, ◌+◌, ◌<◌, ◌≤◌, Bool, true, false, ◌&&◌, is_none, List, [], ◌∷◌, ◌++◌, length, flat_map, sum_by, slice_get, Option, Some, None}
+use Rattle.std.specs.Prelude.{◌≡◌, ℕ, ℤ, zero, suc, ◌+◌, ◌<◌, Bool, true, false, ◌&&◌, is_none, List, [], ◌∷◌, ◌++◌, length, flat_map, sum_by, slice_get, Option, Some, None}
 use Rattle.issuer_host.specs.Account.{AccountData}
 use Rattle.issuer_host.specs.History.{balance_after}
 use Rattle.report_text.specs.declared.line.Line.{Line}

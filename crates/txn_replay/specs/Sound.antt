@@ -1,5 +1,5 @@
 -- What holds of every world of a run, and when a lane waits (this project's own).
-use Rattle.std.specs.Prelude.{◌≡◌, ◌⊎◌, ℕ, List, [], length, Some, None, ⊤}
+use Rattle.std.specs.Prelude.{◌≡◌, ◌⊎◌, ℕ, List, length, Some, None, ⊤}
 use Rattle.kernel.specs.Reply.{Reply}
 use Rattle.scenario.specs.Plan.{ScenarioData}
 use Rattle.txn_replay.specs.Payment.{Payment, next_of}

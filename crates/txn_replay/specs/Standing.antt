@@ -1,12 +1,13 @@
 -- What a value stands for of a run.
-use Rattle.std.specs.Prelude.{◌≡◌, ⊤, ℕ, ◌≤◌, Bool, true, false, List, ◌++◌, length, map, fold, Option, Some, None, option_and_then}
+use Rattle.std.specs.Prelude.{◌≡◌, ⊤, ℕ, ◌+◌, ◌*◌, ◌-◌, ◌≤◌, Bool, true, false, List, ◌++◌, length, map, fold, Option, Some, None, option_and_then}
 use Rattle.std.specs.List.{All}
-use Rattle.card_app.specs.SeenChip.{ChipSeen, ChipOn, ChipOff}
+use Rattle.card_app.specs.SeenChip.{ChipSeen, ChipOn, ChipOff, is_on, losses_of}
 use Rattle.emv_dict.specs.Settings.{most_amount}
 use Rattle.emv_ports.specs.declared.tear.Tear.{Tear}
 use Rattle.issuer_host.specs.Account.{AccountData}
 use Rattle.issuer_host.specs.declared.keys.HostKeys.{HostKeys}
 use Rattle.kernel.specs.Kernel.{KernelData, KernelStands, deal_in, next_of}
+use Rattle.kernel.specs.Rank.{rank_of}
 use Rattle.kernel.specs.Reply.{Reply}
 use Rattle.kernel.specs.Tally.{Counts, raised}
 use Rattle.kernel.specs.declared.kernel.Next.{Next}
@@ -16,7 +17,8 @@ use Rattle.scenario.specs.Cards.{CardData}
 use Rattle.scenario.specs.Seen.{seen_card}
 use Rattle.txn_replay.specs.Part.{Part, Moved}
 use Rattle.txn_replay.specs.Payment.{Payment, deal_for}
-use Rattle.txn_replay.specs.Reading.{last_past, past_card}
+use Rattle.txn_replay.specs.Counting.{capped}
+use Rattle.txn_replay.specs.Reading.{last_past, past_card, latest_ending}
 use Rattle.txn_replay.specs.World.{Holder, CardRow, LaneRow, Past}
 use Rattle.txn_replay.specs.declared.lane.Lane.{Lane}
 use Rattle.txn_replay.specs.declared.payment.Payment.{Payment as Paying}
@@ -39,12 +41,17 @@ RunStands (Some kernel) p (Some replies) = KernelStands kernel replies × (deal_
 RunStands None p (Some replies) = ⊥
 RunStands (Some kernel) p None = ⊥
 
-pub record LaneStands (lane : Lane) (p : Payment) (row : LaneRow) : Type 0 where
+-- what a lane keeps of the purchases that have ended
+pub record LaneKeeps (lane : Lane) (row : LaneRow) : Type 0 where
   pub ended : lane.ended ≡ length row.ended
   pub log : lane.log.items ≡ row.log
   pub amounts : All (λ logged. logged.amount ≤ most_amount) row.log
   pub captures : map (λ message. message.items) lane.captures.items ≡ row.captures
   pub card : lane.card ≡ option_and_then past_card (last_past row.ended)
+  pub ending : lane.ending ≡ latest_ending row.ended
+
+pub record LaneStands (lane : Lane) (p : Payment) (row : LaneRow) : Type 0 where
+  pub keeps : LaneKeeps lane row
   pub running : RunStands lane.running p row.running
 
 -- on for the purchase that has it, under its plan and with no decision pending; off for none
@@ -54,6 +61,7 @@ PlaceStands chip plan row (Some holder) = ChipOn chip row.session row.kept plan 
 
 pub record CardStands (chip : ChipSeen) (card : CardData) (plan : Option Tear) (row : CardRow) : Type 0 where
   pub image : chip.image ≡ card.image
+  pub losses : losses_of chip ≡ capped row.losses
   pub stands : PlaceStands chip plan row row.holder
 
 -- the purchase that runs: its terminal has taken these replies, and its card is on for it
@@ -64,6 +72,7 @@ pub record PartRuns (p : Payment) (lane : Lane) (chip : ChipSeen) (replies : Lis
   pub on : ChipOn chip part.card.session part.card.kept p.planned.tear part.card.made
   pub none : part.card.pending ≡ None
   pub image : chip.image ≡ p.card.image
+  pub losses : losses_of chip ≡ capped part.card.losses
 
 -- a terminal whose dialogue is over
 abbrev pub is_ended : Next → Bool
@@ -91,6 +100,57 @@ pub record MovedTo (p : Payment) (lane : Lane) (chip : ChipSeen) (lines : List L
 -- and the purchase that ended in it, if one did, is counted
 abbrev pub IsCounted : Counts → Counts → List Past → List Past → Type 0
 IsCounted before after earlier pasts = (ended : List Past) × (pasts ≡ earlier ++ ended) × (after ≡ counted before ended)
+
+-- the reply that comes back
+abbrev pub reply_if : Bool → List ℕ → Option (List ℕ)
+reply_if false reply = None
+reply_if true reply = Some reply
+
+-- an exchange has led to this, and the purchase that ended in it, if one did, is counted
+pub record Led (p : Payment) (lane : Lane) (chip : ChipSeen) (before after : Counts) (lines : List Line) (part : Part) (m : Moved) : Type 0 where
+  pub moved : MovedTo p lane chip lines m
+  pub counted : IsCounted before after part.lane.ended m.part.lane.ended
+
+-- the purchase that is next: none runs, and its card is off for none
+pub record PartRests (p : Payment) (lane : Lane) (chip : ChipSeen) (part : Part) : Type 0 where
+  pub keeps : LaneKeeps lane part.lane
+  pub rests : part.lane.running ≡ None
+  pub free : part.card.holder ≡ None
+  pub off : ChipOff chip part.card.kept part.card.pending
+  pub image : chip.image ≡ p.card.image
+  pub losses : losses_of chip ≡ capped part.card.losses
+
+-- the card of a lane's purchase: off where none has it, on where another one has it, and on under the plan of the one
+-- that runs
+abbrev pub PlaceFor : Payment → ChipSeen → CardRow → Option Holder → Option (List Reply) → Type 0
+PlaceFor p chip row None None = ChipOff chip row.kept row.pending
+PlaceFor p chip row (Some holder) None = is_on chip ≡ true
+PlaceFor p chip row None (Some replies) = ⊥
+PlaceFor p chip row (Some holder) (Some replies) = ChipOn chip row.session row.kept p.planned.tear row.made × (row.pending ≡ None)
+
+-- what an exchange of a lane touches
+pub record PartStands (p : Payment) (lane : Lane) (chip : ChipSeen) (part : Part) : Type 0 where
+  pub lane_is : LaneStands lane p part.lane
+  pub place : PlaceFor p chip part.card part.card.holder part.lane.running
+  pub image : chip.image ≡ p.card.image
+  pub losses : losses_of chip ≡ capped part.card.losses
+
+-- a lane whose vectors alone may have more room
+pub record SameLane (old new : Lane) : Type 0 where
+  pub ended : new.ended ≡ old.ended
+  pub running : new.running ≡ old.running
+  pub log : new.log.items ≡ old.log.items
+  pub captures : new.captures.items ≡ old.captures.items
+  pub card : new.card ≡ old.card
+  pub ending : new.ending ≡ old.ending
+
+-- how many exchanges a lane has left at most: those of the purchase that runs, or that is next, and of those behind it
+abbrev pub rank_in : Option KernelData → ℕ
+rank_in None = 20099
+rank_in (Some kernel) = rank_of kernel
+
+abbrev pub lane_left : Lane → ℕ
+lane_left lane = 20100 * (10000 - lane.ended) + rank_in lane.running
 
 -- what a lane keeps to, whatever was said: its log has amounts within their limit, and a purchase that runs isn't over
 pub record LaneFits (lane : Lane) : Type 0 where

@@ -1,5 +1,5 @@
 -- The events of a run: an exchange of a lane, a message of the settlement, a step of the audit (this project's own).
-use Rattle.std.specs.Prelude.{◌≡◌, ℕ, ◌+◌, Bool, true, false, List, [], ◌∷◌, ◌++◌, length, map, flat_map, replicate, slice_get, slice_set, Option, Some, None, unwrap_or}
+use Rattle.std.specs.Prelude.{◌≡◌, ℕ, ◌+◌, Bool, false, List, [], ◌∷◌, ◌++◌, length, flat_map, replicate, slice_get, slice_set, Option, Some, None, unwrap_or}
 use Rattle.app_select.specs.Said.{select_command}
 use Rattle.card_app.specs.Answering.{card_answer}
 use Rattle.card_files.specs.Views.{AppData}

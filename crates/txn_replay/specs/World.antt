@@ -37,6 +37,8 @@ pub record CardRow : Type 0 where
   pub holder : Option Holder
   pub given : List Given
   pub acts : List Act
+  -- how often its power was cut
+  pub losses : ℕ
 
 -- a purchase that has ended: what the terminal was told, and its end record
 pub record Past : Type 0 where
@@ -58,7 +60,7 @@ pub record World : Type 0 where
   pub messages : List (List ℕ)
 
 abbrev pub new_card : CardRow
-new_card = record { kept = []; pending = None; session = []; made = 0; holder = None; given = []; acts = [] }
+new_card = record { kept = []; pending = None; session = []; made = 0; holder = None; given = []; acts = []; losses = 0 }
 
 abbrev pub new_lane : LaneRow
 new_lane = record { ended = []; running = None; log = []; captures = [] }

@@ -1,27 +1,37 @@
 //! One exchange of a lane, on what it touches: the lane, its card, and the host.
-ghost use Rattle.std.specs.Prelude.{◌≡◌, ◌+◌, ◌≤◌, ◌<◌, ◌++◌, ◌∷◌, [], ℕ, List, length, true, false, IsSomeAnd, Some, None, Option, OnOk, OnErr};
+ghost use Rattle.std.specs.Prelude.{◌≡◌, ◌+◌, ◌≤◌, ◌<◌, ◌++◌, ◌∷◌, [], ℕ, List, Bool, length, true, false, ◌&&◌, is_none, IsSomeAnd, IfSome, IfOk, Some, None, Option, OnOk, OnErr, option_map, IsTrue};
 ghost use Rattle.std.specs.List.{All};
 ghost use Rattle.std.specs.Vec.{vec_len, vec_capacity};
-ghost use Rattle.card_app.specs.SeenChip.{is_on as chip_on};
-ghost use Rattle.emv_dict.specs.Settings.{most_amount};
+ghost use Rattle.card_app.specs.SeenChip.{ChipOff, IsChipOff, is_on as chip_on};
+ghost use Rattle.card_state.specs.Decisions.{Decided};
+ghost use Rattle.emv_dict.specs.Settings.{IsSettings, most_amount};
+ghost use Rattle.emv_ports.specs.Cut.{is_named};
 ghost use Rattle.issuer_host.specs.Account.{AccountData};
 ghost use Rattle.issuer_host.specs.declared.keys.HostKeys.{HostKeys};
 ghost use Rattle.kernel.specs.Dialogue.{dialogue};
 ghost use Rattle.kernel.specs.Kernel.{next_of, told_next, told_bytes};
-ghost use Rattle.kernel.specs.Reply.{Reply};
+ghost use Rattle.issuer_host.specs.History.{HostStands, host_reply};
+ghost use Rattle.kernel.specs.Reply.{Reply, CardGone, from_host};
 ghost use Rattle.kernel.specs.declared.kernel.Next.TheVariants as next;
 ghost use Rattle.txn_replay.specs.Part as step;
-ghost use Rattle.txn_replay.specs.Part.{Part};
+ghost use Rattle.scenario_lanes.specs.Plan.{IsPlanned};
+ghost use Rattle.txn_replay.specs.Lines.{host_lines};
+ghost use Rattle.txn_replay.specs.Part.{Part, delivered, heard, piece};
 ghost use Rattle.txn_replay.specs.Payment.{Payment as Paid, deal_for};
-ghost use Rattle.txn_replay.specs.Standing.{PartRuns, MovedTo, IsCounted, LaneFits, RunStands, is_ended, is_over as over_test, seen_payment};
+ghost use Rattle.txn_replay.specs.Standing.{PartRests, PartRuns, PartStands, Led, SameLane, LaneStands, reply_if, rank_in, MovedTo, IsCounted, LaneFits, RunStands, lane_left, is_ended, is_over as over_test, seen_payment};
+ghost use Rattle.txn_replay.specs.World.{LaneRow};
 
 use crate::lane::{Lane, finish};
-use crate::lines::{Lines, add_answer, add_torn};
+use crate::lines::{Lines, add_answer, add_host, add_power, add_power_torn, add_torn};
+use crate::link::deliver;
 use crate::payment::Payment;
 use apdu_core::Answer;
+use auth_message::Message;
 use card_app::Chip;
 use emv_ports::{Gone, Pages};
+use issuer_host::Host;
 use kernel::{Kernel, Next, Tally};
+use std::alloc::AllocError;
 
 /// Whether the dialogue of a purchase that runs is over.
 fn is_over(running: &Option<Kernel<'_>>) -> bool
@@ -62,6 +72,7 @@ fn settle<'s, P: Pages>(
         → IsCounted tally.old tally.new part.lane.ended
         (step.settled (seen_payment issuer accounts at.now) replies part lines.old.items).part.lane.ended }
     ensures fits { LaneFits lane.new }
+    ensures nearer { lane_left lane.new ≤ lane_left lane.old }
 {
     if is_over(&lane.running) {
         chip.power_off();
@@ -94,6 +105,7 @@ fn ask_card<'s, P: Pages>(
         → IsCounted tally.old tally.new part.lane.ended
         (step.asked_card (seen_payment issuer accounts at.now) replies (told_bytes (dialogue (deal_for (seen_payment issuer accounts at.now)) replies)) part).part.lane.ended }
     ensures fits { LaneFits lane.new }
+    ensures nearer { lane_left lane.new < lane_left lane.old }
 {
     let mut answer = Answer::new();
     let Some(kernel) = &mut lane.running else {
@@ -111,4 +123,226 @@ fn ask_card<'s, P: Pages>(
             finish(at, lane, tally, lines);
         }
     }
+}
+
+/// The bytes of the terminal's message go to the host, as `deliver` does.
+fn send(
+    at: &Payment<'_>,
+    running: &Option<Kernel<'_>>,
+    host: &mut Host<'_>,
+    reply: &mut Message,
+) -> Result<bool, AllocError>
+    requires waits { IsSomeAnd running.now (λ kernel. next_of kernel ≡ next.ToHost) }
+    requires stands { (messages : List (List ℕ)) × HostStands host.old messages }
+    ensures heard { IfOk result (λ comes. (p : Paid) (replies : List Reply) (messages : List (List ℕ))
+        → RunStands running.now p (Some replies) → HostStands host.old messages
+        → reply_if comes reply.new.items ≡ heard at.now.planned.now.link
+        (host_reply host.old.keys host.old.accounts messages (told_bytes (dialogue (deal_for p) replies)))) }
+    ensures stands { OnOk result ((p : Paid) (replies : List Reply) (messages : List (List ℕ))
+        → RunStands running.now p (Some replies) → HostStands host.old messages
+        → HostStands host.new (messages ++ delivered at.now.planned.now.link (told_bytes (dialogue (deal_for p) replies)))) }
+    ensures keys { host.new.keys ≡ host.old.keys }
+    ensures accounts { host.new.accounts ≡ host.old.accounts }
+    ensures err { OnErr result (host.new ≡ host.old) }
+{
+    let Some(kernel) = running else {
+        unreachable!();
+    };
+    deliver(at.planned.link, kernel.bytes(), host, reply)
+}
+
+/// The reply that comes back, or none.
+fn said(comes: bool, reply: &Message) -> Option<&[u8]>
+    ensures reply { option_map (λ said. said.now) result ≡ reply_if comes reply.now.items }
+    ensures short { IfSome result (λ said. length said.now ≤ 2048) }
+{
+    if comes { Some(reply.as_slice()) } else { None }
+}
+
+/// The terminal takes the host's reply where it comes back, and else its silence.
+fn hear<'s>(at: &Payment<'s>, lane: &mut Lane<'s>, reply: Option<&[u8]>, lines: &mut Lines)
+    requires waits { IsSomeAnd lane.old.running (λ kernel. next_of kernel ≡ next.ToHost) }
+    requires lines { lines.old.items ≡ [] }
+    requires reply { IfSome reply (λ reply. length reply.now ≤ 2048) }
+    ensures told { (p : Paid) (replies : List Reply) (row : LaneRow)
+        → LaneStands lane.old p (record row { running = Some replies })
+        → LaneStands lane.new p (record row { running = Some (replies ++ from_host (option_map (λ reply. reply.now) reply.entry) ∷ []) })
+        × (lines.new.items ≡ host_lines at.now.lane (told_bytes (dialogue (deal_for p) replies)) (option_map (λ reply. reply.now) reply.entry)) }
+    ensures few { length lines.new.items < 8 }
+    ensures same { IsSomeAnd lane.new.running (λ kernel. lane.new ≡ record lane.old { running = Some kernel }) }
+    ensures nearer { lane_left lane.new < lane_left lane.old }
+{
+    let Some(kernel) = &mut lane.running else {
+        unreachable!();
+    };
+    add_host(at.lane, kernel.bytes(), reply, lines);
+    kernel.take_host(reply);
+}
+
+/// The host is asked. After `AllocError` nothing has changed.
+fn ask_host<'s, P: Pages>(
+    at: &Payment<'s>,
+    lane: &mut Lane<'s>,
+    chip: &mut Chip<'s, P>,
+    host: &mut Host<'s>,
+    tally: &mut Tally,
+    lines: &mut Lines,
+) -> Result<(), AllocError>
+    requires few { lane.old.ended < 10000 }
+    requires log { vec_len lane.old.log < vec_capacity lane.old.log }
+    requires captures { vec_len lane.old.captures < vec_capacity lane.old.captures }
+    requires amount { at.now.planned.now.purchase.amount ≤ most_amount }
+    requires amounts { All (λ logged. logged.amount ≤ most_amount) lane.old.log.items }
+    requires waits { IsSomeAnd lane.old.running (λ kernel. next_of kernel ≡ next.ToHost) }
+    requires on { chip_on chip.old ≡ true }
+    requires lines { lines.old.items ≡ [] }
+    requires stands { (messages : List (List ℕ)) × HostStands host.old messages }
+    ensures led { OnOk result ((replies : List Reply) (part : Part)
+        → PartRuns (seen_payment host.old.keys host.old.accounts at.now) lane.old chip.old replies part → HostStands host.old part.messages
+        → Led (seen_payment host.old.keys host.old.accounts at.now) lane.new chip.new tally.old tally.new lines.new.items part
+        (step.asked_host (seen_payment host.old.keys host.old.accounts at.now) replies
+        (told_bytes (dialogue (deal_for (seen_payment host.old.keys host.old.accounts at.now)) replies)) part)) }
+    ensures messages { OnOk result ((replies : List Reply) (part : Part)
+        → PartRuns (seen_payment host.old.keys host.old.accounts at.now) lane.old chip.old replies part → HostStands host.old part.messages
+        → HostStands host.new (step.asked_host (seen_payment host.old.keys host.old.accounts at.now) replies
+        (told_bytes (dialogue (deal_for (seen_payment host.old.keys host.old.accounts at.now)) replies)) part).part.messages) }
+    ensures keys { host.new.keys ≡ host.old.keys }
+    ensures accounts { host.new.accounts ≡ host.old.accounts }
+    ensures fits { OnOk result (LaneFits lane.new) }
+    ensures nearer { OnOk result (lane_left lane.new < lane_left lane.old) }
+    ensures err { OnErr result ((lane.new ≡ lane.old) × (chip.new ≡ chip.old) × (host.new ≡ host.old) × (tally.new ≡ tally.old) × (lines.new.items ≡ [])) }
+{
+    let mut reply = Message::new();
+    let comes = send(at, &lane.running, host, &mut reply)?;
+    hear(at, lane, said(comes, &reply), lines);
+    settle(at, lane, chip, tally, lines);
+    Ok(())
+}
+
+/// The next purchase begins: its card, which no purchase has, is powered up under its plan.
+fn begin<'s, P: Pages>(
+    at: &Payment<'s>,
+    lane: &mut Lane<'s>,
+    chip: &mut Chip<'s, P>,
+    tally: &mut Tally,
+    lines: &mut Lines,
+)
+    requires few { lane.old.ended < 10000 }
+    requires log { vec_len lane.old.log < vec_capacity lane.old.log }
+    requires captures { vec_len lane.old.captures < vec_capacity lane.old.captures }
+    requires settings { IsSettings at.now.settings.now }
+    requires planned { IsPlanned at.now.planned.now }
+    requires name { length at.now.card.now.name.items ≤ 16 }
+    requires amounts { All (λ logged. logged.amount ≤ most_amount) lane.old.log.items }
+    requires rests { lane.old.running ≡ None }
+    requires off { IsChipOff chip.old }
+    requires lines { lines.old.items ≡ [] }
+    ensures led { (issuer : HostKeys) (accounts : List AccountData) (part : Part)
+        → PartRests (seen_payment issuer accounts at.now) lane.old chip.old part
+        → (choice : Bool) × Led (seen_payment issuer accounts at.now) lane.new chip.new tally.old tally.new lines.new.items part
+        (step.begun_by (seen_payment issuer accounts at.now) part choice (is_named at.now.planned.now.tear 0)) }
+    ensures fits { LaneFits lane.new }
+    ensures nearer { lane_left lane.new < lane_left lane.old }
+{
+    start(at, lane);
+    match chip.power_up(at.planned.tear) {
+        Ok(()) => {
+            add_power(at.lane, at.card.name.as_slice(), chip.totals(), lines);
+            settle(at, lane, chip, tally, lines);
+        }
+        Err(Gone) => {
+            add_power_torn(at.lane, at.card.name.as_slice(), lines);
+            lose(lane);
+            finish(at, lane, tally, lines);
+        }
+    }
+}
+
+/// The terminal begins its dialogue.
+fn start<'s>(at: &Payment<'s>, lane: &mut Lane<'s>)
+    requires settings { IsSettings at.now.settings.now }
+    requires planned { IsPlanned at.now.planned.now }
+    ensures same { IsSomeAnd lane.new.running (λ kernel. lane.new ≡ record lane.old { running = Some kernel }) }
+    ensures told { (issuer : HostKeys) (accounts : List AccountData)
+        → RunStands lane.new.running (seen_payment issuer accounts at.now) (Some []) }
+    ensures waits { IsSomeAnd lane.new.running (λ kernel. next_of kernel ≡ next.ToCard) }
+    ensures few { rank_in lane.new.running ≤ 20015 }
+{
+    let planned = at.planned;
+    lane.running = Some(Kernel::begin(at.settings, &planned.purchase));
+}
+
+/// The card is gone before the terminal could ask it.
+fn lose(lane: &mut Lane<'_>)
+    requires waits { IsSomeAnd lane.old.running (λ kernel. next_of kernel ≡ next.ToCard) }
+    ensures same { IsSomeAnd lane.new.running (λ kernel. lane.new ≡ record lane.old { running = Some kernel }) }
+    ensures told { (p : Paid) (replies : List Reply) → RunStands lane.old.running p (Some replies)
+        → RunStands lane.new.running p (Some (replies ++ CardGone ∷ [])) }
+    ensures over { IsSomeAnd lane.new.running (λ kernel. next_of kernel ≡ next.Ended) }
+    ensures nearer { rank_in lane.new.running < rank_in lane.old.running }
+{
+    let Some(kernel) = &mut lane.running else {
+        unreachable!();
+    };
+    kernel.take_gone();
+}
+
+/// What the purchase that runs waits for.
+fn waits_for(running: &Option<Kernel<'_>>) -> Option<Next>
+    ensures exact { result ≡ option_map next_of running.now }
+    ensures told { (p : Paid) (replies : List Reply) → RunStands running.now p (Some replies)
+        → result ≡ Some (told_next (dialogue (deal_for p) replies)) }
+{
+    match running {
+        Some(kernel) => Some(kernel.next()),
+        None => None,
+    }
+}
+
+/// Whether the lane waits for a card that another purchase has.
+pub(crate) fn is_held<P: Pages>(running: &Option<Kernel<'_>>, chip: &Chip<'_, P>) -> bool
+    ensures exact { result ≡ (is_none running.now && chip_on chip.now) }
+    ensures off { (kept : List Decided) (pending : Option Decided) → ChipOff chip.now kept pending → result ≡ false }
+{
+    running.is_none() && chip.is_on()
+}
+
+/// One exchange of a purchase that has its card, or begins. After `AllocError` nothing has changed.
+pub(crate) fn exchange<'s, P: Pages>(
+    at: &Payment<'s>,
+    lane: &mut Lane<'s>,
+    chip: &mut Chip<'s, P>,
+    host: &mut Host<'s>,
+    tally: &mut Tally,
+    lines: &mut Lines,
+) -> Result<(), AllocError>
+    requires few { lane.old.ended < 10000 }
+    requires free { (is_none lane.old.running && chip_on chip.old) ≡ false }
+    requires settings { IsSettings at.now.settings.now }
+    requires planned { IsPlanned at.now.planned.now }
+    requires name { length at.now.card.now.name.items ≤ 16 }
+    requires fits { LaneFits lane.old }
+    requires lines { lines.old.items ≡ [] }
+    requires stands { (part : Part) × PartStands (seen_payment host.old.keys host.old.accounts at.now) lane.old chip.old part × HostStands host.old part.messages }
+    ensures led { OnOk result ((part : Part)
+        → PartStands (seen_payment host.old.keys host.old.accounts at.now) lane.old chip.old part → HostStands host.old part.messages
+        → (choice : Bool)
+        × Led (seen_payment host.old.keys host.old.accounts at.now) lane.new chip.new tally.old tally.new lines.new.items part
+        (piece (seen_payment host.old.keys host.old.accounts at.now) part choice)
+        × HostStands host.new (piece (seen_payment host.old.keys host.old.accounts at.now) part choice).part.messages) }
+    ensures err { OnErr result (SameLane lane.old lane.new × (chip.new ≡ chip.old) × (host.new ≡ host.old) × (tally.new ≡ tally.old) × (lines.new.items ≡ [])) }
+    ensures keys { host.new.keys ≡ host.old.keys }
+    ensures accounts { host.new.accounts ≡ host.old.accounts }
+    ensures fits { LaneFits lane.new }
+    ensures nearer { OnOk result (lane_left lane.new < lane_left lane.old) }
+{
+    lane.log.reserve(1)?;
+    lane.captures.reserve(1)?;
+    match waits_for(&lane.running) {
+        None => begin(at, lane, chip, tally, lines),
+        Some(Next::ToCard) => ask_card(at, lane, chip, tally, lines),
+        Some(Next::ToHost) => ask_host(at, lane, chip, host, tally, lines)?,
+        Some(Next::Ended) => unreachable!(),
+    }
+    Ok(())
 }

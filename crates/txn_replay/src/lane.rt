@@ -1,5 +1,5 @@
 //! A lane of a run: a terminal with its purchases.
-ghost use Rattle.std.specs.Prelude.{◌≡◌, ◌+◌, ◌≤◌, ◌<◌, ◌^◌, ◌++◌, ◌∷◌, [], ℕ, List, length, map, IsSomeAnd, Some, None, Option, option_map, option_to_list};
+ghost use Rattle.std.specs.Prelude.{◌≡◌, ◌+◌, ◌≤◌, ◌<◌, ◌^◌, ◌++◌, ◌∷◌, [], ℕ, List, length, map, IsSomeAnd, Some, None, Option, IfOk, sum_by, option_map, option_to_list};
 ghost use Rattle.std.specs.List.{All};
 ghost use Rattle.std.specs.Vec.{vec_len, vec_capacity};
 ghost use Rattle.emv_dict.specs.Settings.{most_amount};
@@ -15,7 +15,8 @@ ghost use Rattle.object_lists.specs.CardRead.{ReadCard};
 ghost use Rattle.txn_replay.specs.Lines.{end_line};
 ghost use Rattle.txn_replay.specs.Part.{lane_ended, approval};
 ghost use Rattle.txn_replay.specs.Payment.{end_at};
-ghost use Rattle.txn_replay.specs.Standing.{LaneStands, seen_payment};
+ghost use Rattle.txn_replay.specs.Standing.{LaneStands, lane_left, seen_payment};
+ghost use Rattle.txn_replay.specs.Seen.{IsNewLane, done_below, is_lane_done};
 ghost use Rattle.txn_replay.specs.World.{LaneRow};
 
 use crate::lines::{Lines, add_end};
@@ -24,10 +25,11 @@ use auth_message::Message;
 use emv_dict::{Digits, Ending, Logged};
 use kernel::{Capture, Ended, Kernel, Tally};
 use object_lists::CardData;
-use scenario_lanes::Planned;
+use scenario_lanes::{Lane as Terminal, Planned};
+use std::alloc::{AllocError, Global};
 
 /// A terminal: how many of its purchases have ended, the one that runs, its log of approvals, the messages
-/// for settlement, and what reading gave in the purchase that ended last.
+/// for settlement, and of the purchase that ended last what reading gave and how it ended.
 #[derive(Drop)]
 pub(crate) struct Lane<'s> {
     pub ended: u32,
@@ -35,6 +37,7 @@ pub(crate) struct Lane<'s> {
     pub log: Vec<Logged>,
     pub captures: Vec<Message>,
     pub card: Option<CardData>,
+    pub ending: Option<Ending>,
 }
 
 /// Ends the purchase whose dialogue is over: its end line, an approval for the log, and what is captured.
@@ -60,6 +63,7 @@ pub(crate) fn finish<'s>(
     ensures amounts { All (λ logged. logged.amount ≤ most_amount) lane.new.log.items }
     ensures ended { lane.new.ended ≡ lane.old.ended + 1 }
     ensures rests { lane.new.running ≡ None }
+    ensures nearer { lane_left lane.new < lane_left lane.old }
 {
     let Some(kernel) = lane.running.take() else {
         unreachable!();
@@ -83,6 +87,7 @@ pub(crate) fn finish<'s>(
     add_approval(&mut lane.log, ending, pan, amount);
     add_capture(&mut lane.captures, capture);
     lane.card = card;
+    lane.ending = Some(ending);
 }
 
 /// The amount of a purchase.
@@ -123,4 +128,55 @@ fn add_capture(captures: &mut Vec<Message>, capture: Option<Capture>)
     if captures.push(message).is_err() {
         unreachable!();
     }
+}
+
+/// So many lanes before their first purchase.
+pub(crate) fn new_lanes<'s>(alloc: Global, count: usize) -> Result<Vec<Lane<'s>>, AllocError>
+    ensures count { IfOk result (λ lanes. vec_len lanes ≡ count) }
+    ensures new { IfOk result (λ lanes. All IsNewLane lanes.items) }
+{
+    let mut lanes = Vec::with_capacity(alloc, count)?;
+    for _ in 0..count {
+        lanes.push(Lane {
+            ended: 0,
+            running: None,
+            log: Vec::new(alloc),
+            captures: Vec::new(alloc),
+            card: None,
+            ending: None,
+        })?;
+    }
+    Ok(lanes)
+}
+
+/// Whether a lane runs no purchase and has none left.
+fn is_done(terminal: &Terminal, lane: &Lane<'_>) -> bool
+    ensures { result ≡ is_lane_done (Some terminal.now) (Some lane.now) }
+{
+    lane.running.is_none() && lane.ended as usize == terminal.purchases.len()
+}
+
+/// Whether no lane runs a purchase or has one left.
+pub(crate) fn are_done(terminals: &[Terminal], lanes: &[Lane<'_>]) -> bool
+    requires { length lanes.now ≡ length terminals.now }
+    ensures { result ≡ done_below terminals.now lanes.now (length terminals.now) }
+{
+    for (index, terminal) in terminals.iter().enumerate() {
+        if !is_done(terminal, &lanes[index]) {
+            return false;
+        }
+    }
+    true
+}
+
+/// How many purchases of all lanes have ended.
+pub(crate) fn all_ended(lanes: &[Lane<'_>]) -> u32
+    requires { sum_by (λ lane. lane.ended) lanes.now ≤ 10000 }
+    ensures { result ≡ sum_by (λ lane. lane.ended) lanes.now }
+{
+    let mut all = 0;
+    for lane in lanes {
+        all += lane.ended;
+    }
+    all
 }

@@ -2,7 +2,7 @@
 ghost use Rattle.std.specs.Prelude.{◌≡◌, ◌+◌, ◌≤◌, ◌<◌, ◌++◌, ◌∷◌, [], length, map, option_map, IfSome};
 ghost use Rattle.kernel.specs.Ended.{EndData};
 ghost use Rattle.kernel.specs.Shown.{EndedData, shown as shown_end};
-ghost use Rattle.report_text.specs.declared.line.Line.TheVariants.{Power, PowerTorn};
+ghost use Rattle.report_text.specs.declared.line.Line.TheVariants.{Power, PowerTorn, AuditPower, AuditAsk, AuditAnswer};
 ghost use Rattle.txn_replay.specs.Lines as spec;
 
 use arrayvec::ArrayVec;
@@ -173,5 +173,53 @@ pub(crate) fn add_power_torn(lane: u8, name: &[u8], lines: &mut Lines)
     lines.push(Line::PowerTorn {
         lane,
         card: bytes_of(name),
+    });
+}
+
+/// A settlement message, and the host's reply to it.
+pub(crate) fn add_settlement(lane: u8, message: &[u8], reply: &[u8], lines: &mut Lines)
+    requires room { length lines.old.items < 7 }
+    requires message { length message.now ≤ 2048 }
+    requires reply { length reply.now ≤ 2048 }
+    ensures { lines.new.items ≡ lines.old.items ++ spec.settle_lines lane message.now reply.now }
+{
+    lines.push(Line::SettleCall {
+        lane,
+        bytes: bytes_of(message),
+    });
+    lines.push(Line::SettleReply {
+        lane,
+        bytes: bytes_of(reply),
+    });
+}
+
+/// A card is powered up for the audit.
+pub(crate) fn add_audit_power(name: &[u8], state: &CardState, lines: &mut Lines)
+    requires room { length lines.old.items < 8 }
+    requires name { length name.now ≤ 16 }
+    ensures { lines.new.items ≡ lines.old.items ++ AuditPower (record { items = name.now }) (record { items = map spec.shown_state state.now.apps.items }) ∷ [] }
+{
+    lines.push(Line::AuditPower {
+        card: bytes_of(name),
+        apps: shown_all(state),
+    });
+}
+
+/// A command of the audit, and its answer.
+pub(crate) fn add_audit(name: &[u8], command: &[u8], answer: &[u8], lines: &mut Lines)
+    requires room { length lines.old.items < 7 }
+    requires name { length name.now ≤ 16 }
+    requires command { length command.now ≤ 261 }
+    requires answer { length answer.now ≤ 258 }
+    ensures { lines.new.items ≡ lines.old.items ++ AuditAsk (record { items = name.now }) (record { items = command.now })
+        ∷ AuditAnswer (record { items = name.now }) (record { items = answer.now }) ∷ [] }
+{
+    lines.push(Line::AuditAsk {
+        card: bytes_of(name),
+        bytes: bytes_of(command),
+    });
+    lines.push(Line::AuditAnswer {
+        card: bytes_of(name),
+        bytes: bytes_of(answer),
     });
 }

@@ -1,6 +1,13 @@
 //! A purchase with all that its scenario says of it.
+ghost use Rattle.std.specs.Prelude.{◌≡◌, ◌≤◌, ◌<◌, length, option_map, IfSome};
+ghost use Rattle.emv_dict.specs.Settings.{IsSettings};
+ghost use Rattle.scenario.specs.Plan.{IsScenario};
+ghost use Rattle.scenario_lanes.specs.Plan.{IsPlanned};
+ghost use Rattle.txn_replay.specs.Payment.{payment_in};
+ghost use Rattle.txn_replay.specs.Standing.{seen_payment};
+
 use emv_dict::Settings;
-use scenario::NamedImage;
+use scenario::{NamedImage, Scenario};
 use scenario_lanes::Planned;
 
 /// The lane's index, its terminal's settings, what is planned, and the card.
@@ -10,4 +17,26 @@ pub(crate) struct Payment<'s> {
     pub settings: &'s Settings,
     pub planned: &'s Planned,
     pub card: &'s NamedImage,
+}
+
+/// The lane's purchase of this number, from 0, where it has one.
+pub(crate) fn payment_at(scenario: &Scenario, lane: usize, number: u32) -> Option<Payment<'_>>
+    requires scenario { IsScenario scenario.now }
+    requires lane { lane < length scenario.now.lanes }
+    ensures payment { option_map (seen_payment scenario.now.issuer scenario.now.accounts) result ≡ payment_in scenario.now lane number }
+    ensures settings { IfSome result (λ at. IsSettings at.settings.now) }
+    ensures planned { IfSome result (λ at. IsPlanned at.planned.now) }
+    ensures card { IfSome result (λ at. at.planned.now.card < length scenario.now.cards) }
+    ensures name { IfSome result (λ at. length at.card.now.name.items ≤ 16) }
+{
+    let terminal = &scenario.lanes[lane];
+    match terminal.purchases.get(number as usize) {
+        Some(planned) => Some(Payment {
+            lane: lane as u8,
+            settings: &terminal.settings,
+            planned,
+            card: &scenario.cards[planned.card],
+        }),
+        None => None,
+    }
 }

@@ -1,9 +1,9 @@
-use Rattle.std.proofs.Common.{◌≡◌, ℕ, ◌+◌, List, [], ◌∷◌, ◌++◌, length, Some, None, Option, sym, ap, ◌∙◌, subst}
+use Rattle.std.proofs.Common.{◌≡◌, ℕ, ◌+◌, List, [], ◌∷◌, ◌++◌, length, sym, ap, ◌∙◌, subst}
 use Rattle.card_app.specs.Answering.{card_answer}
 use Rattle.card_app.specs.SeenChip.{ChipAnswered, ChipCut}
 use Rattle.emv_dict.specs.declared.purchase.Logged.{Logged}
 use Rattle.kernel.specs.Dialogue.{dialogue}
-use Rattle.kernel.specs.Kernel.{KernelStands, deal_in, told_bytes}
+use Rattle.kernel.specs.Kernel.{KernelStands, told_bytes}
 use Rattle.kernel.specs.Reply.{Reply, CardSaid, CardGone}
 use Rattle.kernel.specs.Terminal.{Deal}
 use Rattle.report_text.specs.declared.line.Line.{Line}
@@ -28,13 +28,13 @@ returns-in-Ok-clause-counted g c = λ issuer accounts replies part runs.
     let said : ChipAnswered c.args.chip.now c.process.new.self part.card.session part.card.kept p.planned.tear part.card.made command answer =
     subst (λ (bytes : List ℕ). ChipAnswered c.args.chip.now c.process.new.self part.card.session part.card.kept p.planned.tear part.card.made bytes answer) sent
     (c.in-Ok.ensures.answered part.card.session part.card.kept p.planned.tear part.card.made runs.on) in
-    let log : c.as_slice-in-Ok-2.result.now ≡ part.lane.log = c.as_slice-in-Ok-2.ensures.value ∙ runs.lane_is.log in
+    let log : c.as_slice-in-Ok-2.result.now ≡ part.lane.log = c.as_slice-in-Ok-2.ensures.value ∙ runs.lane_is.keeps.log in
     let taken : KernelStands c.take_card.new.self told =
     subst (λ (xs : List Logged). KernelStands c.take_card.new.self (replies ++ CardSaid answer xs ∷ [])) log
     (subst (λ (xs : List ℕ). KernelStands c.take_card.new.self (replies ++ CardSaid xs c.as_slice-in-Ok-2.result.now ∷ [])) c.as_slice-in-Ok.ensures.value
     (c.take_card.ensures.stands replies was.0)) in
     let on = runs_on p c.args.lane.now c.args.chip.now c.process.new.self replies part command runs c.process.ensures.image answer c.take_card.new.self said taken
-    (c.take_card.ensures.deal ∙ was.1) in
+    (c.take_card.ensures.deal ∙ was.1) c.in-Ok.ensures.losses in
     let after : Part = record part { card = exchanged p.card.image part.card command (card_answer p.card.image part.card.kept part.card.session command) } in
     let lines : c.add_answer.new.lines.items ≡ answer_lines p.lane command answer =
     c.add_answer.ensures
@@ -66,7 +66,7 @@ returns-in-Err-clause-moved g c = λ issuer accounts replies part runs.
     ∙ ap (λ (xs : List Line). xs ++ torn_lines p.lane c.bytes-in-Err.result.now) c.requires.lines
     ∙ ap (λ (bytes : List ℕ). torn_lines p.lane bytes) shown) in
     cut_moved p c.args.lane.now c.args.chip.now c.process.new.self replies part command runs c.process.ensures.image cut.0 done.0 cut.1 done.1
-    c.finish.new.lane c.finish.new.lines.items done.2 lines
+    c.finish.new.lane c.finish.new.lines.items c.in-Err.ensures.gone done.2 lines
 
 pub returns-in-Err-clause-counted : goal.returns-in-Err-clause-counted
 returns-in-Err-clause-counted g c = λ issuer accounts replies part runs.

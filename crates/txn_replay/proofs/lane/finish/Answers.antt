@@ -1,4 +1,4 @@
-use Rattle.std.proofs.Common.{◌≡◌, ℕ, ◌+◌, ◌≤◌, List, [], ◌∷◌, ◌++◌, length, map, Option, Some, None, refl, sym, ap, ◌∙◌, subst, arith, length-append}
+use Rattle.std.proofs.Common.{◌≡◌, ℕ, ◌+◌, ◌≤◌, List, [], ◌∷◌, ◌++◌, length, Option, Some, sym, ap, ◌∙◌, subst, arith, length-append}
 use Rattle.std.specs.List.{All}
 use Rattle.std.specs.Prelude.{option_map, option_and_then, option_to_list}
 use Rattle.emv_dict.specs.Settings.{most_amount}
@@ -9,7 +9,6 @@ use Rattle.kernel.specs.Ended.{EndData, end_of}
 use Rattle.kernel.specs.Shown.{EndedData, shown}
 use Rattle.kernel.specs.Tally.{raised}
 use Rattle.kernel.specs.Terminal.{Deal}
-use Rattle.scenario_lanes.specs.declared.plan.Planned.{Planned}
 use Rattle.txn_replay.specs.Lines.{end_line}
 use Rattle.txn_replay.specs.Part.{approval}
 use Rattle.txn_replay.specs.Payment.{end_at}
@@ -38,23 +37,28 @@ returns-clause-stands c = λ issuer accounts replies row stands.
     let amount : c.args.at.now.planned.now.purchase.amount ≡ c.amount_of-amount.result = sym c.amount_of-amount.ensures in
     let log : c.add_approval.new.log.items ≡ row.log ++ approval c.args.at.now.planned.now.purchase end.ending end.card =
     c.add_approval.ensures.appended c.args.at.now.planned.now.purchase end.card amount pan
-    ∙ ap (λ (xs : List Logged). xs ++ approval c.args.at.now.planned.now.purchase c.ended.inside.ending end.card) stands.log
+    ∙ ap (λ (xs : List Logged). xs ++ approval c.args.at.now.planned.now.purchase c.ended.inside.ending end.card) stands.keeps.log
     ∙ ap (λ (e : Ending). row.log ++ approval c.args.at.now.planned.now.purchase e end.card) ending in (
       end,
       one.1,
       record {
-        ended = (let more : length (row.ended ++ past ∷ []) ≡ length row.ended + 1 = length-append row.ended (past ∷ []) in
-            let before : c.args.lane.now.ended ≡ length row.ended = stands.ended in omega arith);
-        log = log;
-        amounts = subst (λ (xs : List Logged). All (λ logged. logged.amount ≤ most_amount) xs) log
-            (c.add_approval.ensures.amounts c.requires.amounts (subst (λ n. n ≤ most_amount) amount c.requires.amount));
-        captures =
-            c.add_capture.ensures
-            ∙ ap (λ (xs : List (List ℕ)). xs ++ option_to_list c.ended.inside.capture) stands.captures
-            ∙ ap (λ (o : Option (List ℕ)). row.captures ++ option_to_list o) capture;
-        card = card ∙ ap (λ (o : Option Past). option_and_then past_card o) (sym (last_past-push row.ended past));
+        keeps = record {
+          ended = (let more : length (row.ended ++ past ∷ []) ≡ length row.ended + 1 = length-append row.ended (past ∷ []) in
+              let before : c.args.lane.now.ended ≡ length row.ended = stands.keeps.ended in omega arith);
+          log = log;
+          amounts = subst (λ (xs : List Logged). All (λ logged. logged.amount ≤ most_amount) xs) log
+              (c.add_approval.ensures.amounts c.requires.amounts (subst (λ n. n ≤ most_amount) amount c.requires.amount));
+          captures =
+              c.add_capture.ensures
+              ∙ ap (λ (xs : List (List ℕ)). xs ++ option_to_list c.ended.inside.capture) stands.keeps.captures
+              ∙ ap (λ (o : Option (List ℕ)). row.captures ++ option_to_list o) capture;
+          card = card ∙ ap (λ (o : Option Past). option_and_then past_card o) (sym (last_past-push row.ended past));
+          ending =
+              ap (λ (e : Ending). Some e) ending
+              ∙ ap (λ (o : Option Past). option_map (λ past. past.end.ending) o) (sym (last_past-push row.ended past));
+        };
         running = rests_as c.take.new.self p c.take.ensures.after;
       },
-      c.add_end.ensures end (sym same) ∙ ap (λ n. c.args.lines.now.items ++ end_line c.args.at.now.lane (n + 1) end ∷ []) stands.ended,
+      c.add_end.ensures end (sym same) ∙ ap (λ n. c.args.lines.now.items ++ end_line c.args.at.now.lane (n + 1) end ∷ []) stands.keeps.ended,
       c.into_ended-ended.ensures.tally replies runs.0 ∙ ap (λ (e : Ending). raised c.args.tally.now e (length replies)) (sym view),
     )

@@ -1,0 +1,73 @@
+-- An exchange takes a truth value at a power-up that is completed, and nowhere else.
+use Rattle.std.proofs.Common.{◌≡◌, ℕ, Bool, true, false, List, [], ◌∷◌, ◌++◌, length, Option, Some, None, refl, sym}
+use Rattle.card_app.specs.Answering.{card_answer}
+use Rattle.card_pages.specs.Cuts.{Cut, cut_of}
+use Rattle.card_pages.specs.Replies.{CardAnswer}
+use Rattle.emv_ports.specs.Cut.{is_named}
+use Rattle.issuer_host.specs.History.{host_reply}
+use Rattle.kernel.specs.Dialogue.{dialogue}
+use Rattle.kernel.specs.Ended.{EndData}
+use Rattle.kernel.specs.Reply.{Reply, CardSaid, CardGone, from_host, Deed, ToCard, ToHost, Over}
+use Rattle.report_text.specs.declared.line.Line.{Line}
+use Rattle.txn_replay.specs.Changes.{exchanged, torn, lost}
+use Rattle.txn_replay.specs.Lines.{answer_lines, torn_lines, host_lines, power_torn_line}
+use Rattle.txn_replay.specs.Part.{Part, Moved, delivered, heard, settled_by, cut_ends, answered, asked, begun, begun_by, piece_by, piece}
+use Rattle.txn_replay.specs.Payment.{Payment, deal_for, end_at}
+use Rattle.txn_replay.specs.Steps.{first_of}
+use Rattle.txn_replay.specs.World.{Holder}
+
+-- these truth values are taken
+pub record Taken (f : Bool → Moved) (choice : Bool) : Type 0 where
+  pub choices : List Bool
+  pub count : length choices ≡ (f (first_of choices)).choices
+  pub same : f (first_of choices) ≡ f choice
+
+-- none is
+none_taken : (m : Moved) (choice : Bool) → m.choices ≡ 0 → Taken (λ b. m) choice
+none_taken m choice none = record { choices = []; count = sym none; same = refl }
+
+none_settled : (p : Payment) (replies : List Reply) (part : Part) (lines : List Line) (e : Option EndData) → (settled_by p replies part lines e).choices ≡ 0
+none_settled p replies part lines None = refl
+none_settled p replies part lines (Some end) = refl
+
+none_cut : (p : Payment) (replies : List Reply) (part cut : Part) (lines : List Line) (e : Option EndData) → (cut_ends p replies part cut lines e).choices ≡ 0
+none_cut p replies part cut lines None = refl
+none_cut p replies part cut lines (Some end) = refl
+
+none_answered : (p : Payment) (replies : List Reply) (command : List ℕ) (part : Part) (said : CardAnswer) (cut : Option Cut)
+    → (answered p replies command part said cut).choices ≡ 0
+none_answered p replies command part said None =
+    none_settled p (replies ++ CardSaid said.answer part.lane.log ∷ []) (record part { card = exchanged p.card.image part.card command said })
+    (answer_lines p.lane command said.answer) (end_at p (replies ++ CardSaid said.answer part.lane.log ∷ []))
+none_answered p replies command part said (Some cut) =
+    none_cut p (replies ++ CardGone ∷ []) part (record part { card = torn part.card p.planned.tear cut }) (torn_lines p.lane command)
+    (end_at p (replies ++ CardGone ∷ []))
+
+none_asked : (p : Payment) (replies : List Reply) (part : Part) (deed : Deed) → (asked p replies part deed).choices ≡ 0
+none_asked p replies part (ToCard command) =
+    none_answered p replies command part (card_answer p.card.image part.card.kept part.card.session command)
+    (cut_of p.planned.tear part.card.made (card_answer p.card.image part.card.kept part.card.session command).new)
+none_asked p replies part (ToHost message) =
+    none_settled p (replies ++ from_host (reply_to message) ∷ []) (record part { messages = part.messages ++ delivered p.planned.link message })
+    (host_lines p.lane message (reply_to message)) (end_at p (replies ++ from_host (reply_to message) ∷ []))
+  where
+    reply_to : List ℕ → Option (List ℕ)
+    reply_to m = heard p.planned.link (host_reply p.issuer p.accounts part.messages m)
+none_asked p replies part (Over ending) = refl
+
+pub choice_taken : (p : Payment) (part : Part) (choice : Bool) → Taken (λ b. piece p part b) choice
+choice_taken p part choice = by_lane part.lane.running
+  where
+    by_tear : (is_torn : Bool) → Taken (λ b. begun_by p part b is_torn) choice
+    by_tear true = none_taken (begun_by p part choice true) choice
+        (none_cut p (CardGone ∷ []) part (record part { card = lost part.card }) (power_torn_line p.lane p.card ∷ []) (end_at p (CardGone ∷ [])))
+    by_tear false = record { choices = choice ∷ []; count = refl; same = refl }
+
+    by_holder : (o : Option Holder) → Taken (λ b. begun p part b o) choice
+    by_holder None = by_tear (is_named p.planned.tear 0)
+    by_holder (Some holder) = none_taken (begun p part choice (Some holder)) choice refl
+
+    by_lane : (o : Option (List Reply)) → Taken (λ b. piece_by p part b o) choice
+    by_lane None = by_holder part.card.holder
+    by_lane (Some replies) =
+        none_taken (piece_by p part choice (Some replies)) choice (none_asked p replies part (dialogue (deal_for p) replies).deed)

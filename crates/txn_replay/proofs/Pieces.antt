@@ -1,0 +1,180 @@
+-- Which part of an exchange a lane's turn is.
+use Rattle.std.proofs.Common.{◌≡◌, ℕ, Bool, true, false, ◌&&◌, List, [], ◌∷◌, ◌++◌, length, map, Option, Some, None, refl, sym, ap, ◌∙◌, subst}
+use Rattle.std.specs.Bool.{⊤}
+use Rattle.std.specs.Prelude.{is_none, option_map}
+use Rattle.arrayvec.specs.declared.array_vec.ArrayVec.{ArrayVec}
+use Rattle.card_app.specs.Answering.{card_answer}
+use Rattle.card_app.specs.SeenChip.{ChipSeen, ChipOn, is_on}
+use Rattle.card_pages.specs.Cuts.{Cut, cut_of}
+use Rattle.card_pages.specs.Pages.{found_of}
+use Rattle.card_pages.specs.Replies.{CardAnswer}
+use Rattle.emv_ports.specs.Cut.{is_named}
+use Rattle.kernel.specs.Dialogue.{dialogue}
+use Rattle.kernel.specs.Ended.{EndData}
+use Rattle.kernel.specs.Kernel.{KernelData, told_next, told_bytes, deed_next, deed_bytes}
+use Rattle.kernel.specs.Reply.{Reply, CardSaid, CardGone, Deed, ToCard, ToHost, Over}
+use Rattle.kernel.specs.declared.kernel.Next.TheVariants as next
+use Rattle.report_text.specs.declared.line.Line.{Line}
+use Rattle.txn_replay.specs.Changes.{powered, exchanged, torn, lost}
+use Rattle.txn_replay.specs.Lines.{power_line, power_torn_line, answer_lines, torn_lines}
+use Rattle.txn_replay.specs.Part.{Part, cut_ends, answered, asked_card, asked_host, asked, begun, begun_by, piece_by, piece}
+use Rattle.txn_replay.specs.Payment.{Payment, deal_for, end_at}
+use Rattle.txn_replay.specs.Standing.{RunStands, LaneKeeps, PlaceFor, PartRests, PartRuns, PartStands, SameLane}
+use Rattle.txn_replay.specs.World.{Holder, CardRow, LaneRow}
+use Rattle.txn_replay.specs.declared.lane.Lane.{Lane}
+use Rattle.txn_replay.proofs.Replies.{settled_messages}
+
+-- the purchase that is next begins where none has its card
+pub piece_begins : (p : Payment) (part : Part) (choice : Bool) → part.lane.running ≡ None → part.card.holder ≡ None
+    → piece p part choice ≡ begun_by p part choice (is_named p.planned.tear 0)
+piece_begins p part choice rests free =
+    ap (λ (o : Option (List Reply)). piece_by p part choice o) rests ∙ ap (λ (o : Option Holder). begun p part choice o) free
+
+piece_asks : (p : Payment) (part : Part) (choice : Bool) (replies : List Reply) → part.lane.running ≡ Some replies
+    → piece p part choice ≡ asked p replies part (dialogue (deal_for p) replies).deed
+piece_asks p part choice replies runs = ap (λ (o : Option (List Reply)). piece_by p part choice o) runs
+
+-- the card, or the host, is asked
+pub piece_card : (p : Payment) (part : Part) (choice : Bool) (replies : List Reply) → part.lane.running ≡ Some replies
+    → told_next (dialogue (deal_for p) replies) ≡ next.ToCard
+    → piece p part choice ≡ asked_card p replies (told_bytes (dialogue (deal_for p) replies)) part
+piece_card p part choice replies runs is = piece_asks p part choice replies runs ∙ by (dialogue (deal_for p) replies).deed is
+  where
+    by : (deed : Deed) → deed_next deed ≡ next.ToCard → asked p replies part deed ≡ asked_card p replies (deed_bytes deed) part
+    by (ToCard command) is = refl
+    by (ToHost message) is = cc
+    by (Over ending) is = cc
+
+pub piece_host : (p : Payment) (part : Part) (choice : Bool) (replies : List Reply) → part.lane.running ≡ Some replies
+    → told_next (dialogue (deal_for p) replies) ≡ next.ToHost
+    → piece p part choice ≡ asked_host p replies (told_bytes (dialogue (deal_for p) replies)) part
+piece_host p part choice replies runs is = piece_asks p part choice replies runs ∙ by (dialogue (deal_for p) replies).deed is
+  where
+    by : (deed : Deed) → deed_next deed ≡ next.ToHost → asked p replies part deed ≡ asked_host p replies (deed_bytes deed) part
+    by (ToCard command) is = cc
+    by (ToHost message) is = refl
+    by (Over ending) is = cc
+
+-- the host hears nothing of an exchange with the card
+cut_messages : (p : Payment) (replies : List Reply) (part : Part) (card : CardRow) (lines : List Line) (e : Option EndData)
+    → (cut_ends p replies part (record part { card = card }) lines e).part.messages ≡ part.messages
+cut_messages p replies part card lines None = refl
+cut_messages p replies part card lines (Some end) = refl
+
+pub card_messages : (p : Payment) (replies : List Reply) (command : List ℕ) (part : Part) → (asked_card p replies command part).part.messages ≡ part.messages
+card_messages p replies command part =
+    by (card_answer p.card.image part.card.kept part.card.session command)
+    (cut_of p.planned.tear part.card.made (card_answer p.card.image part.card.kept part.card.session command).new)
+  where
+    by : (said : CardAnswer) (cut : Option Cut) → (answered p replies command part said cut).part.messages ≡ part.messages
+    by said None =
+        settled_messages p (replies ++ CardSaid said.answer part.lane.log ∷ []) (record part { card = exchanged p.card.image part.card command said })
+        (answer_lines p.lane command said.answer)
+    by said (Some cut) = cut_messages p (replies ++ CardGone ∷ []) part (torn part.card p.planned.tear cut) (torn_lines p.lane command) (end_at p (replies ++ CardGone ∷ []))
+
+pub begun_messages : (p : Payment) (part : Part) (choice torn : Bool) → (begun_by p part choice torn).part.messages ≡ part.messages
+begun_messages p part choice true = cut_messages p (CardGone ∷ []) part (lost part.card) (power_torn_line p.lane p.card ∷ []) (end_at p (CardGone ∷ []))
+begun_messages p part choice false =
+    settled_messages p []
+    (record part { card = powered part.card (found_of part.card.kept part.card.pending choice) (Some (record { lane = p.lane; number = length part.lane.ended })) })
+    (power_line p.lane p.card (found_of part.card.kept part.card.pending choice) ∷ [])
+
+-- a lane whose vectors have more room
+pub keeps_same : (lane later : Lane) (row : LaneRow) → SameLane lane later → LaneKeeps lane row → LaneKeeps later row
+keeps_same lane later row same keeps = record {
+  ended = same.ended ∙ keeps.ended;
+  log = same.log ∙ keeps.log;
+  amounts = keeps.amounts;
+  captures = ap (λ (ms : List (ArrayVec ℕ 2048 ⊤)). map (λ m. m.items) ms) same.captures ∙ keeps.captures;
+  card = same.card ∙ keeps.card;
+  ending = same.ending ∙ keeps.ending;
+}
+
+-- nothing waits where nothing runs
+pub none_runs : (o : Option KernelData) (f : KernelData → next.the_data) → option_map f o ≡ None → o ≡ None
+none_runs None f is = refl
+none_runs (Some kernel) f is = cc
+
+pub some_runs : (o : Option KernelData) (f : KernelData → next.the_data) (n : next.the_data) → option_map f o ≡ Some n → (kernel : KernelData) × (o ≡ Some kernel)
+some_runs None f n is = cc
+some_runs (Some kernel) f n is = (kernel, refl)
+
+-- a card that isn't on where nothing runs
+pub free_from : (o : Option KernelData) (on : Bool) → o ≡ None → (is_none o && on) ≡ false → on ≡ true → ⊥
+free_from None true is held on = cc
+free_from None false is held on = cc
+free_from (Some kernel) on is held is_on = cc
+
+rests_by : (running : Option KernelData) (p : Payment) (replies : Option (List Reply)) → running ≡ None → RunStands running p replies → replies ≡ None
+rests_by None p None is stands = refl
+rests_by None p (Some replies) is stands = absurd stands
+rests_by (Some kernel) p replies is stands = cc
+
+runs_by : (running : Option KernelData) (p : Payment) (replies : Option (List Reply)) (kernel : KernelData) → running ≡ Some kernel → RunStands running p replies
+    → (told : List Reply) × (replies ≡ Some told)
+runs_by None p replies kernel is stands = cc
+runs_by (Some other) p None kernel is stands = absurd stands
+runs_by (Some other) p (Some replies) kernel is stands = (replies, refl)
+
+module _ (p : Payment) (lane later : Lane) (chip : ChipSeen) (part : Part) (stands : PartStands p lane chip part) (same : SameLane lane later) where
+  pub rests_from : lane.running ≡ None → (is_on chip ≡ true → ⊥) → PartRests p later chip part
+  rests_from none off = record {
+    keeps = keeps_same lane later part.lane same stands.lane_is.keeps;
+    rests = rests;
+    free = place.0;
+    off = place.1;
+    image = stands.image;
+    losses = stands.losses;
+  }
+    where
+      rests : part.lane.running ≡ None
+      rests = rests_by lane.running p part.lane.running none stands.lane_is.running
+
+      by : (holder : Option Holder) → part.card.holder ≡ holder → PlaceFor p chip part.card holder None
+          → (part.card.holder ≡ None) × PlaceFor p chip part.card None None
+      by None is place = (is, place)
+      by (Some holder) is place = absurd (off place)
+
+      place : (part.card.holder ≡ None) × PlaceFor p chip part.card None None
+      place = by part.card.holder refl (subst (λ (o : Option (List Reply)). PlaceFor p chip part.card part.card.holder o) rests stands.place)
+
+  pub record Running : Type 0 where
+    pub replies : List Reply
+    pub ran : part.lane.running ≡ Some replies
+    pub told : RunStands lane.running p (Some replies)
+    pub runs : PartRuns p later chip replies part
+
+  pub runs_from : (kernel : KernelData) → lane.running ≡ Some kernel → Running
+  runs_from kernel is = by told.0 told.1
+    where
+      told : (replies : List Reply) × (part.lane.running ≡ Some replies)
+      told = runs_by lane.running p part.lane.running kernel is stands.lane_is.running
+
+      placed : (replies : List Reply) (holder : Option Holder) → part.card.holder ≡ holder → PlaceFor p chip part.card holder (Some replies)
+          → (h : Holder) × (part.card.holder ≡ Some h)
+          × (ChipOn chip part.card.session part.card.kept p.planned.tear part.card.made × (part.card.pending ≡ None))
+      placed replies None held place = absurd place
+      placed replies (Some h) held place = (h, held, place)
+
+      by : (replies : List Reply) → part.lane.running ≡ Some replies → Running
+      by replies ran =
+          let now : RunStands lane.running p (Some replies) = subst (λ (o : Option (List Reply)). RunStands lane.running p o) ran stands.lane_is.running in
+          let at = placed replies part.card.holder refl (subst (λ (o : Option (List Reply)). PlaceFor p chip part.card part.card.holder o) ran stands.place) in
+          let keeps : LaneKeeps later part.lane = keeps_same lane later part.lane same stands.lane_is.keeps in
+          record {
+            replies = replies;
+            ran = ran;
+            told = now;
+            runs = record {
+              lane_is = record {
+                keeps = record { ended = keeps.ended; log = keeps.log; amounts = keeps.amounts; captures = keeps.captures; card = keeps.card; ending = keeps.ending };
+                running = subst (λ (k : Option KernelData). RunStands k p (Some replies)) (sym same.running) now;
+              };
+              holder = at.0;
+              has = at.1;
+              on = at.2.0;
+              none = at.2.1;
+              image = stands.image;
+              losses = stands.losses;
+            };
+          }

@@ -1,0 +1,268 @@
+-- A value and its world before and after an exchange of a lane.
+use Rattle.std.proofs.Common.{◌≡◌, ◌⊎◌, ℕ, zero, suc, ◌<◌, Bool, true, false, ◌&&◌, List, length, set, slice_get, Option, Some, None, refl, sym, ap, ◌∙◌, subst, inl, inr, arith}
+use Rattle.std.specs.Prelude.{is_none, is_some}
+use Rattle.std.proofs.lemmas.Bool.{cases_eq}
+use Rattle.std.proofs.lemmas.List.{get_or-set_same, get_or-set_other}
+use Rattle.std.proofs.lemmas.Option.{same_Some, slice_get_within}
+use Rattle.card_app.specs.SeenChip.{ChipSeen, ChipOn, is_on}
+use Rattle.card_app.specs.SeenCard.{CardSeen}
+use Rattle.card_app.specs.Session.{Exchange}
+use Rattle.card_state.specs.Decisions.{Decided}
+use Rattle.emv_ports.specs.declared.tear.Tear.{Tear}
+use Rattle.issuer_host.specs.History.{HostData, HostStands}
+use Rattle.kernel.specs.Kernel.{KernelData}
+use Rattle.kernel.specs.Reply.{Reply}
+use Rattle.kernel.specs.Tally.{Counts}
+use Rattle.report_text.specs.declared.line.Line.{Line}
+use Rattle.scenario.specs.Cards.{CardData}
+use Rattle.scenario.specs.Plan.{ScenarioData}
+use Rattle.txn_replay.specs.Part.{Part, Moved, piece}
+use Rattle.txn_replay.specs.Payment.{Payment, payment_in, next_of}
+use Rattle.txn_replay.specs.Run.{lane_over, all_below, all_over}
+use Rattle.txn_replay.specs.Seen.{WorldSeen, plan_in, plan_for, ChipStands, RunFor, LaneAt, WorldStands, Goes}
+use Rattle.txn_replay.specs.Sound.{IsSound}
+use Rattle.txn_replay.specs.Standing.{RunStands, LaneStands, PlaceStands, CardStands, PlaceFor, PartStands, Led, counted}
+use Rattle.txn_replay.specs.Steps.{After, part_of, moved, turned_by, happens, first_of}
+use Rattle.txn_replay.specs.World.{Holder, CardRow, LaneRow, World, new_card, new_lane, card_at, lane_at}
+use Rattle.txn_replay.specs.declared.event.Event.TheVariants.{Turn}
+use Rattle.txn_replay.specs.declared.lane.Lane.{Lane}
+use Rattle.txn_replay.proofs.Choices.{Taken, choice_taken}
+use Rattle.txn_replay.proofs.Few.{turn_few}
+use Rattle.txn_replay.proofs.Lists.{set_other, set_here}
+use Rattle.txn_replay.proofs.Moves.{Outcome, kept, moves, outcome, this_one}
+use Rattle.txn_replay.proofs.Payments.{payment_facts}
+use Rattle.txn_replay.proofs.Sounding.{turn_sound, has_card}
+use Rattle.txn_replay.proofs.Tallies.{counts_with}
+
+-- a lane that has a purchase left isn't over, and so not all are
+pub below_over : (s : ScenarioData) (w : World) (n l : ℕ) → l < n → all_below s w n ≡ true → lane_over s w l ≡ true
+below_over s w zero l inside over = absurd (omega arith)
+below_over s w (suc n) l inside over = by_and (λ before others. below_over s w n l before others) (lane_over s w n) (all_below s w n) refl refl over
+  where
+    by_place : (l < n → all_below s w n ≡ true → lane_over s w l ≡ true) → lane_over s w n ≡ true → all_below s w n ≡ true → (l < n) ⊎ (l ≡ n)
+        → lane_over s w l ≡ true
+    by_place earlier this others (inl before) = earlier before others
+    by_place earlier this others (inr same) = ap (λ k. lane_over s w k) same ∙ this
+
+    place : (l < n) ⊎ (l ≡ n)
+    place = elim (cases_eq l n) [ inl same ↦ inr same | inr other ↦ inl (omega arith) ]
+
+    by_and : (l < n → all_below s w n ≡ true → lane_over s w l ≡ true) → (a b : Bool) → lane_over s w n ≡ a → all_below s w n ≡ b → (a && b) ≡ true → lane_over s w l ≡ true
+    by_and earlier true true this others both = by_place earlier this others place
+    by_and earlier true false this others both = cc
+    by_and earlier false b this others both = cc
+
+pub over_next : (s : ScenarioData) (w : World) (l : ℕ) → lane_over s w l ≡ true → next_of s w l ≡ None
+over_next s w l over = by (is_none (lane_at w l).running) (next_of s w l) refl over
+  where
+    by : (a : Bool) (o : Option Payment) → next_of s w l ≡ o → (a && is_none o) ≡ true → next_of s w l ≡ None
+    by true None is both = is
+    by true (Some p) is both = cc
+    by false o is both = cc
+
+pub not_over : (s : ScenarioData) (w : World) (l : ℕ) (p : Payment) → next_of s w l ≡ Some p → all_over s w ≡ true → ⊥
+not_over s w l p is over =
+    let none : None ≡ Some p = sym (over_next s w l (below_over s w (length s.lanes) l (payment_facts s l _ p is).inside over)) ∙ is in cc
+
+pub on_is_on : (chip : ChipSeen) (session : List Exchange) (ds : List Decided) (plan : Option Tear) (made : ℕ) → ChipOn chip session ds plan made → is_on chip ≡ true
+on_is_on chip session ds plan made on = by chip.card on
+  where
+    by : (o : Option CardSeen) → ChipOn (record chip { card = o }) session ds plan made → is_some o ≡ true
+    by (Some card) on_card = refl
+    by None on_card = absurd on_card
+
+-- the plan of a purchase that has its card
+plan_is : (s : ScenarioData) (w : World) (l : ℕ) (p : Payment) → next_of s w l ≡ Some p → plan_for s (Some (this_one p (part_of w l p.planned.card))) ≡ p.planned.tear
+plan_is s w l p is =
+    ap (λ k. plan_in (payment_in s k (length (lane_at w l).ended))) (payment_facts s l _ p is).lane ∙ ap plan_in is
+
+module _ (v : WorldSeen) (w : World) (stands : WorldStands v w) (l : ℕ) (p : Payment) (is : next_of v.scenario w l ≡ Some p) (lane : Lane) (chip : ChipSeen)
+    (lane_there : slice_get v.lanes l ≡ Some lane) (chip_there : slice_get v.chips p.planned.card ≡ Some chip) where
+  abbrev part : Part
+  part = part_of w l p.planned.card
+
+  card_there : slice_get v.scenario.cards p.planned.card ≡ Some p.card
+  card_there = (payment_facts v.scenario l _ p is).card
+
+  -- its card, which isn't an audited one
+  pub card_stands : CardStands chip p.card (plan_for v.scenario (card_at w p.planned.card).holder) (card_at w p.planned.card)
+  card_stands =
+      elim (stands.chips p.planned.card chip p.card chip_there card_there) [
+        | inl here ↦ here
+        | inr audited ↦ absurd (not_over v.scenario w l p is audited.over)
+      ]
+
+  lane_stands : LaneStands lane p (lane_at w l)
+  lane_stands =
+      let at : LaneAt v.scenario l lane (lane_at w l) = stands.lanes l lane lane_there in
+      record { keeps = at.keeps; running = subst (λ (o : Option Payment). RunFor lane (lane_at w l) o) is at.runs }
+
+  placed : (holder : Option Holder) (running : Option (List Reply)) → (card_at w p.planned.card).holder ≡ holder → (lane_at w l).running ≡ running
+      → PlaceStands chip (plan_for v.scenario holder) (card_at w p.planned.card) holder → PlaceFor p chip (card_at w p.planned.card) holder running
+  placed None None held ran here = here
+  placed (Some holder) None held ran here = on_is_on chip _ _ _ _ here.0
+  placed None (Some replies) held ran here =
+      let has : None ≡ Some (this_one p part) = sym held ∙ has_card v.scenario w l p stands.sound is replies ran in cc
+  placed (Some holder) (Some replies) held ran here =
+      let same : holder ≡ this_one p part = same_Some holder (this_one p part) (sym held ∙ has_card v.scenario w l p stands.sound is replies ran) in
+      let plan : plan_for v.scenario (Some holder) ≡ p.planned.tear = ap (λ (h : Holder). plan_for v.scenario (Some h)) same ∙ plan_is v.scenario w l p is in
+      (subst (λ (tear : Option Tear). ChipOn chip (card_at w p.planned.card).session (card_at w p.planned.card).kept tear (card_at w p.planned.card).made) plan here.0, here.1)
+
+  pub part_stands : PartStands p lane chip (part_of w l p.planned.card)
+  part_stands = record {
+    lane_is = lane_stands;
+    place = placed (card_at w p.planned.card).holder (lane_at w l).running refl refl card_stands.stands;
+    image = card_stands.image;
+    losses = card_stands.losses;
+  }
+
+  module _ (later : Lane) (next : ChipSeen) (host : HostData) (tally : Counts) (lines : List Line) (choice : Bool)
+      (led : Led p later next v.tally tally lines part (piece p part choice)) (messages : HostStands host (piece p part choice).part.messages)
+      (free : (h : Holder) → (card_at w p.planned.card).holder ≡ Some h → h ≡ this_one p part) where
+    abbrev m : Moved
+    m = piece p part choice
+
+    abbrev after : World
+    after = (moved w l p.planned.card m).world
+
+    abbrev value : WorldSeen
+    value = record v { chips = set v.chips p.planned.card next; lanes = set v.lanes l later; host = host; tally = tally }
+
+    came : Outcome p part m.part
+    came = outcome p part choice (has_card v.scenario w l p stands.sound is)
+
+    -- who has the card afterwards is this purchase
+    holds : (h : Holder) → m.part.card.holder ≡ Some h → h ≡ this_one p part
+    holds h has = by came
+      where
+        by : Outcome p part m.part → h ≡ this_one p part
+        by (kept same) = free h (ap (λ (x : Part). x.card.holder) (sym same) ∙ has)
+        by (moves so) = (so.held h has).0
+
+    -- and what runs is its dialogue
+    goes_on : (replies : List Reply) → m.part.lane.running ≡ Some replies → length m.part.lane.ended ≡ length (lane_at w l).ended
+    goes_on replies ran = by came
+      where
+        by : Outcome p part m.part → length m.part.lane.ended ≡ length (lane_at w l).ended
+        by (kept same) = ap (λ (x : Part). length x.lane.ended) same
+        by (moves so) = (so.ran replies ran).1
+
+    inside : l < length w.lanes
+    inside =
+        let a : l < length v.scenario.lanes = (payment_facts v.scenario l _ p is).inside in
+        let b : length w.lanes ≡ length v.scenario.lanes = stands.sound.lane_count in
+        omega arith
+
+    lane_here : lane_at after l ≡ m.part.lane
+    lane_here = get_or-set_same w.lanes l m.part.lane new_lane inside
+
+    card_here : card_at after p.planned.card ≡ m.part.card
+    card_here =
+        let within : p.planned.card < length w.cards =
+        (let a : p.planned.card < length v.scenario.cards = slice_get_within v.scenario.cards p.planned.card p.card card_there in
+        let b : length w.cards ≡ length v.scenario.cards = stands.sound.card_count in omega arith) in
+        get_or-set_same w.cards p.planned.card m.part.card new_card within
+
+    -- its plan
+    planned_as : (holder : Option Holder) → m.part.card.holder ≡ holder → PlaceStands next p.planned.tear m.part.card holder
+        → PlaceStands next (plan_for v.scenario holder) m.part.card holder
+    planned_as None has off = off
+    planned_as (Some h) has on =
+        let same : plan_for v.scenario (Some h) ≡ p.planned.tear =
+        ap (λ (x : Holder). plan_for v.scenario (Some x)) (holds h has) ∙ plan_is v.scenario w l p is in
+        (subst (λ (tear : Option Tear). ChipOn next m.part.card.session m.part.card.kept tear m.part.card.made) (sym same) on.0, on.1)
+
+    chip_after : ChipStands v.scenario after next p.card m.part.card
+    chip_after = inl (record {
+      image = led.moved.card.image;
+      losses = led.moved.card.losses;
+      stands = planned_as m.part.card.holder refl led.moved.card.stands;
+    })
+
+    chips_after : (i : ℕ) (chip : ChipSeen) (card : CardData) → slice_get value.chips i ≡ Some chip → slice_get v.scenario.cards i ≡ Some card
+        → ChipStands v.scenario after chip card (card_at after i)
+    chips_after i other card there card_is =
+        elim (cases_eq i p.planned.card) [
+          | inl same ↦
+              let chip_is : next ≡ other = set_here v.chips p.planned.card next other (ap (λ k. slice_get (set v.chips p.planned.card next) k) (sym same) ∙ there) in
+              let its : p.card ≡ card = same_Some p.card card (sym card_there ∙ ap (λ k. slice_get v.scenario.cards k) (sym same) ∙ card_is) in
+              subst (λ k. ChipStands v.scenario after other card (card_at after k)) (sym same)
+              (subst (λ (row : CardRow). ChipStands v.scenario after other card row) (sym card_here)
+              (subst (λ (c : CardData). ChipStands v.scenario after other c m.part.card) its
+              (subst (λ (x : ChipSeen). ChipStands v.scenario after x p.card m.part.card) chip_is chip_after)))
+          | inr differs ↦
+              let row : card_at after i ≡ card_at w i = get_or-set_other w.cards p.planned.card i m.part.card new_card differs in
+              let before : slice_get v.chips i ≡ Some other = sym (set_other v.chips p.planned.card i next differs) ∙ there in
+              subst (λ (r : CardRow). ChipStands v.scenario after other card r) (sym row)
+              (elim (stands.chips i other card before card_is) [
+                | inl here ↦ inl here
+                | inr audited ↦ absurd (not_over v.scenario w l p is audited.over)
+              ])
+        ]
+
+    -- a lane whose purchase goes on, or has ended
+    run_after : (o : Option Payment) → payment_in v.scenario l (length m.part.lane.ended) ≡ o → (running : Option (List Reply)) → m.part.lane.running ≡ running
+        → RunStands later.running p running → RunFor later m.part.lane o
+    run_after o next_is None ran none = by o
+      where
+        rests : (kernel : Option KernelData) → later.running ≡ kernel → RunStands kernel p None → later.running ≡ None
+        rests None k is_none = k
+        rests (Some kernel) k is_none = absurd is_none
+
+        by : (o : Option Payment) → RunFor later m.part.lane o
+        by None = rests later.running refl none
+        by (Some q) =
+            subst (λ (r : Option (List Reply)). RunStands later.running q r) (sym ran)
+            (subst (λ (k : Option KernelData). RunStands k q None) (sym (rests later.running refl none)) tt)
+    run_after o next_is (Some replies) ran on =
+        let same : o ≡ Some p = sym next_is ∙ ap (λ k. payment_in v.scenario l k) (goes_on replies ran) ∙ is in
+        subst (λ (x : Option Payment). RunFor later m.part.lane x) (sym same)
+        (subst (λ (r : Option (List Reply)). RunStands later.running p r) (sym ran) on)
+
+    lane_after : LaneAt v.scenario l later m.part.lane
+    lane_after = record {
+      keeps = led.moved.lane_is.keeps;
+      runs = run_after (payment_in v.scenario l (length m.part.lane.ended)) refl m.part.lane.running refl led.moved.lane_is.running;
+    }
+
+    lanes_after : (k : ℕ) (lane : Lane) → slice_get value.lanes k ≡ Some lane → LaneAt v.scenario k lane (lane_at after k)
+    lanes_after k other there =
+        elim (cases_eq k l) [
+          | inl same ↦
+              let lane_is : later ≡ other = set_here v.lanes l later other (ap (λ i. slice_get (set v.lanes l later) i) (sym same) ∙ there) in
+              subst (λ i. LaneAt v.scenario i other (lane_at after i)) (sym same)
+              (subst (λ (row : LaneRow). LaneAt v.scenario l other row) (sym lane_here)
+              (subst (λ (x : Lane). LaneAt v.scenario l x m.part.lane) lane_is lane_after))
+          | inr differs ↦
+              let row : lane_at after k ≡ lane_at w k = get_or-set_other w.lanes l k m.part.lane new_lane differs in
+              subst (λ (r : LaneRow). LaneAt v.scenario k other r) (sym row)
+              (stands.lanes k other (sym (set_other v.lanes l k later differs) ∙ there))
+        ]
+
+    taken : Taken (λ b. piece p part b) choice
+    taken = choice_taken p part choice
+
+    turned_is : happens v.scenario w (Turn l) (first_of taken.choices) ≡ moved w l p.planned.card m
+    turned_is =
+        ap (λ (o : Option Payment). turned_by w l (first_of taken.choices) o) is
+        ∙ ap (λ (x : Moved). moved w l p.planned.card x) taken.same
+
+    pub turn_goes : Goes value w (Turn l) lines
+    turn_goes = record {
+      choices = taken.choices;
+      after = after;
+      step = record {
+        taken = taken.count ∙ ap (λ (x : After). x.choices) (sym (ap (λ (o : Option Payment). turned_by w l (first_of taken.choices) o) is));
+        made = led.moved.lines_are ∙ ap (λ (x : After). x.lines) (sym turned_is);
+        leads = ap (λ (x : After). x.world) (sym turned_is);
+      };
+      stands = record {
+        sound = subst (λ (x : After). IsSound v.scenario x.world) (ap (λ (o : Option Payment). turned_by w l choice o) is) (turn_sound v.scenario w l choice stands.sound);
+        few = turn_few v.scenario w l choice (Some p) is stands.few;
+        chips = chips_after;
+        lanes = lanes_after;
+        messages = messages;
+        tally = led.counted.2 ∙ ap (λ (c : Counts). counted c led.counted.0) stands.tally
+            ∙ sym (counts_with w after l m.part.lane led.counted.0 inside refl led.counted.1);
+      };
+    }

@@ -1,0 +1,44 @@
+use Rattle.std.proofs.Common.{◌≡◌, ◌<◌, length, map, sym, ap, ◌∙◌, subst, arith}
+use Rattle.txn_replay.specs.Seen.{WorldSeen, WorldStands}
+use Rattle.std.specs.Prelude.{option_map}
+use Rattle.txn_replay.specs.Reading.{data_at}
+use Rattle.txn_replay.proofs.Lists.{found_at}
+use Rattle.txn_replay.proofs.Values.{rests_data, told_data}
+use Rattle.txn_replay.proofs.world.World.read_data.Goals as goal
+
+pub returns-in-Some : goal.returns-in-Some
+returns-in-Some g c = λ w stands.
+    let v : WorldSeen = record {
+      scenario = c.self.inside.scenario.now;
+      chips = c.self.inside.chips.items;
+      lanes = c.self.inside.lanes.items;
+      host = c.self.inside.host;
+      tally = c.self.inside.tally;
+      spare = map g.P.Pages.memory c.self.inside.spare.items;
+    } in
+    let seen : WorldStands v w = subst (λ (x : WorldSeen). WorldStands x w) (sym c.self.view_is) stands in
+    let within : c.args.lane < length v.lanes =
+    (let below : c.args.lane < length v.scenario.lanes = subst (λ (x : WorldSeen). c.args.lane < length x.scenario.lanes) (sym c.self.view_is) c.requires.lane in
+    let count : length v.lanes ≡ length v.scenario.lanes = c.self.invariant.0.lane_count in omega arith) in
+    let here = found_at v.lanes c.args.lane c.index-row.result.now within c.index-row.ensures in
+    told_data v w seen c.args.lane c.index-row.result.now here c.in-Some.kernel (option_map (λ card. card.now) c.data.result) c.in-Some.is c.data.ensures
+    ∙ ap (λ (x : WorldSeen). data_at x.scenario w c.args.lane) c.self.view_is
+
+pub returns-in-None : goal.returns-in-None
+returns-in-None g c = λ w stands.
+    let v : WorldSeen = record {
+      scenario = c.self.inside.scenario.now;
+      chips = c.self.inside.chips.items;
+      lanes = c.self.inside.lanes.items;
+      host = c.self.inside.host;
+      tally = c.self.inside.tally;
+      spare = map g.P.Pages.memory c.self.inside.spare.items;
+    } in
+    let seen : WorldStands v w = subst (λ (x : WorldSeen). WorldStands x w) (sym c.self.view_is) stands in
+    let within : c.args.lane < length v.lanes =
+    (let below : c.args.lane < length v.scenario.lanes = subst (λ (x : WorldSeen). c.args.lane < length x.scenario.lanes) (sym c.self.view_is) c.requires.lane in
+    let count : length v.lanes ≡ length v.scenario.lanes = c.self.invariant.0.lane_count in omega arith) in
+    let here = found_at v.lanes c.args.lane c.index-row.result.now within c.index-row.ensures in
+    c.as_ref.ensures.value
+    ∙ rests_data v w seen c.args.lane c.index-row.result.now here c.in-None.is
+    ∙ ap (λ (x : WorldSeen). data_at x.scenario w c.args.lane) c.self.view_is

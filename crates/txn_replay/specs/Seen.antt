@@ -1,0 +1,144 @@
+-- The value of a whole run, and the world that it stands for.
+use Rattle.std.specs.Prelude.{◌≡◌, ◌⊎◌, ℕ, zero, suc, Bool, true, false, ◌&&◌, ◌==◌, is_none, List, [], length, map, sum_by, slice_get, Option, Some, None}
+use Rattle.std.specs.List.{All}
+use Rattle.card_app.specs.SeenChip.{ChipSeen, ChipOn, is_on, losses_of}
+use Rattle.card_files.specs.Files.{opening_of}
+use Rattle.card_pages.specs.Pages.{MayStand}
+use Rattle.emv_ports.specs.Memory.{Memory}
+use Rattle.emv_ports.specs.declared.tear.Tear.{Tear}
+use Rattle.issuer_host.specs.History.{HostData, HostStands}
+use Rattle.kernel.specs.Tally.{Counts}
+use Rattle.report_text.specs.declared.line.Line.{Line}
+use Rattle.scenario.specs.Cards.{CardData}
+use Rattle.scenario.specs.Plan.{ScenarioData, IsScenario}
+use Rattle.scenario_lanes.specs.Plan.{LaneData}
+use Rattle.txn_replay.specs.Bounds.{IsFewIn}
+use Rattle.txn_replay.specs.Counting.{capped, counts}
+use Rattle.txn_replay.specs.Payment.{Payment, payment_in}
+use Rattle.txn_replay.specs.Run.{all_over}
+use Rattle.txn_replay.specs.Sound.{IsSound}
+use Rattle.txn_replay.specs.Standing.{RunStands, LaneKeeps, CardStands, LaneFits, lane_left}
+use Rattle.txn_replay.specs.Steps.{Settlement, Asks, checks, Step}
+use Rattle.txn_replay.specs.World.{Holder, CardRow, LaneRow, World, new_lane, card_at, lane_at}
+use Rattle.txn_replay.specs.declared.event.Event.{Event}
+use Rattle.txn_replay.specs.declared.lane.Lane.{Lane}
+
+pub record WorldSeen : Type 0 where
+  pub scenario : ScenarioData
+  pub chips : List ChipSeen
+  pub lanes : List Lane
+  pub host : HostData
+  pub tally : Counts
+  -- the pages that no card has
+  pub spare : List Memory
+
+-- the plan of the purchase that has a card
+abbrev pub plan_in : Option Payment → Option Tear
+plan_in None = None
+plan_in (Some p) = p.planned.tear
+
+abbrev pub plan_for : ScenarioData → Option Holder → Option Tear
+plan_for s None = None
+plan_for s (Some holder) = plan_in (payment_in s holder.lane holder.number)
+
+-- a card that the audit has turned on: no purchase has it, and there is no plan
+pub record IsAudited (s : ScenarioData) (w : World) (chip : ChipSeen) (card : CardData) (row : CardRow) : Type 0 where
+  pub over : all_over s w ≡ true
+  pub image : chip.image ≡ card.image
+  pub losses : losses_of chip ≡ capped row.losses
+  pub free : row.holder ≡ None
+  pub on : ChipOn chip row.session row.kept None row.made
+  pub none : row.pending ≡ None
+
+abbrev pub ChipStands : ScenarioData → World → ChipSeen → CardData → CardRow → Type 0
+ChipStands s w chip card row = CardStands chip card (plan_for s row.holder) row ⊎ IsAudited s w chip card row
+
+-- a terminal that runs the purchase behind those that have ended, or none
+abbrev pub RunFor : Lane → LaneRow → Option Payment → Type 0
+RunFor lane row None = lane.running ≡ None
+RunFor lane row (Some p) = RunStands lane.running p row.running
+
+pub record LaneAt (s : ScenarioData) (l : ℕ) (lane : Lane) (row : LaneRow) : Type 0 where
+  pub keeps : LaneKeeps lane row
+  pub runs : RunFor lane row (payment_in s l (length row.ended))
+
+pub record WorldStands (v : WorldSeen) (w : World) : Type 0 where
+  pub sound : IsSound v.scenario w
+  pub few : (l : ℕ) → IsFewIn v.scenario l (lane_at w l)
+  pub chips : (i : ℕ) (chip : ChipSeen) (card : CardData) → slice_get v.chips i ≡ Some chip → slice_get v.scenario.cards i ≡ Some card
+      → ChipStands v.scenario w chip card (card_at w i)
+  pub lanes : (l : ℕ) (lane : Lane) → slice_get v.lanes l ≡ Some lane → LaneAt v.scenario l lane (lane_at w l)
+  pub messages : HostStands v.host w.messages
+  pub tally : v.tally ≡ counts w
+
+-- a value stands for some world
+abbrev pub IsStanding : WorldSeen → Type 0
+IsStanding v = (w : World) × WorldStands v w
+
+-- what a value keeps to, whatever it stands for
+pub record IsWhole (v : WorldSeen) : Type 0 where
+  pub scenario : IsScenario v.scenario
+  pub chip_count : length v.chips ≡ length v.scenario.cards
+  pub lane_count : length v.lanes ≡ length v.scenario.lanes
+  pub fits : All LaneFits v.lanes
+  pub keys : v.host.keys ≡ v.scenario.issuer
+  pub accounts : v.host.accounts ≡ v.scenario.accounts
+  pub standing : IsStanding v
+
+-- an event has led to what the value stands for
+pub record Goes (v : WorldSeen) (w : World) (e : Event) (lines : List Line) : Type 0 where
+  pub choices : List Bool
+  pub after : World
+  pub step : Step v.scenario w e choices lines after
+  pub stands : WorldStands v after
+
+-- no purchase runs, and each of its lane has ended
+abbrev pub is_lane_done : Option LaneData → Option Lane → Bool
+is_lane_done (Some terminal) (Some lane) = is_none lane.running && lane.ended == length terminal.purchases
+is_lane_done (Some terminal) None = false
+is_lane_done None lane = false
+
+-- so in each of the first lanes
+abbrev pub done_below : List LaneData → List Lane → ℕ → Bool
+done_below terminals lanes zero = true
+done_below terminals lanes (suc l) = is_lane_done (slice_get terminals l) (slice_get lanes l) && done_below terminals lanes l
+
+abbrev pub is_done : WorldSeen → Bool
+is_done v = done_below v.scenario.lanes v.lanes (length v.scenario.lanes)
+
+-- how many exchanges are left at most
+abbrev pub turns_left : WorldSeen → ℕ
+turns_left v = sum_by lane_left v.lanes
+
+-- the card that a check asks is on
+abbrev pub IsNext : WorldSeen → ℕ → Type 0
+IsNext v k =
+    (i : ℕ) (card : CardData) (command : List ℕ) (chip : ChipSeen) → slice_get (checks v.scenario) k ≡ Some (Asks i card command)
+    → slice_get v.chips i ≡ Some chip → is_on chip ≡ true
+
+-- pages that are off, and may stand for what a card has decided
+pub record PagesStand (memory : Memory) (card : CardData) (row : CardRow) : Type 0 where
+  pub off : memory.on ≡ false
+  pub may : MayStand memory.cells (opening_of card.image) row.kept row.pending
+  pub losses : memory.losses ≡ capped row.losses
+
+abbrev pub BankStands : ScenarioData → World → List Memory → Type 0
+BankStands s w bank =
+    (i : ℕ) (card : CardData) → slice_get s.cards i ≡ Some card
+    → (memory : Memory) × (slice_get bank i ≡ Some memory) × PagesStand memory card (card_at w i)
+
+-- what a lane has captured, as the settlement reads it
+abbrev pub captured : Lane → LaneRow
+captured lane = record new_lane { captures = map (λ message. message.items) lane.captures.items }
+
+abbrev pub settlement_by : ℕ → List ℕ → Settlement
+settlement_by lane message = record { lane = lane; message = message }
+
+-- a lane before its first purchase
+pub record IsNewLane (lane : Lane) : Type 0 where
+  pub ended : lane.ended ≡ 0
+  pub running : lane.running ≡ None
+  pub log : lane.log.items ≡ []
+  pub captures : lane.captures.items ≡ []
+  pub card : lane.card ≡ None
+  pub ending : lane.ending ≡ None

@@ -1,0 +1,217 @@
+//! The audit: each card is powered up, and each of its applications is asked for its counters.
+ghost use Rattle.std.specs.Prelude.{◌≡◌, ◌≤◌, ◌<◌, ◌+◌, ◌*◌, ◌∷◌, [], ℕ, Bool, true, None, option_map, slice_get, length, IfSome};
+ghost use Rattle.app_select.specs.Said.{select_command};
+ghost use Rattle.card_app.specs.SeenChip.{ChipOn, ChipOff, is_on as has_power, losses_of};
+ghost use Rattle.card_pages.specs.Pages.{found_of};
+ghost use Rattle.risk_mgmt.specs.Counters.{get_data};
+ghost use Rattle.scenario.specs.Cards.{CardData};
+ghost use Rattle.scenario.specs.Seen.{seen_card, seen_cards};
+ghost use Rattle.txn_replay.specs.Audited.{asked_by, question_check, question_command, step_check, RowRests, IsAsked, IsChecked};
+ghost use Rattle.txn_replay.specs.Lines.{audit_power_line};
+ghost use Rattle.txn_replay.specs.Steps.{app_checks, checks_from};
+ghost use Rattle.txn_replay.specs.World.{CardRow};
+ghost use Rattle.std.specs.List.{flat_map};
+
+use crate::lines::{Lines, add_audit, add_audit_power};
+use apdu_core::{Answer, Command, Out, write_command};
+use card_app::Chip;
+use card_files::AppImage;
+use emv_ports::Pages;
+use scenario::NamedImage;
+
+/// What the audit asks of an application.
+#[derive(Clone, Copy)]
+pub(crate) enum Question<'s> {
+    /// SELECT of its name (EMV 4.3 Book 1 section 11.3).
+    Select(&'s AppImage),
+    /// GET DATA of its application transaction counter (EMV 4.3 Book 3 section 6.5.7).
+    Counter,
+    /// GET DATA of its last online transaction counter.
+    LastOnline,
+}
+
+/// A step of the audit: a card at its index is powered up, or asked a question.
+#[derive(Clone, Copy)]
+pub(crate) struct AuditStep<'s> {
+    pub index: usize,
+    pub card: &'s NamedImage,
+    pub question: Option<Question<'s>>,
+}
+
+/// The question of this number to the applications of a card.
+fn question_at(apps: &[AppImage], number: usize) -> Option<Question<'_>>
+    ensures asked { (i : ℕ) (card : CardData) → option_map (question_check i card) result ≡ slice_get (flat_map (app_checks i card) apps.now) number }
+    ensures behind { result ≡ None → 3 * length apps.now ≤ number }
+{
+    match apps.get(number / 3) {
+        Some(app) => Some(question_of(app, number % 3)),
+        None => None,
+    }
+}
+
+/// The first, second or third question to an application.
+fn question_of(app: &AppImage, number: usize) -> Question<'_>
+    requires { number < 3 }
+    ensures { (i : ℕ) (card : CardData) → question_check i card result ≡ asked_by i card app.now number }
+{
+    match number {
+        0 => Question::Select(app),
+        1 => Question::Counter,
+        _ => Question::LastOnline,
+    }
+}
+
+/// The step of the audit of this number, from 0.
+pub(crate) fn audit_step(cards: &[NamedImage], number: u32) -> Option<AuditStep<'_>>
+    requires few { length cards.now ≤ 64 }
+    ensures step { option_map step_check result ≡ slice_get (checks_from 0 (seen_cards cards.now)) number }
+    ensures there { IfSome result (λ step. slice_get cards.now step.index ≡ Some step.card.now) }
+{
+    let mut left = number as usize;
+    for (index, card) in cards.iter().enumerate() {
+        if left == 0 {
+            return Some(AuditStep {
+                index,
+                card,
+                question: None,
+            });
+        }
+        let apps = card.image.apps();
+        if let Some(question) = question_at(apps, left - 1) {
+            return Some(AuditStep {
+                index,
+                card,
+                question: Some(question),
+            });
+        }
+        left -= 1 + 3 * apps.len();
+    }
+    None
+}
+
+/// The step is carried out on its card, which no purchase has.
+pub(crate) fn carry_out<P: Pages>(step: AuditStep<'_>, chip: &mut Chip<'_, P>, lines: &mut Lines)
+    requires rests { (row : CardRow) × RowRests chip.old row }
+    requires on { IfSome step.question (λ question. has_power chip.old ≡ true) }
+    requires name { length step.card.now.name.items ≤ 16 }
+    requires lines { lines.old.items ≡ [] }
+    ensures checked { (row : CardRow) → RowRests chip.old row → chip.old.image ≡ step.entry.card.now.image
+        → (choice : Bool) × IsChecked chip.new (seen_card step.entry.card.now) row step.entry.question choice lines.new.items }
+    ensures on { has_power chip.new ≡ true }
+    ensures image { chip.new.image ≡ chip.old.image }
+    ensures losses { losses_of chip.new ≡ losses_of chip.old }
+{
+    match step.question {
+        None => power(step.card, chip, lines),
+        Some(question) => ask(step.card, chip, question, lines),
+    }
+}
+
+/// A card that the audit has turned on is turned off.
+fn turn_off<P: Pages>(chip: &mut Chip<'_, P>)
+    ensures off { (row : CardRow) → RowRests chip.old row → ChipOff chip.new row.kept row.pending }
+    ensures image { chip.new.image ≡ chip.old.image }
+    ensures losses { losses_of chip.new ≡ losses_of chip.old }
+{
+    if chip.is_on() {
+        chip.power_off();
+    }
+}
+
+/// A card is powered up without a plan.
+fn power<P: Pages>(card: &NamedImage, chip: &mut Chip<'_, P>, lines: &mut Lines)
+    requires rests { (row : CardRow) × RowRests chip.old row }
+    requires name { length card.now.name.items ≤ 16 }
+    requires lines { lines.old.items ≡ [] }
+    ensures powered { (row : CardRow) → RowRests chip.old row → chip.old.image ≡ card.now.image
+        → (with_it : Bool) × ChipOn chip.new [] (found_of row.kept row.pending with_it) None 0
+        × (lines.new.items ≡ audit_power_line (seen_card card.now) (found_of row.kept row.pending with_it) ∷ []) }
+    ensures on { has_power chip.new ≡ true }
+    ensures image { chip.new.image ≡ chip.old.image }
+    ensures losses { losses_of chip.new ≡ losses_of chip.old }
+{
+    turn_off(chip);
+    let Ok(()) = chip.power_up(None) else {
+        unreachable!();
+    };
+    add_audit_power(card.name.as_slice(), chip.totals(), lines);
+}
+
+/// A card that the audit has turned on is asked.
+fn ask<P: Pages>(
+    card: &NamedImage,
+    chip: &mut Chip<'_, P>,
+    question: Question<'_>,
+    lines: &mut Lines,
+)
+    requires rests { (row : CardRow) × RowRests chip.old row }
+    requires on { has_power chip.old ≡ true }
+    requires name { length card.now.name.items ≤ 16 }
+    requires lines { lines.old.items ≡ [] }
+    ensures asked { (row : CardRow) → RowRests chip.old row → chip.old.image ≡ card.now.image
+        → IsAsked chip.new (seen_card card.now) row (question_command question.entry) lines.new.items }
+    ensures on { has_power chip.new ≡ true }
+    ensures image { chip.new.image ≡ chip.old.image }
+    ensures losses { losses_of chip.new ≡ losses_of chip.old }
+{
+    prove!(chip.is_on());
+    let mut command = Out::new();
+    write_question(question, &mut command);
+    let mut answer = Answer::new();
+    let Ok(()) = chip.process(command.as_slice(), &mut answer) else {
+        unreachable!();
+    };
+    add_audit(
+        card.name.as_slice(),
+        command.as_slice(),
+        answer.as_slice(),
+        lines,
+    );
+}
+
+/// The command of a question.
+fn write_question(question: Question<'_>, out: &mut Out)
+    ensures { out.new.items ≡ question_command question.entry }
+{
+    match question {
+        Question::Select(app) => write_select(app, out),
+        Question::Counter => write_get_data(0x36, out),
+        Question::LastOnline => write_get_data(0x13, out),
+    }
+}
+
+/// SELECT of an application's name.
+fn write_select(app: &AppImage, out: &mut Out)
+    ensures { out.new.items ≡ select_command 0 app.now.name }
+{
+    let name = app.name.0.as_slice();
+    write_command(
+        &Command {
+            class: 0,
+            ins: 0xA4,
+            p1: 4,
+            p2: 0,
+            body: name,
+            expects: Some(0),
+        },
+        out,
+    );
+}
+
+/// GET DATA of an object whose tag has this second byte behind 9F.
+#[tactic(auto, unfolding(risk_mgmt::specs::Counters::get_data))]
+fn write_get_data(second: u8, out: &mut Out)
+    ensures { out.new.items ≡ get_data (0x9F00 + second) }
+{
+    write_command(
+        &Command {
+            class: 0x80,
+            ins: 0xCA,
+            p1: 0x9F,
+            p2: second,
+            body: &[],
+            expects: Some(0),
+        },
+        out,
+    );
+}

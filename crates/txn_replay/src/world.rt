@@ -1,0 +1,282 @@
+//! A whole run, an event at a time.
+ghost use Rattle.std.specs.Prelude.{◌≡◌, ◌≤◌, ◌<◌, ◌+◌, ◌++◌, ◌∷◌, [], ℕ, List, Bool, true, false, length, map, drop, slice_get, option_map, Option, Some, None, IfOk, IfErr, OnOk, OnErr};
+ghost use Rattle.std.specs.List.{All};
+ghost use Rattle.std.specs.Vec.{vec_len, vec_capacity};
+ghost use Rattle.emv_ports.specs.Memory.{IsBlank};
+ghost use Rattle.issuer_host.specs.History.{balance_after};
+ghost use Rattle.report_text.specs.declared.line.Line.{Line as ReportLine};
+ghost use Rattle.scenario.specs.Plan.{IsScenario};
+ghost use Rattle.txn_replay.specs.Reading.{data_at, ending_at};
+ghost use Rattle.txn_replay.specs.Run.{all_over, ended_count};
+ghost use Rattle.txn_replay.specs.Seen.{WorldSeen, WorldStands, Goes, BankStands, IsNext, is_done, turns_left};
+ghost use Rattle.txn_replay.specs.Sound.{IsIdle};
+ghost use Rattle.txn_replay.specs.Steps.{Settlement, Check, settlements, checks};
+ghost use Rattle.txn_replay.specs.World.{World as SpecWorld, first_world};
+ghost use Rattle.txn_replay.specs.declared.event.Event.TheVariants as event;
+
+use crate::audit::{audit_step, carry_out};
+use crate::bank::{give_pages, take_pages};
+use crate::exchange::{exchange, is_held};
+use crate::lane::{Lane, all_ended, are_done, new_lanes};
+use crate::lines::{Lines, add_settlement};
+use crate::payment::payment_at;
+use crate::settlement::settlement;
+use auth_message::Message;
+use card_app::Chip;
+use emv_dict::{Digits, Ending};
+use emv_ports::Pages;
+use issuer_host::{Host, HostKeys};
+use kernel::Tally;
+use object_lists::CardData;
+use scenario::Scenario;
+use std::alloc::{AllocError, Global};
+use std::marker::Model;
+
+/// There is no memory for a run. The bank is as it was.
+#[derive(Drop)]
+pub struct NoWorld<P: Pages> {
+    pub bank: Vec<P>,
+}
+
+/// The cards, the terminals and the issuer's host of a scenario, in a run. Contracts speak of the world that
+/// it stands for: `WorldStands`.
+#[derive(Drop)]
+pub struct World<'s, P: Pages> {
+    scenario: &'s Scenario,
+    chips: Vec<Chip<'s, P>>,
+    lanes: Vec<Lane<'s>>,
+    host: Host<'s>,
+    tally: Tally,
+    /// The pages that no card has.
+    spare: Vec<P>,
+}
+
+impl<'s, P: Pages> Model for World<'s, P> {
+    ghost use Rattle.std.specs.Prelude.{map, ◌+◌, ◌≤◌};
+    ghost use Rattle.std.specs.Vec.{vec_len, vec_capacity};
+    ghost use Rattle.txn_replay.specs.Seen.{WorldSeen, IsWhole};
+
+    ghost Value = { WorldSeen };
+
+    ghost view = { λ w. record {
+      scenario = w.scenario.now;
+      chips = w.chips.items;
+      lanes = w.lanes.items;
+      host = w.host;
+      tally = w.tally;
+      spare = map P.memory w.spare.items;
+    } };
+
+    ghost invariant = { λ w. IsWhole (record {
+      scenario = w.scenario.now;
+      chips = w.chips.items;
+      lanes = w.lanes.items;
+      host = w.host;
+      tally = w.tally;
+      spare = map P.memory w.spare.items;
+    }) × (vec_len w.chips + vec_len w.spare ≤ vec_capacity w.spare) };
+}
+
+impl<'s, P: Pages> World<'s, P> {
+    /// The run of a scenario begins. Its cards are personalised on the first of the pages, in their order.
+    /// `NoWorld` is want of memory: no later call but `turn` and `settle` takes any.
+    pub fn new(
+        alloc: Global,
+        scenario: &'s Scenario,
+        bank: Vec<P>,
+    ) -> Result<World<'s, P>, NoWorld<P>>
+        requires scenario { IsScenario scenario.now }
+        requires pages { length bank.items ≡ 64 }
+        requires blank { All IsBlank (map P.memory bank.items) }
+        ensures stands { IfOk result (λ world. WorldStands world (first_world scenario.now)) }
+        ensures scenario { IfOk result (λ world. world.scenario ≡ scenario.now) }
+        ensures spare { IfOk result (λ world. world.spare ≡ drop (length scenario.now.cards) (map P.memory bank.items)) }
+        ensures back { IfErr result (λ no. no.bank ≡ bank) }
+    {
+        let keys = keys_of(&scenario.issuer);
+        let Ok(host) = Host::new(alloc, keys, scenario.accounts.as_slice()) else {
+            return Err(NoWorld { bank });
+        };
+        let Ok(lanes) = new_lanes(alloc, scenario.lanes.len()) else {
+            return Err(NoWorld { bank });
+        };
+        let cards = scenario.cards.as_slice();
+        let Ok(mut chips) = Vec::with_capacity(alloc, cards.len()) else {
+            return Err(NoWorld { bank });
+        };
+        let mut spare = bank;
+        take_pages(cards, &mut spare, &mut chips);
+        Ok(World {
+            scenario,
+            chips,
+            lanes,
+            host,
+            tally: Tally::new(),
+            spare,
+        })
+    }
+
+    /// One exchange of the lane of this index. A lane without a running purchase powers up the card of its
+    /// next one. A purchase whose dialogue is over ends in the same exchange. `false`, and then nothing has
+    /// happened: no purchase is left, or another lane's purchase has the card. After `AllocError` nothing
+    /// has changed.
+    pub fn turn(&mut self, lane: usize, lines: &mut Lines) -> Result<bool, AllocError>
+        requires lane { lane < length self.old.scenario.lanes }
+        requires empty { lines.old.items ≡ [] }
+        ensures ok { OnOk result ((w : SpecWorld) → WorldStands self.old w → Goes self.new w (event.Turn lane) lines.new.items) }
+        ensures nearer { IfOk result (λ went. went ≡ true → turns_left self.new < turns_left self.old) }
+        ensures idle { IfOk result (λ went. went ≡ false → (w : SpecWorld) → WorldStands self.old w → IsIdle self.old.scenario w lane) }
+        ensures still { IfOk result (λ went. went ≡ false → (self.new ≡ self.old) × (lines.new.items ≡ [])) }
+        ensures err { OnErr result ((w : SpecWorld) → WorldStands self.old w → WorldStands self.new w) }
+        ensures none { OnErr result (lines.new.items ≡ []) }
+        ensures scenario { self.new.scenario ≡ self.old.scenario }
+        ensures spare { self.new.spare ≡ self.old.spare }
+    {
+        let scenario = self.scenario;
+        let ended = self.lanes[lane].ended;
+        let Some(at) = payment_at(scenario, lane, ended) else {
+            return Ok(false);
+        };
+        let card = at.planned.card;
+        if is_held(&self.lanes[lane].running, &self.chips[card]) {
+            return Ok(false);
+        }
+        exchange(
+            &at,
+            &mut self.lanes[lane],
+            &mut self.chips[card],
+            &mut self.host,
+            &mut self.tally,
+            lines,
+        )?;
+        Ok(true)
+    }
+
+    /// The settlement message of this number, from 0, goes to the host: each lane's captures by purchase,
+    /// each as often as the scenario says. `false`, and then nothing has happened, where there is none.
+    /// After `AllocError` nothing has changed.
+    pub fn settle(&mut self, number: u32, lines: &mut Lines) -> Result<bool, AllocError>
+        requires empty { lines.old.items ≡ [] }
+        ensures ok { OnOk result ((w : SpecWorld) → WorldStands self.old w → Goes self.new w (event.Settle number) lines.new.items) }
+        ensures there { IfOk result (λ went. went ≡ true → (w : SpecWorld) → WorldStands self.old w
+            → (at : Settlement) × (slice_get (settlements self.old.scenario w) number ≡ Some at)) }
+        ensures past { IfOk result (λ went. went ≡ false → (w : SpecWorld) → WorldStands self.old w
+            → slice_get (settlements self.old.scenario w) number ≡ None) }
+        ensures few { IfOk result (λ went. went ≡ true → number < 30000) }
+        ensures still { IfOk result (λ went. went ≡ false → (self.new ≡ self.old) × (lines.new.items ≡ [])) }
+        ensures err { OnErr result (self.new ≡ self.old) }
+        ensures none { OnErr result (lines.new.items ≡ []) }
+        ensures scenario { self.new.scenario ≡ self.old.scenario }
+        ensures spare { self.new.spare ≡ self.old.spare }
+        ensures done { is_done self.new ≡ is_done self.old }
+    {
+        let scenario = self.scenario;
+        let Some((lane, message)) = settlement(self.lanes.as_slice(), scenario.copies, number)
+        else {
+            return Ok(false);
+        };
+        let mut reply = Message::new();
+        self.host.answer(message.as_slice(), &mut reply)?;
+        add_settlement(lane, message.as_slice(), reply.as_slice(), lines);
+        Ok(true)
+    }
+
+    /// The step of the audit of this number, from 0: each card is powered up without a plan, and each of its
+    /// applications is selected and asked for both counters. `false`, and then nothing has happened, where
+    /// there is none.
+    pub fn audit(&mut self, number: u32, lines: &mut Lines) -> bool
+        requires done { is_done self.old ≡ true }
+        requires next { IsNext self.old number }
+        requires empty { lines.old.items ≡ [] }
+        ensures goes { (w : SpecWorld) → WorldStands self.old w → Goes self.new w (event.Audit number) lines.new.items }
+        ensures there { result ≡ true → (check : Check) × (slice_get (checks self.old.scenario) number ≡ Some check) }
+        ensures past { result ≡ false → slice_get (checks self.old.scenario) number ≡ None }
+        ensures few { result ≡ true → number < 832 }
+        ensures still { result ≡ false → (self.new ≡ self.old) × (lines.new.items ≡ []) }
+        ensures next { result ≡ true → IsNext self.new (number + 1) }
+        ensures done { is_done self.new ≡ true }
+        ensures scenario { self.new.scenario ≡ self.old.scenario }
+        ensures spare { self.new.spare ≡ self.old.spare }
+    {
+        let scenario = self.scenario;
+        let Some(step) = audit_step(scenario.cards.as_slice(), number) else {
+            return false;
+        };
+        carry_out(step, &mut self.chips[step.index], lines);
+        true
+    }
+
+    /// Whether no purchase runs and none is left.
+    pub fn done(&self) -> bool
+        ensures exact { result ≡ is_done self.now }
+        ensures over { (w : SpecWorld) → WorldStands self.now w → result ≡ all_over self.now.scenario w }
+    {
+        let scenario = self.scenario;
+        are_done(scenario.lanes.as_slice(), self.lanes.as_slice())
+    }
+
+    /// What reading gave in the purchase that the lane began last, exactly where it is finished.
+    pub fn read_data(&self, lane: usize) -> Option<&CardData>
+        requires lane { lane < length self.now.scenario.lanes }
+        ensures { (w : SpecWorld) → WorldStands self.now w → option_map (λ card. card.now) result ≡ data_at self.now.scenario w lane }
+    {
+        let row = &self.lanes[lane];
+        match &row.running {
+            Some(kernel) => kernel.data(),
+            None => row.card.as_ref(),
+        }
+    }
+
+    /// How the purchase of the lane that ended last has ended.
+    pub fn ending(&self, lane: usize) -> Option<Ending>
+        requires lane { lane < length self.now.scenario.lanes }
+        ensures { (w : SpecWorld) → WorldStands self.now w → result ≡ ending_at w lane }
+    {
+        self.lanes[lane].ending
+    }
+
+    /// The balance of an account number, as the host has it.
+    pub fn balance(&self, pan: &Digits) -> Option<i128>
+        ensures { (w : SpecWorld) → WorldStands self.now w
+            → result ≡ balance_after self.now.scenario.issuer self.now.scenario.accounts w.messages pan.now }
+    {
+        self.host.balance(pan)
+    }
+
+    /// How many purchases have ended.
+    pub fn ended(&self) -> u32
+        ensures { (w : SpecWorld) → WorldStands self.now w → result ≡ ended_count w }
+    {
+        all_ended(self.lanes.as_slice())
+    }
+
+    /// Gives the pages back, each card's at its place and off, and the tally of all dialogues that were ended.
+    pub fn into_bank(self) -> (Vec<P>, Tally)
+        ensures cards { (w : SpecWorld) → WorldStands self.entry w → BankStands self.entry.scenario w (map P.memory result.0.items) }
+        ensures spare { drop (length self.entry.scenario.cards) (map P.memory result.0.items) ≡ self.entry.spare }
+        ensures tally { result.1 ≡ self.entry.tally }
+        ensures length { length result.0.items ≡ length self.entry.chips + length self.entry.spare }
+    {
+        let World {
+            scenario: _,
+            chips,
+            lanes: _,
+            host: _,
+            tally,
+            spare,
+        } = self;
+        (give_pages(chips, spare), tally)
+    }
+}
+
+/// The issuer's keys once more.
+fn keys_of(keys: &HostKeys) -> HostKeys
+    ensures { result ≡ keys.now }
+{
+    HostKeys {
+        ac: keys.ac.copy(),
+        mac: keys.mac.copy(),
+        enc: keys.enc.copy(),
+        pin: keys.pin.copy(),
+    }
+}
