@@ -13,6 +13,7 @@ pub mod Folding
 pub mod Waiting
 pub mod Lanes
 pub mod Few
+pub mod Losses
 pub mod Again
 pub mod Apart
 pub mod Endings

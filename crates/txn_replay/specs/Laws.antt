@@ -1,10 +1,11 @@
 -- What holds of every run, whatever its scenario: no counter serves two purchases, no power-up loses a decision that an
 -- answer rests on, and no transaction is booked twice (this project's own).
-use Rattle.std.specs.Prelude.{◌≡◌, ◌≢◌, ℕ, ◌≤◌, ◌<◌, Bool, true, List, [], ◌∷◌, ◌++◌, fold, length, take, slice_get, Some}
+use Rattle.std.specs.Prelude.{◌≡◌, ◌≢◌, ℕ, ◌+◌, ◌≤◌, ◌<◌, Bool, true, false, count_by, List, [], ◌∷◌, ◌++◌, fold, length, take, slice_get, Some}
 use Rattle.card_state.specs.Decisions.{Decided}
 use Rattle.host_ledger.specs.declared.key.Key.{Key}
 use Rattle.host_histories.specs.BookedOnce.{IsBooking, TakesAmount}
 use Rattle.report_text.specs.declared.line.Line.{Line}
+use Rattle.report_text.specs.declared.line.Line.TheVariants.{PowerTorn, Torn}
 use Rattle.scenario.specs.Plan.{ScenarioData}
 use Rattle.txn_replay.specs.Payment.{Payment, next_of}
 use Rattle.txn_replay.specs.Run.{Place, Reached, Run, all_over}
@@ -88,6 +89,19 @@ pub record LeavesOthers (s : ScenarioData) (w after : World) (l : ℕ) : Type 0 
 
 abbrev pub LanesStayApart : Type 0
 LanesStayApart = (s : ScenarioData) (w : World) (l : ℕ) (choice : Bool) → LeavesOthers s w (happens s w (Turn l) choice).world l
+
+-- a line that tells that the power of a card was cut
+abbrev pub is_torn : Line → Bool
+is_torn (PowerTorn lane card) = true
+is_torn (Torn lane) = true
+is_torn other = false
+
+-- an exchange counts a loss of its card exactly where its lines tell one
+abbrev pub LossesAreTold : Type 0
+LossesAreTold =
+    (s : ScenarioData) (w : World) (l : ℕ) (choice : Bool) (p : Payment) → IsSound s w → next_of s w l ≡ Some p
+    → (card_at (happens s w (Turn l) choice).world p.planned.card).losses
+    ≡ (card_at w p.planned.card).losses + count_by is_torn (happens s w (Turn l) choice).lines
 
 -- where every lane waits, every purchase is over
 abbrev pub StuckIsOver : Type 0

@@ -1,6 +1,6 @@
 //! Laws over every run, whatever its scenario.
 ghost use Rattle.txn_replay.specs.Bounds.{WorldsAreFew, SettlementsAreFew, ChecksAreFew};
-ghost use Rattle.txn_replay.specs.Laws.{RunsAreFair, WholeRunsAreFair, WorldsAreSound, IdleLanesStay, LanesStayApart, StuckIsOver, CalmIsOver};
+ghost use Rattle.txn_replay.specs.Laws.{RunsAreFair, WholeRunsAreFair, WorldsAreSound, IdleLanesStay, LanesStayApart, LossesAreTold, StuckIsOver, CalmIsOver};
 
 use host_histories::transactions_are_booked_once;
 
@@ -16,9 +16,11 @@ pub fn runs_are_fair()
 }
 
 /// A lane runs only a purchase that has its card, and no two purchases have one card. An exchange leaves
-/// every other lane and every other card; that of a lane that waits changes nothing.
+/// every other lane and every other card; that of a lane that waits changes nothing. A card counts a loss
+/// of power exactly where the lines tell one.
 pub fn lanes_are_sound()
     ensures sound { WorldsAreSound }
+    ensures losses { LossesAreTold }
     ensures apart { LanesStayApart }
     ensures idle { IdleLanesStay }
 {}

@@ -38,8 +38,7 @@ pub struct NoWorld<P: Pages> {
     pub bank: Vec<P>,
 }
 
-/// The cards, the terminals and the issuer's host of a scenario, in a run. Contracts speak of the world that
-/// it stands for: `WorldStands`.
+/// A scenario's run: its cards, terminals and host. Contracts speak of its world: `WorldStands`.
 #[derive(Drop)]
 pub struct World<'s, P: Pages> {
     scenario: &'s Scenario,
@@ -182,8 +181,7 @@ impl<'s, P: Pages> World<'s, P> {
     }
 
     /// The step of the audit of this number, from 0: each card is powered up without a plan, and each of its
-    /// applications is selected and asked for both counters. `false`, and then nothing has happened, where
-    /// there is none.
+    /// applications is selected and asked for both counters. `false` where there is none, and nothing happens.
     pub fn audit(&mut self, number: u32, lines: &mut Lines) -> bool
         requires done { is_done self.old ≡ true }
         requires next { IsNext self.old number }

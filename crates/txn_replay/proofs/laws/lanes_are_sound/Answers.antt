@@ -1,5 +1,6 @@
 use Rattle.txn_replay.proofs.Apart.{lanes_apart}
 use Rattle.txn_replay.proofs.Fairness.{reached_sound}
+use Rattle.txn_replay.proofs.Losses.{losses_told}
 use Rattle.txn_replay.proofs.Waiting.{idle_stays}
 use Rattle.txn_replay.proofs.laws.lanes_are_sound.Goals as goal
 
@@ -11,3 +12,6 @@ returns-clause-apart c = lanes_apart
 
 pub returns-clause-idle : goal.returns-clause-idle
 returns-clause-idle c = idle_stays
+
+pub returns-clause-losses : goal.returns-clause-losses
+returns-clause-losses c = losses_told

@@ -1,0 +1,113 @@
+-- A loss of power is counted exactly where the lines of an exchange tell one.
+use Rattle.std.proofs.Common.{◌≡◌, ℕ, ◌+◌, ◌<◌, Bool, true, false, List, [], ◌∷◌, ◌++◌, length, cond, Option, Some, None, refl, sym, ap, ◌∙◌, subst, arith}
+use Rattle.std.specs.List.{count_by}
+use Rattle.std.proofs.lemmas.List.{get_or-set_same}
+use Rattle.std.proofs.lemmas.List.Sums.{sum_by-append}
+use Rattle.std.proofs.lemmas.Option.{slice_get_within}
+use Rattle.card_app.specs.Answering.{card_answer}
+use Rattle.card_pages.specs.Cuts.{Cut, cut_of}
+use Rattle.card_pages.specs.Pages.{found_of}
+use Rattle.card_pages.specs.Replies.{CardAnswer}
+use Rattle.emv_ports.specs.Cut.{is_named}
+use Rattle.issuer_host.specs.History.{host_reply}
+use Rattle.kernel.specs.Dialogue.{dialogue}
+use Rattle.kernel.specs.Ended.{EndData}
+use Rattle.kernel.specs.Reply.{Reply, CardSaid, CardGone, from_host, Deed, ToCard, ToHost, Over}
+use Rattle.report_text.specs.declared.line.Line.{Line}
+use Rattle.scenario.specs.Plan.{ScenarioData}
+use Rattle.txn_replay.specs.Changes.{powered, exchanged, torn, lost}
+use Rattle.txn_replay.specs.Laws.{is_torn, LossesAreTold}
+use Rattle.txn_replay.specs.Lines.{power_line, power_torn_line, answer_lines, torn_lines, host_lines, end_line}
+use Rattle.txn_replay.specs.Part.{Part, Moved, still, delivered, heard, settled_by, cut_ends, answered, asked, begun, begun_by, piece_by, piece}
+use Rattle.txn_replay.specs.Payment.{Payment, deal_for, end_at, next_of}
+use Rattle.txn_replay.specs.Sound.{IsSound}
+use Rattle.txn_replay.specs.Steps.{After, part_of, moved, turned_by, happens}
+use Rattle.txn_replay.specs.World.{Holder, CardRow, World, new_card, card_at}
+use Rattle.txn_replay.specs.declared.event.Event.TheVariants.{Turn}
+use Rattle.txn_replay.proofs.Payments.{payment_facts}
+
+abbrev count : List Line → ℕ
+count lines = count_by is_torn lines
+
+-- the losses of a card, and those that the lines tell
+abbrev Told : Part → Moved → Type 0
+Told part m = m.part.card.losses ≡ part.card.losses + count m.lines
+
+with_end : (lines : List Line) (lane number : ℕ) (end : EndData) → count (lines ++ end_line lane number end ∷ []) ≡ count lines
+with_end lines lane number end =
+    let both : count (lines ++ end_line lane number end ∷ []) ≡ count lines + count (end_line lane number end ∷ []) =
+    sum_by-append (λ (x : Line). cond (is_torn x) 1 0) lines (end_line lane number end ∷ []) in
+    let none : count (end_line lane number end ∷ []) ≡ 0 = refl in
+    omega arith
+
+settled_told : (p : Payment) (part : Part) (replies : List Reply) (card : CardRow) (messages : List (List ℕ)) (lines : List Line) (e : Option EndData)
+    → card.losses ≡ part.card.losses → count lines ≡ 0
+    → Told part (settled_by p replies (record { lane = part.lane; card = card; messages = messages }) lines e)
+settled_told p part replies card messages lines None same none = omega (arith, same, none)
+settled_told p part replies card messages lines (Some end) same none =
+    let ended : count (lines ++ end_line p.lane (length part.lane.ended + 1) end ∷ []) ≡ count lines = with_end lines p.lane (length part.lane.ended + 1) end in
+    omega (arith, same, none, ended)
+
+cut_told : (p : Payment) (part : Part) (replies : List Reply) (card : CardRow) (lines : List Line) (e : Option EndData)
+    → card.losses ≡ part.card.losses + 1 → count lines ≡ 1 → Told part (cut_ends p replies part (record part { card = card }) lines e)
+cut_told p part replies card lines None same one = let none : count [] ≡ 0 = refl in omega (arith, none)
+cut_told p part replies card lines (Some end) same one =
+    let ended : count (lines ++ end_line p.lane (length part.lane.ended + 1) end ∷ []) ≡ count lines = with_end lines p.lane (length part.lane.ended + 1) end in
+    omega (arith, same, one, ended)
+
+answered_told : (p : Payment) (part : Part) (replies : List Reply) (command : List ℕ) (said : CardAnswer) (cut : Option Cut)
+    → Told part (answered p replies command part said cut)
+answered_told p part replies command said None =
+    settled_told p part (replies ++ CardSaid said.answer part.lane.log ∷ []) (exchanged p.card.image part.card command said) part.messages
+    (answer_lines p.lane command said.answer) (end_at p (replies ++ CardSaid said.answer part.lane.log ∷ [])) refl refl
+answered_told p part replies command said (Some cut) =
+    cut_told p part (replies ++ CardGone ∷ []) (torn part.card p.planned.tear cut) (torn_lines p.lane command) (end_at p (replies ++ CardGone ∷ [])) refl refl
+
+host_none : (lane : ℕ) (message : List ℕ) (reply : Option (List ℕ)) → count (host_lines lane message reply) ≡ 0
+host_none lane message None = refl
+host_none lane message (Some reply) = refl
+
+asked_told : (p : Payment) (part : Part) (replies : List Reply) (deed : Deed) → Told part (asked p replies part deed)
+asked_told p part replies (ToCard command) =
+    answered_told p part replies command (card_answer p.card.image part.card.kept part.card.session command)
+    (cut_of p.planned.tear part.card.made (card_answer p.card.image part.card.kept part.card.session command).new)
+asked_told p part replies (ToHost message) =
+    settled_told p part (replies ++ from_host reply ∷ []) part.card (part.messages ++ delivered p.planned.link message)
+    (host_lines p.lane message reply) (end_at p (replies ++ from_host reply ∷ [])) refl (host_none p.lane message reply)
+  where
+    reply : Option (List ℕ)
+    reply = heard p.planned.link (host_reply p.issuer p.accounts part.messages message)
+asked_told p part replies (Over ending) = let none : count [] ≡ 0 = refl in omega (arith, none)
+
+pub piece_told : (p : Payment) (part : Part) (choice : Bool) → Told part (piece p part choice)
+piece_told p part choice = by_lane part.lane.running
+  where
+    by_tear : (cut : Bool) → Told part (begun_by p part choice cut)
+    by_tear true = cut_told p part (CardGone ∷ []) (lost part.card) (power_torn_line p.lane p.card ∷ []) (end_at p (CardGone ∷ [])) refl refl
+    by_tear false =
+        settled_told p part []
+        (powered part.card (found_of part.card.kept part.card.pending choice) (Some (record { lane = p.lane; number = length part.lane.ended }))) part.messages
+        (power_line p.lane p.card (found_of part.card.kept part.card.pending choice) ∷ []) (end_at p []) refl refl
+
+    still_told : Told part (still part)
+    still_told = let none : count [] ≡ 0 = refl in omega (arith, none)
+
+    by_holder : (o : Option Holder) → Told part (begun p part choice o)
+    by_holder None = by_tear (is_named p.planned.tear 0)
+    by_holder (Some holder) = still_told
+
+    by_lane : (o : Option (List Reply)) → Told part (piece_by p part choice o)
+    by_lane None = by_holder part.card.holder
+    by_lane (Some replies) = asked_told p part replies (dialogue (deal_for p) replies).deed
+
+pub losses_told : LossesAreTold
+losses_told s w l choice p sound is =
+    let within : p.planned.card < length w.cards =
+    (let card : p.planned.card < length s.cards = slice_get_within s.cards p.planned.card p.card (payment_facts s l _ p is).card in
+    let count : length w.cards ≡ length s.cards = sound.card_count in omega arith) in
+    let m : Moved = piece p (part_of w l p.planned.card) choice in
+    let is_so : happens s w (Turn l) choice ≡ moved w l p.planned.card m = ap (λ (o : Option Payment). turned_by w l choice o) is in
+    ap (λ (x : After). (card_at x.world p.planned.card).losses) is_so
+    ∙ ap (λ (row : CardRow). row.losses) (get_or-set_same w.cards p.planned.card m.part.card new_card within)
+    ∙ piece_told p (part_of w l p.planned.card) choice
+    ∙ ap (λ (x : After). (card_at w p.planned.card).losses + count x.lines) (sym is_so)
