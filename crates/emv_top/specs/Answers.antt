@@ -1,29 +1,188 @@
--- Which text and status answer an input.
-use Rattle.std.specs.Prelude.{◌≡◌, ℕ, List, Option, Some, None, Ok, Err, ◌⊎◌}
-use Rattle.std.specs.Option.{option_map}
-use Rattle.emv_top.specs.Form.{FormData}
-use Rattle.emv_top.specs.Input.{IsInput}
+-- What answers the bytes that were read: the text, the pages and the tally of one run, or the line of a fault.
+use Rattle.std.specs.Prelude.{◌≡◌, ◌⊎◌, ℕ, ◌-◌, ◌≤◌, List, drop, length, slice_get, Option, Some, None, Ok, Err}
+use Rattle.std.specs.List.{All}
+use Rattle.std.specs.Io.KnownBytes.{Appends}
+use Rattle.emv_ports.specs.Causes.{Rose}
 use Rattle.emv_ports.specs.Growth.{AppendsFront}
+use Rattle.emv_ports.specs.Memory.{Memory, IsBlank}
 use Rattle.emv_ports.specs.Reading.{ReadsUpTo}
-use Rattle.report_text.specs.Refusal.{refusal_line, usage_line}
-use Rattle.emv_top.specs.Run.{Report}
-use Rattle.report_text.specs.declared.refusal.Refusal.{Refusal}
+use Rattle.emv_top.specs.Courses.{Ends, Replays, Reads, Stopped}
+use Rattle.emv_top.specs.Input.{IsInput}
+use Rattle.emv_top.specs.Texts.{text_of}
+use Rattle.emv_top.specs.declared.top.Status.{Status}
+use Rattle.emv_top.specs.declared.top.Status.TheVariants.{Done, Refused, Usage, ReadFault, WriteFault, OutOfMemory}
 use Rattle.emv_top.specs.declared.words.Order.{Order}
 use Rattle.emv_top.specs.declared.words.Order.TheVariants.{Read, Replay}
+use Rattle.kernel.specs.Tally.{Counts}
+use Rattle.report_text.specs.Refusal.{usage_line}
+use Rattle.report_text.specs.declared.line.Line.{Line}
+use Rattle.scenario.specs.Cards.{CardData}
+use Rattle.scenario.specs.Plan.{ScenarioData}
+use Rattle.scenario_fields.specs.Line.{refused_line}
+use Rattle.scenario_fields.specs.declared.fault.ScenarioFault.{ScenarioFault}
+use Rattle.txn_replay.specs.Counting.{counts}
+use Rattle.txn_replay.specs.Laws.{IsFair}
+use Rattle.txn_replay.specs.Reading.{ReadRun, to_read}
+use Rattle.txn_replay.specs.Run.{Run}
+use Rattle.txn_replay.specs.World.{World, card_at}
+use Rattle.txn_replay.specs.Seen.{BankStands}
 
--- the amount that is to be paid; none where a card is only to be read
-abbrev pub amount_for : Order → FormData → Option ℕ
-amount_for Read form = None
-amount_for Replay form = option_map (λ pay. pay.amount) form.pay
+-- no purchase has ended
+abbrev pub no_counts : Counts
+no_counts = record { approved = 0; declined = 0; other = 0; replies = 0 }
 
--- the whole text and the status: the report of a reading or a purchase with 0, a refusal's line with 1
-abbrev pub Answers : Order → List ℕ → ℕ → List ℕ → Type 0
-Answers order bytes status text =
-    ((form : FormData) × IsInput order bytes (Ok form) × Report form (amount_for order form) text × (status ≡ 0))
-    ⊎ ((refusal : Refusal) × IsInput order bytes (Err refusal) × (text ≡ refusal_line refusal) × (status ≡ 1))
+-- before a world is made
+pub record Unbegun (bank : List Memory) (tally : Counts) : Type 0 where
+  pub pages : length bank ≡ 64
+  pub blank : All IsBlank bank
+  pub none : tally ≡ no_counts
 
--- a front of the usage line for words that give no order, else of an answer to the bytes read
-abbrev pub WritesFront : Option Order → Option (List ℕ) → Option (List ℕ) → Option (List ℕ) → Option (List ℕ) → Type 0
-WritesFront None left_old left_new old new = AppendsFront old new usage_line
-WritesFront (Some order) left_old left_new old new =
-    (bytes : List ℕ) × (status : ℕ) × (text : List ℕ) × ReadsUpTo 4194305 left_old left_new bytes × Answers order bytes status text × AppendsFront old new text
+-- the pages that no card has
+pub record AreSpare (cards : ℕ) (spare : List Memory) : Type 0 where
+  pub blank : All IsBlank spare
+  pub count : length spare ≡ 64 - cards
+  pub few : cards ≤ 64
+
+-- what a run that has led to this world leaves: the pages of each card stand for its decisions, those beyond the cards
+-- are blank, the tally counts the ended purchases, and the world keeps to the laws of runs
+pub record Leaves (s : ScenarioData) (bank : List Memory) (tally : Counts) (w : World) : Type 0 where
+  pub pages : length bank ≡ 64
+  pub cards : BankStands s w bank
+  pub beyond : All IsBlank (drop (length s.cards) bank)
+  pub counted : tally ≡ counts w
+  pub fair : IsFair s w
+
+-- no card has a decision that may be kept or not, so that its pages stand for the decisions that it kept
+abbrev pub AreSettled : ScenarioData → World → Type 0
+AreSettled s w = (i : ℕ) (card : CardData) → slice_get s.cards i ≡ Some card → (card_at w i).pending ≡ None
+
+-- a whole run was made, and the text of its lines was appended
+pub record Completes (runs : List Line → World → Type 0) (holds : World → Type 0) (old new : Option (List ℕ)) : Type 0 where
+  pub lines : List Line
+  pub world : World
+  pub run : runs lines world
+  pub stands : holds world
+  pub written : Appends old new (text_of lines)
+
+-- the runs that an order asks for, and the scenario whose cards, lanes and host they are of: a card is read without
+-- its purchase's tear
+abbrev pub runs_of : Order → ScenarioData → List Line → World → Type 0
+runs_of Read s = ReadRun s
+runs_of Replay s = Run s
+
+abbrev pub played : Order → ScenarioData → ScenarioData
+played Read s = to_read s
+played Replay s = s
+
+abbrev pub ends_of : Order → ScenarioData → Ends
+ends_of Read s = Reads (to_read s)
+ends_of Replay s = Replays s
+
+abbrev pub IsWhole : Order → ScenarioData → Option (List ℕ) → Option (List ℕ) → List Memory → Counts → Type 0
+IsWhole order s old new bank tally = Completes (runs_of order s) (λ w. Leaves (played order s) bank tally w × AreSettled s w) old new
+
+abbrev pub IsCut : Order → ScenarioData → Option (List ℕ) → Option (List ℕ) → List Memory → Counts → Type 0
+IsCut order s old new bank tally = Stopped (ends_of order s) (Leaves (played order s) bank tally) old new
+
+-- nothing was written, and nothing begun
+abbrev pub IsUnmade : Option (List ℕ) → Option (List ℕ) → List Memory → Counts → Type 0
+IsUnmade old new bank tally = (new ≡ old) × Unbegun bank tally
+
+-- what becomes of a scenario, by the status that tells it
+abbrev pub Plays : Order → ScenarioData → Option (List ℕ) → Option (List ℕ) → List Memory → Counts → Status → Type 0
+Plays order s old new bank tally Done = IsWhole order s old new bank tally
+Plays order s old new bank tally Refused = ⊥
+Plays order s old new bank tally Usage = ⊥
+Plays order s old new bank tally ReadFault = ⊥
+Plays order s old new bank tally WriteFault = IsCut order s old new bank tally
+Plays order s old new bank tally OutOfMemory = IsUnmade old new bank tally ⊎ IsCut order s old new bank tally
+
+-- the bytes are a scenario's
+abbrev pub IsAccepted : Order → List ℕ → (ScenarioData → Type 0) → Type 0
+IsAccepted order bytes becomes = (s : ScenarioData) × IsInput order bytes (Ok s) × becomes s
+
+-- or they have a fault, with this line
+pub record IsRefused (order : Order) (bytes : List ℕ) (line : List ℕ) : Type 0 where
+  pub fault : ScenarioFault
+  pub input : IsInput order bytes (Err fault)
+  pub told : refused_line fault ≡ Some line
+
+-- a fault, whose line is written, or a front of it; want of memory has no line
+abbrev pub Refuses : ScenarioFault → Option (List ℕ) → Option (List ℕ) → List Memory → Counts → Status → Type 0
+Refuses fault old new bank tally Done = ⊥
+Refuses fault old new bank tally Refused = (line : List ℕ) × (refused_line fault ≡ Some line) × Appends old new line × Unbegun bank tally
+Refuses fault old new bank tally Usage = ⊥
+Refuses fault old new bank tally ReadFault = ⊥
+Refuses fault old new bank tally WriteFault = (line : List ℕ) × (refused_line fault ≡ Some line) × AppendsFront old new line × Unbegun bank tally
+Refuses fault old new bank tally OutOfMemory = IsUnmade old new bank tally
+
+-- a run of the scenario was cut, or the line of the fault
+abbrev pub IsCutIn : Order → List ℕ → Option (List ℕ) → Option (List ℕ) → List Memory → Counts → Type 0
+IsCutIn order bytes old new bank tally =
+    IsAccepted order bytes (λ s. IsCut order s old new bank tally)
+    ⊎ ((line : List ℕ) × IsRefused order bytes line × AppendsFront old new line × Unbegun bank tally)
+
+-- what becomes of the bytes
+abbrev pub Answers : Order → List ℕ → Option (List ℕ) → Option (List ℕ) → List Memory → Counts → Status → Type 0
+Answers order bytes old new bank tally Done = IsAccepted order bytes (λ s. IsWhole order s old new bank tally)
+Answers order bytes old new bank tally Refused = (line : List ℕ) × IsRefused order bytes line × Appends old new line × Unbegun bank tally
+Answers order bytes old new bank tally Usage = ⊥
+Answers order bytes old new bank tally ReadFault = ⊥
+Answers order bytes old new bank tally WriteFault = IsCutIn order bytes old new bank tally
+Answers order bytes old new bank tally OutOfMemory =
+    IsUnmade old new bank tally ⊎ IsAccepted order bytes (λ s. IsCut order s old new bank tally)
+
+-- want of memory: nothing was begun, or a run was cut
+abbrev pub IsStarved : Order → Option (List ℕ) → Option (List ℕ) → Option (List ℕ) → Option (List ℕ) → List Memory → Counts → Type 0
+IsStarved order left after old new bank tally =
+    IsUnmade old new bank tally
+    ⊎ ((bytes : List ℕ) × ReadsUpTo 4194305 left after bytes × IsAccepted order bytes (λ s. IsCut order s old new bank tally))
+
+-- what becomes of a source
+abbrev pub AnswersRead : Order → Option (List ℕ) → Option (List ℕ) → Option (List ℕ) → Option (List ℕ) → List Memory → Counts → Status → Type 0
+AnswersRead order left after old new bank tally Done = (bytes : List ℕ) × ReadsUpTo 4194305 left after bytes × Answers order bytes old new bank tally Done
+AnswersRead order left after old new bank tally Refused = (bytes : List ℕ) × ReadsUpTo 4194305 left after bytes × Answers order bytes old new bank tally Refused
+AnswersRead order left after old new bank tally Usage = ⊥
+AnswersRead order left after old new bank tally ReadFault = IsUnmade old new bank tally
+AnswersRead order left after old new bank tally WriteFault =
+    (bytes : List ℕ) × ReadsUpTo 4194305 left after bytes × IsCutIn order bytes old new bank tally
+AnswersRead order left after old new bank tally OutOfMemory = IsStarved order left after old new bank tally
+
+-- the usage line, or a front of it
+abbrev pub TellsUsage : Option (List ℕ) → Option (List ℕ) → List Memory → Counts → Status → Type 0
+TellsUsage old new bank tally Done = ⊥
+TellsUsage old new bank tally Refused = ⊥
+TellsUsage old new bank tally Usage = Appends old new usage_line × Unbegun bank tally
+TellsUsage old new bank tally ReadFault = ⊥
+TellsUsage old new bank tally WriteFault = AppendsFront old new usage_line × Unbegun bank tally
+TellsUsage old new bank tally OutOfMemory = ⊥
+
+-- what becomes of words that give an order, or none
+abbrev pub AnswersWords : Option Order → Option (List ℕ) → Option (List ℕ) → Option (List ℕ) → Option (List ℕ) → List Memory → Counts → Status → Type 0
+AnswersWords None left after old new bank tally status = TellsUsage old new bank tally status
+AnswersWords (Some order) left after old new bank tally status = AnswersRead order left after old new bank tally status
+
+-- the sink failed: of the usage line for words that give no order, else of a fault's line or a run's lines, a front
+-- was written
+abbrev pub IsCutShort : Option Order → Option (List ℕ) → Option (List ℕ) → Option (List ℕ) → Option (List ℕ) → List Memory → Counts → Type 0
+IsCutShort None left after old new bank tally = AppendsFront old new usage_line × Unbegun bank tally
+IsCutShort (Some order) left after old new bank tally =
+    (bytes : List ℕ) × ReadsUpTo 4194305 left after bytes × IsCutIn order bytes old new bank tally
+
+-- the count of the source's faults by the status
+abbrev pub SourceCount : ℕ → ℕ → Status → Type 0
+SourceCount before now Done = now ≡ before
+SourceCount before now Refused = now ≡ before
+SourceCount before now Usage = now ≡ before
+SourceCount before now ReadFault = Rose before now
+SourceCount before now WriteFault = now ≡ before
+SourceCount before now OutOfMemory = now ≡ before
+
+-- the count of the sink's faults by the status
+abbrev pub SinkCount : ℕ → ℕ → Status → Type 0
+SinkCount before now Done = now ≡ before
+SinkCount before now Refused = now ≡ before
+SinkCount before now Usage = now ≡ before
+SinkCount before now ReadFault = now ≡ before
+SinkCount before now WriteFault = Rose before now
+SinkCount before now OutOfMemory = now ≡ before

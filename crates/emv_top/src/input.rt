@@ -1,78 +1,75 @@
-//! The bytes that were read, as a card or a refusal.
-ghost use Rattle.std.specs.Prelude.{◌≡◌, IfOk, IfErr, Ok, Err};
-ghost use Rattle.emv_top.specs.Input.{Describes, IsInput, is_payable, serves};
-ghost use Rattle.emv_top.specs.SeenForm.{seen_form};
-ghost use Rattle.report_text.specs.declared.refusal.Refusal.{Refusal};
-ghost use Rattle.std.specs.Option.{option_map};
+//! The bytes that were read, as a scenario or its first fault.
+ghost use Rattle.std.specs.Prelude.{◌≡◌, ◌≤◌, length, codes, IfOk};
+ghost use Rattle.scenario.specs.Plan.{IsScenario};
+ghost use Rattle.scenario_fields.specs.Fault.{Tells};
+ghost use Rattle.scenario_fields.specs.declared.fault.ScenarioFault.TheVariants.{UnknownName};
+ghost use Rattle.txn_replay.specs.Reading.{to_read};
+ghost use Rattle.emv_top.specs.declared.words.Order.{Order};
+ghost use Rattle.emv_top.specs.Input.{IsInput, first_purchases};
 
-use crate::short_form::{ShortForm, read_form};
 use crate::words::Order;
-use report_text::Refusal;
-use std::alloc::{AllocError, Global};
+use scenario::{Path, Scenario, ScenarioFault, read_scenario};
+use std::alloc::Global;
 
-/// An input has at most so many bytes.
-pub const MOST_BYTES: usize = 4_194_304;
-
-/// Why no card is read of the input.
-#[derive(Clone, Copy, PartialEq, Eq, Debug)]
-pub enum InputFault {
-    /// It is refused.
-    Refused(Refusal),
-    /// There was no memory for it.
-    OutOfMemory,
-}
-
-/// The card that a TOML document describes; `None` where the bytes are no document in this form.
-fn read_document(alloc: Global, bytes: &[u8]) -> Result<Option<ShortForm>, AllocError>
-    ensures { IfOk result (λ found. Describes bytes.now (option_map seen_form found)) }
+/// The fault of a scenario of which no card can be read.
+fn no_purchase(alloc: Global) -> ScenarioFault
+    ensures { Tells result (UnknownName (codes "lane[0].purchase[0]")) }
 {
-    match toml::table_from_slice(alloc, bytes) {
-        Ok(table) => read_form(alloc, &table),
-        Err(fault) => {
-            if fault.is_memory() {
-                Err(AllocError)
-            } else {
-                Ok(None)
-            }
-        }
+    match String::from_str(alloc, "lane[0].purchase[0]") {
+        Ok(text) => ScenarioFault::UnknownName {
+            path: Path::new(text),
+        },
+        Err(_) => ScenarioFault::OutOfMemory,
     }
 }
 
-/// Whether a purchase can be made: it is described, and the card's interchange profile wants neither
-/// cardholder verification nor terminal risk management nor issuer authentication.
-#[tactic(auto, unfolding(crate::specs::Input::is_payable, crate::specs::SeenForm::seen_form))]
-fn is_payable(form: &ShortForm) -> bool
-    ensures { result ≡ is_payable (seen_form form.now) }
+/// How many purchases the first lane has.
+fn first_count(scenario: &Scenario) -> usize
+    requires { IsScenario scenario.now }
+    ensures { result ≡ length (first_purchases scenario.now.lanes) }
 {
-    form.pay.is_some() && form.aip[0] & 0x1c == 0
+    let lanes = scenario.lanes.as_slice();
+    match lanes {
+        [first, ..] => first.purchases.as_slice().len(),
+        [] => 0,
+    }
 }
 
-fn serves(order: Order, form: &ShortForm) -> bool
-    ensures { result ≡ serves order (seen_form form.now) }
+/// Reads the scenario of its document's bytes. For `read` its first lane must have a purchase, which is
+/// tried last of all.
+pub fn read_input(alloc: Global, order: Order, bytes: &[u8]) -> Result<Scenario, ScenarioFault>
+    ensures exact { IsInput order bytes.now result }
+    ensures rules { IfOk result IsScenario }
+    ensures some { IfOk result (λ scenario. order ≡ Order.Read → 1 ≤ length (first_purchases scenario.lanes)) }
 {
+    let scenario = read_scenario(alloc, bytes)?;
     match order {
-        Order::Read => true,
-        Order::Replay => is_payable(form),
+        Order::Replay => Ok(scenario),
+        Order::Read => {
+            if first_count(&scenario) == 0 {
+                Err(no_purchase(alloc))
+            } else {
+                Ok(scenario)
+            }
+        }
     }
 }
 
-/// Reads an input: its size, then the document, then whether it is one for the order.
-pub fn read_input(alloc: Global, order: Order, bytes: &[u8]) -> Result<ShortForm, InputFault>
-    ensures read { IfOk result (λ form. IsInput order bytes.now (Ok (seen_form form))) }
-    ensures refused { (refusal : Refusal) → result ≡ Err (InputFault.Refused refusal) → IsInput order bytes.now (Err refusal) }
+fn drop_tear(scenario: &mut Scenario)
+    requires { IsScenario scenario.old }
+    ensures { scenario.new ≡ to_read scenario.old }
 {
-    if bytes.len() > MOST_BYTES {
-        return Err(InputFault::Refused(Refusal::OutOfLimit));
+    if let Some(planned) = scenario.lanes[0].purchases.first_mut() {
+        planned.tear = None;
     }
-    match read_document(alloc, bytes) {
-        Ok(Some(form)) => {
-            if serves(order, &form) {
-                Ok(form)
-            } else {
-                Err(InputFault::Refused(Refusal::NotBuilt))
-            }
-        }
-        Ok(None) => Err(InputFault::Refused(Refusal::NotBuilt)),
-        Err(AllocError) => Err(InputFault::OutOfMemory),
-    }
+}
+
+/// Takes the tear off the first lane's first purchase.
+pub fn take_tear(scenario: &mut Scenario)
+    requires { IsScenario scenario.old }
+    ensures taken { scenario.new ≡ to_read scenario.old }
+    ensures rules { IsScenario scenario.new }
+    ensures same { length (first_purchases scenario.new.lanes) ≡ length (first_purchases scenario.old.lanes) }
+{
+    drop_tear(scenario);
 }

@@ -1,134 +1,142 @@
-//! The records that the locator names, read one by one (EMV 4.3 Book 3 section 10.2).
-ghost use Rattle.std.specs.Prelude.{◌≡◌, ℕ, List, ◌∷◌, ◌*◌, ◌<◌, ◌≤◌, [], length};
-ghost use Rattle.env_map.specs.Entries.{Entries};
-ghost use Rattle.apdu_core.specs.Command.{command_bytes};
-ghost use Rattle.emv_top.specs.Afl.{PlaceData, places_of, places_in};
-ghost use Rattle.emv_top.specs.Reading.{reading, reading_fault, record_command};
-ghost use Rattle.emv_top.specs.SeenGroups.{seen_group, seen_groups};
-ghost use Rattle.emv_top.specs.SeenReading.{left_of, left_behind, told_by, first_place, steps_behind, steps_of, steps_in};
+//! The reading of a card, and its data objects line by line.
+ghost use Rattle.std.specs.Prelude.{◌≡◌, ◌≤◌, ◌<◌, ℕ, List, ◌∷◌, [], ◌++◌, length, map, OnOk, OnErr, IfSome};
+ghost use Rattle.std.specs.Io.KnownBytes.{Appends};
+ghost use Rattle.emv_ports.specs.Growth.{AppendsFront};
+ghost use Rattle.emv_top.specs.Answers.{Completes};
+ghost use Rattle.emv_top.specs.Courses.{Reads, Stopped};
+ghost use Rattle.emv_top.specs.Input.{first_purchases};
+ghost use Rattle.emv_top.specs.Short.{AllShort, IsShort};
+ghost use Rattle.emv_top.specs.Stops.{HasStop};
+ghost use Rattle.emv_top.specs.Texts.{text_of};
+ghost use Rattle.report_text.specs.Text.{line_text};
+ghost use Rattle.scenario.specs.Plan.{IsScenario, ScenarioData};
+ghost use Rattle.txn_replay.specs.Reading.{ReadRun, is_read, data_at, ending_at, read_lines, object_line, to_read};
+ghost use Rattle.txn_replay.specs.World.{World as Told, first_world};
+ghost use Rattle.txn_replay.specs.Seen.{WorldStands};
 
-use crate::checked::first_wrong;
-use crate::read_records::{Group, Groups, first_missing, read_record};
-use apdu_core::{Command, Out, write_command};
-use emv_dict::Cause;
+use crate::events::read_turn;
+use crate::lines::emit;
+use crate::stop::Stop;
+use arrayvec::ArrayVec;
+use ber_tlv::Tag;
+use emv_ports::{Pages, Sink};
 use env_map::Env;
+use object_lists::CardData;
+use report_text::Line;
+use scenario::Scenario;
+use txn_replay::World;
 
-// Large values move through the functions marked `inline(never)`: inlined into each other they would
-// keep LLVM busy for many minutes.
-
-/// Reading in its course: the objects so far, the group whose first record is the next to read, and
-/// the groups behind it.
-#[derive(Drop)]
-pub struct Reading {
-    pub env: Env,
-    pub current: Group,
-    pub later: Groups,
-}
-
-/// What reading does next.
-#[derive(Drop)]
-pub enum ReadNext {
-    /// It asks for a record.
-    Ask(Reading),
-    /// All records are read, and the mandatory objects are there.
-    Done(Env),
-    /// It ended for this cause.
-    Ended(Cause),
-}
-
-impl Reading {
-    /// The command for the next record.
-    pub fn ask(&self, out: &mut Out)
-        ensures { out.new.items ≡ record_command (first_place self.now) }
-    {
-        let command = Command {
-            class: 0x00,
-            ins: 0xb2,
-            p1: self.current.first,
-            p2: self.current.file - self.current.file % 8 + 4,
-            body: &[],
-            expects: Some(0),
-        };
-        write_command(&command, out);
+fn copied<const N: usize>(bytes: &[u8]) -> ArrayVec<u8, N>
+    requires { length bytes.now ≤ N }
+    ensures { result.items ≡ bytes.now }
+{
+    let mut copy = ArrayVec::new();
+    if copy.try_extend_from_slice(bytes).is_err() {
+        unreachable!();
     }
+    copy
+}
 
-    /// Takes the answer.
-    #[tactic(auto, unfolding(crate::specs::Reading::reading))]
-    #[inline(never)]
-    pub fn take(self, reply: &[u8]) -> ReadNext
-        ensures told { (later : List (List ℕ)) → told_by result later ≡ reading self.env (left_of self) (reply.now ∷ later) }
-        ensures nearer { steps_in result < steps_of self }
-    {
-        let Reading {
-            mut env,
-            current,
-            later,
-        } = self;
-        match read_record(current.file / 8, &mut env, reply) {
-            Ok(()) => go_on(env, current, later),
-            Err(cause) => ReadNext::Ended(cause),
+fn object_line(tag: Tag, value: &[u8]) -> Line
+    requires { length value.now ≤ 256 }
+    ensures { result ≡ object_line (tag.0, value.now) }
+{
+    Line::Object {
+        tag,
+        value: copied(value),
+    }
+}
+
+/// The line of a data object.
+fn write_object<K: Sink>(tag: Tag, value: &[u8], sink: &mut K) -> Result<(), Stop>
+    requires { length value.now ≤ 256 }
+    ensures all { OnOk result (Appends (K.held sink.old) (K.held sink.new) (line_text (object_line (tag.0, value.now)))) }
+    ensures front { OnErr result (AppendsFront (K.held sink.old) (K.held sink.new) (line_text (object_line (tag.0, value.now)))) }
+    ensures stop { HasStop (K.faults sink.old) (K.faults sink.new) result }
+{
+    let line = object_line(tag, value);
+    emit(&line, sink)
+}
+
+/// A line for each data object, by rising tag.
+fn write_objects<K: Sink>(env: &Env, sink: &mut K) -> Result<(), Stop>
+    requires { AllShort env.now }
+    ensures all { OnOk result (Appends (K.held sink.old) (K.held sink.new) (text_of (map object_line env.now))) }
+    ensures front { OnErr result (AppendsFront (K.held sink.old) (K.held sink.new) (text_of (map object_line env.now))) }
+    ensures stop { HasStop (K.faults sink.old) (K.faults sink.new) result }
+{
+    let mut last = None;
+    while let Some((tag, value)) = env.after(last) {
+        match write_object(tag, value, sink) {
+            Ok(()) => last = Some(tag),
+            Err(stop) => return Err(stop),
         }
     }
+    Ok(())
 }
 
-/// Goes on behind the record that was read.
-#[inline(never)]
-fn go_on(env: Env, current: Group, later: Groups) -> ReadNext
-    ensures told { (replies : List (List ℕ)) → told_by result replies ≡ reading env (left_behind (seen_group current) (seen_groups later.items)) replies }
-    ensures left { steps_in result ≤ steps_behind (seen_group current) later.items }
+/// The lines of a finished reading.
+fn write_card<K: Sink>(card: &CardData, sink: &mut K) -> Result<(), Stop>
+    requires { AllShort card.now.entries }
+    ensures all { OnOk result (Appends (K.held sink.old) (K.held sink.new) (text_of (map object_line card.now.entries ++ Line.ReadOk ∷ []))) }
+    ensures front { OnErr result (AppendsFront (K.held sink.old) (K.held sink.new) (text_of (map object_line card.now.entries ++ Line.ReadOk ∷ []))) }
+    ensures stop { HasStop (K.faults sink.old) (K.faults sink.new) result }
 {
-    if current.first < current.last {
-        let next = Group {
-            file: current.file,
-            first: current.first + 1,
-            last: current.last,
-        };
-        return ReadNext::Ask(Reading {
-            env,
-            current: next,
-            later,
-        });
-    }
-    begin(env, later)
-}
-
-/// Begins with the first of these groups.
-#[inline(never)]
-pub fn begin(env: Env, groups: Groups) -> ReadNext
-    ensures told { (replies : List (List ℕ)) → told_by result replies ≡ reading env (places_of (seen_groups groups.items)) replies }
-    ensures left { steps_in result ≤ 256 * length groups.items }
-{
-    let mut later = groups;
-    if later.is_empty() {
-        return finish(env);
-    }
-    let current = later.remove(0);
-    ReadNext::Ask(Reading {
-        env,
-        current,
-        later,
-    })
-}
-
-/// Ends reading: the mandatory objects must be there, and the checked ones have their forms.
-#[tactic(auto, unfolding(crate::specs::Reading::finished, crate::specs::Reading::reading))]
-#[inline(never)]
-fn finish(env: Env) -> ReadNext
-    ensures told { (replies : List (List ℕ)) → told_by result replies ≡ reading env [] replies }
-    ensures left { steps_in result ≡ 0 }
-{
-    match reading_fault(&env) {
-        None => ReadNext::Done(env),
-        Some(cause) => ReadNext::Ended(cause),
+    match write_objects(card.env(), sink) {
+        Ok(()) => emit(&Line::ReadOk, sink),
+        Err(stop) => Err(stop),
     }
 }
 
-#[tactic(auto, unfolding(crate::specs::Reading::reading_fault))]
-fn reading_fault(env: &Env) -> Option<Cause>
-    ensures { result ≡ reading_fault env.now }
+/// The lines behind the events of a reading.
+fn write_reading<P: Pages, K: Sink>(world: &World<'_, P>, sink: &mut K) -> Result<(), Stop>
+    requires lane { 0 < length world.now.scenario.lanes }
+    requires short { (w : Told) × WorldStands world.now w × IfSome (data_at world.now.scenario w 0) IsShort }
+    ensures all { OnOk result ((w : Told) → WorldStands world.now w → Appends (K.held sink.old) (K.held sink.new)
+        (text_of (read_lines (data_at world.now.scenario w 0) (ending_at w 0)))) }
+    ensures front { OnErr result ((w : Told) → WorldStands world.now w → AppendsFront (K.held sink.old) (K.held sink.new)
+        (text_of (read_lines (data_at world.now.scenario w 0) (ending_at w 0)))) }
+    ensures stop { HasStop (K.faults sink.old) (K.faults sink.new) result }
 {
-    match first_missing(env) {
-        Some(tag) => Some(Cause::Missing(tag)),
-        None => first_wrong(env),
+    match world.read_data(0) {
+        Some(card) => write_card(card, sink),
+        None => match world.ending(0) {
+            Some(ending) => emit(&Line::ReadEnded { ending }, sink),
+            None => Ok(()),
+        },
     }
+}
+
+/// Whether reading is finished, or the purchase has ended.
+fn is_read<P: Pages>(world: &World<'_, P>) -> bool
+    requires { 0 < length world.now.scenario.lanes }
+    ensures { (w : Told) → WorldStands world.now w → result ≡ is_read world.now.scenario w }
+{
+    world.read_data(0).is_some() || world.ending(0).is_some()
+}
+
+/// The reading of a card in the first lane's first purchase.
+pub fn read_through<P: Pages, K: Sink>(
+    scenario: &Scenario,
+    world: &mut World<'_, P>,
+    sink: &mut K,
+) -> Result<(), Stop>
+    requires rules { IsScenario scenario.now }
+    requires some { 1 ≤ length (first_purchases scenario.now.lanes) }
+    requires told { world.old.scenario ≡ scenario.now }
+    requires start { WorldStands world.old (first_world scenario.now) }
+    ensures ok { OnOk result ((s : ScenarioData) → scenario.now ≡ to_read s
+        → Completes (ReadRun s) (WorldStands world.new) (K.held sink.old) (K.held sink.new)) }
+    ensures err { OnErr result (Stopped (Reads scenario.now) (WorldStands world.new) (K.held sink.old) (K.held sink.new)) }
+    ensures told { world.new.scenario ≡ scenario.now }
+    ensures spare { world.new.spare ≡ world.old.spare }
+    ensures stop { HasStop (K.faults sink.old) (K.faults sink.new) result }
+{
+    while !is_read(world) {
+        match read_turn(world, sink) {
+            Ok(_) => {}
+            Err(stop) => return Err(stop),
+        }
+    }
+    write_reading(world, sink)
 }

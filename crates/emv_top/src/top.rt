@@ -1,23 +1,35 @@
 //! The top call.
-ghost use Rattle.std.specs.Prelude.{◌≡◌, ◌≢◌, ◌≤◌, ◌⊎◌, ℕ, List, [], None, Some, map, string_bytes};
+ghost use Rattle.std.specs.Prelude.{◌≡◌, ◌≢◌, ◌≤◌, ◌⊎◌, ℕ, List, None, Some, map, length, string_bytes};
+ghost use Rattle.std.specs.List.{All};
 ghost use Rattle.std.specs.Io.KnownBytes.{Appends};
 ghost use Rattle.emv_ports.specs.Causes.{Rose};
 ghost use Rattle.emv_ports.specs.Growth.{AppendsFront};
+ghost use Rattle.emv_ports.specs.Memory.{IsBlank};
 ghost use Rattle.emv_ports.specs.Reading.{ReadsUpTo};
-ghost use Rattle.emv_top.specs.Answers.{Answers, WritesFront, amount_for};
-ghost use Rattle.emv_top.specs.SeenForm.{seen_form};
-ghost use Rattle.report_text.specs.Refusal.{usage_line};
+ghost use Rattle.emv_top.specs.Answers.{Answers, AnswersRead, AnswersWords, AreSpare, IsAccepted, IsCutShort, IsRefused, IsStarved, IsWhole, Leaves, Plays, Refuses, SinkCount, SourceCount, TellsUsage, Unbegun};
+ghost use Rattle.emv_top.specs.Input.{first_purchases};
 ghost use Rattle.emv_top.specs.StatusCode.{code_of};
 ghost use Rattle.emv_top.specs.Words.{order_of};
 ghost use Rattle.emv_top.specs.declared.words.Order.{Order};
+ghost use Rattle.report_text.specs.Refusal.{usage_line};
+ghost use Rattle.scenario.specs.Plan.{IsScenario, ScenarioData};
+ghost use Rattle.scenario_fields.specs.Line.{refused_line};
+ghost use Rattle.txn_replay.specs.Laws.{IsFair};
+ghost use Rattle.txn_replay.specs.Reading.{to_read};
+ghost use Rattle.txn_replay.specs.World.{World as Told};
+ghost use Rattle.txn_replay.specs.Seen.{WorldStands};
 
-use crate::input::{InputFault, MOST_BYTES, read_input};
-use crate::session::hold_session;
-use crate::short_form::ShortForm;
+use crate::input::{read_input, take_tear};
+use crate::reading::read_through;
+use crate::replaying::replay_through;
+use crate::stop::Stop;
 use crate::words::{Order, read_words};
-use emv_ports::{Failed, ReadFault, Sink, Source, read_up_to, write_all};
+use emv_ports::{Failed, Pages, ReadFault, Sink, Source, read_up_to, write_all};
+use kernel::Tally;
 use report_text::usage;
+use scenario::{MOST_BYTES, Scenario, ScenarioFault};
 use std::alloc::Global;
+use txn_replay::{NoWorld, World, runs_are_fair};
 
 /// How the program ends.
 #[derive(Clone, Copy, PartialEq, Eq, Debug)]
@@ -36,44 +48,6 @@ pub enum Status {
     OutOfMemory,
 }
 
-/// The amount that is to be paid; none where a card is only to be read.
-#[tactic(auto, unfolding(crate::specs::SeenForm::seen_form, crate::specs::SeenPayment::seen_payment))]
-fn amount_for(order: Order, form: &ShortForm) -> Option<u64>
-    ensures { result ≡ amount_for order (seen_form form.now) }
-{
-    match order {
-        Order::Read => None,
-        Order::Replay => match &form.pay {
-            Some(payment) => Some(payment.amount),
-            None => None,
-        },
-    }
-}
-
-/// The answer to these bytes.
-fn answer<K: Sink>(alloc: Global, order: Order, bytes: &[u8], sink: &mut K) -> Status
-    ensures done { result ≡ Status.Done → (text : List ℕ) × Answers order bytes.now 0 text × Appends (K.held sink.old) (K.held sink.new) text }
-    ensures refused { result ≡ Status.Refused → (text : List ℕ) × Answers order bytes.now 1 text × Appends (K.held sink.old) (K.held sink.new) text }
-    ensures usage { result ≢ Status.Usage }
-    ensures read_fault { result ≢ Status.ReadFault }
-    ensures front { result ≡ Status.WriteFault → (status : ℕ) × (text : List ℕ) × Answers order bytes.now status text × AppendsFront (K.held sink.old) (K.held sink.new) text }
-    ensures write_fault { result ≡ Status.WriteFault → Rose (K.faults sink.old) (K.faults sink.new) }
-    ensures memory { result ≡ Status.OutOfMemory → sink.new ≡ sink.old }
-    ensures calm { result ≢ Status.WriteFault → K.faults sink.new ≡ K.faults sink.old }
-{
-    match read_input(alloc, order, bytes) {
-        Ok(form) => match hold_session(&form, amount_for(order, &form), sink) {
-            Ok(()) => Status::Done,
-            Err(Failed) => Status::WriteFault,
-        },
-        Err(InputFault::Refused(refusal)) => match write_all(sink, refusal.line()) {
-            Ok(()) => Status::Refused,
-            Err(Failed) => Status::WriteFault,
-        },
-        Err(InputFault::OutOfMemory) => Status::OutOfMemory,
-    }
-}
-
 impl Status {
     /// The exit status of the program.
     pub fn code(self) -> u8
@@ -90,97 +64,293 @@ impl Status {
     }
 }
 
-/// What the top call leaves.
-#[derive(Clone, Copy, PartialEq, Eq, Debug)]
-pub struct Finished {
-    /// 0 done, 1 refused, 2 wrong words, 3 the source failed, 4 the sink failed, 5 no memory.
-    pub status: u8,
+/// How a run ended, the cards' pages, and what the terminals counted.
+#[derive(Drop)]
+struct Ended<P: Drop> {
+    status: Status,
+    bank: Vec<P>,
+    tally: Tally,
+}
+
+/// The end before a world was made.
+fn unbegun<P: Pages>(status: Status, bank: Vec<P>) -> Ended<P>
+    requires pages { length bank.items ≡ 64 }
+    requires blank { All IsBlank (map P.memory bank.items) }
+    ensures status { result.status ≡ status }
+    ensures unbegun { Unbegun (map P.memory result.bank.items) result.tally }
+    ensures bank { result.bank ≡ bank }
+{
+    Ended {
+        status,
+        bank,
+        tally: Tally::new(),
+    }
+}
+
+/// The end of a world.
+fn end_world<P: Pages>(status: Status, world: World<'_, P>) -> Ended<P>
+    requires { AreSpare (length world.scenario.cards) world.spare }
+    ensures status { result.status ≡ status }
+    ensures leaves { (w : Told) → WorldStands world.entry w → IsFair world.entry.scenario w
+        → Leaves world.entry.scenario (map P.memory result.bank.items) result.tally w }
+{
+    let (bank, tally) = world.into_bank();
+    Ended {
+        status,
+        bank,
+        tally,
+    }
+}
+
+/// The run of a scenario.
+fn replay<P: Pages, K: Sink>(
+    alloc: Global,
+    scenario: &Scenario,
+    bank: Vec<P>,
+    sink: &mut K,
+) -> Ended<P>
+    requires rules { IsScenario scenario.now }
+    requires pages { length bank.items ≡ 64 }
+    requires blank { All IsBlank (map P.memory bank.items) }
+    ensures plays { Plays Order.Replay scenario.now (K.held sink.old) (K.held sink.new) (map P.memory result.bank.items) result.tally result.status }
+    ensures count { SinkCount (K.faults sink.old) (K.faults sink.new) result.status }
+{
+    runs_are_fair();
+    match World::new(alloc, scenario, bank) {
+        Ok(world) => {
+            let mut world = world;
+            match replay_through(scenario, &mut world, sink) {
+                Ok(()) => end_world(Status::Done, world),
+                Err(Stop::Sink) => end_world(Status::WriteFault, world),
+                Err(Stop::OutOfMemory) => end_world(Status::OutOfMemory, world),
+            }
+        }
+        Err(NoWorld { bank }) => unbegun(Status::OutOfMemory, bank),
+    }
+}
+
+/// The reading of a card, where the scenario's first purchase has no tear.
+fn read_card<P: Pages, K: Sink>(
+    alloc: Global,
+    scenario: &Scenario,
+    bank: Vec<P>,
+    sink: &mut K,
+) -> Ended<P>
+    requires rules { IsScenario scenario.now }
+    requires some { 1 ≤ length (first_purchases scenario.now.lanes) }
+    requires pages { length bank.items ≡ 64 }
+    requires blank { All IsBlank (map P.memory bank.items) }
+    ensures plays { (s : ScenarioData) → scenario.now ≡ to_read s
+        → Plays Order.Read s (K.held sink.old) (K.held sink.new) (map P.memory result.bank.items) result.tally result.status }
+    ensures count { SinkCount (K.faults sink.old) (K.faults sink.new) result.status }
+{
+    runs_are_fair();
+    match World::new(alloc, scenario, bank) {
+        Ok(world) => {
+            let mut world = world;
+            match read_through(scenario, &mut world, sink) {
+                Ok(()) => end_world(Status::Done, world),
+                Err(Stop::Sink) => end_world(Status::WriteFault, world),
+                Err(Stop::OutOfMemory) => end_world(Status::OutOfMemory, world),
+            }
+        }
+        Err(NoWorld { bank }) => unbegun(Status::OutOfMemory, bank),
+    }
+}
+
+/// What an order makes of a scenario.
+fn play<P: Pages, K: Sink>(
+    alloc: Global,
+    order: Order,
+    scenario: Scenario,
+    bank: Vec<P>,
+    sink: &mut K,
+) -> Ended<P>
+    requires rules { IsScenario scenario }
+    requires some { order ≡ Order.Read → 1 ≤ length (first_purchases scenario.lanes) }
+    requires pages { length bank.items ≡ 64 }
+    requires blank { All IsBlank (map P.memory bank.items) }
+    ensures plays { Plays order scenario (K.held sink.old) (K.held sink.new) (map P.memory result.bank.items) result.tally result.status }
+    ensures count { SinkCount (K.faults sink.old) (K.faults sink.new) result.status }
+{
+    match order {
+        Order::Replay => replay(alloc, &scenario, bank, sink),
+        Order::Read => {
+            let mut scenario = scenario;
+            take_tear(&mut scenario);
+            read_card(alloc, &scenario, bank, sink)
+        }
+    }
+}
+
+/// The line of a fault.
+fn refuse<P: Pages, K: Sink>(
+    alloc: Global,
+    fault: &ScenarioFault,
+    bank: Vec<P>,
+    sink: &mut K,
+) -> Ended<P>
+    requires pages { length bank.items ≡ 64 }
+    requires blank { All IsBlank (map P.memory bank.items) }
+    ensures refuses { Refuses fault.now (K.held sink.old) (K.held sink.new) (map P.memory result.bank.items) result.tally result.status }
+    ensures count { SinkCount (K.faults sink.old) (K.faults sink.new) result.status }
+{
+    match fault.line(alloc) {
+        Ok(line) => match write_all(sink, line.as_bytes()) {
+            Ok(()) => unbegun(Status::Refused, bank),
+            Err(Failed) => unbegun(Status::WriteFault, bank),
+        },
+        Err(_) => unbegun(Status::OutOfMemory, bank),
+    }
+}
+
+/// The answer to these bytes.
+fn answer<P: Pages, K: Sink>(
+    alloc: Global,
+    order: Order,
+    bytes: &[u8],
+    bank: Vec<P>,
+    sink: &mut K,
+) -> Ended<P>
+    requires pages { length bank.items ≡ 64 }
+    requires blank { All IsBlank (map P.memory bank.items) }
+    ensures answers { Answers order bytes.now (K.held sink.old) (K.held sink.new) (map P.memory result.bank.items) result.tally result.status }
+    ensures count { SinkCount (K.faults sink.old) (K.faults sink.new) result.status }
+{
+    match read_input(alloc, order, bytes) {
+        Ok(scenario) => play(alloc, order, scenario, bank, sink),
+        Err(fault) => refuse(alloc, &fault, bank, sink),
+    }
 }
 
 /// Reads the source and answers what was read.
-fn read_and_answer<S: Source, K: Sink>(
+fn read_and_answer<P: Pages, S: Source, K: Sink>(
     alloc: Global,
     order: Order,
+    bank: Vec<P>,
     source: &mut S,
     sink: &mut K,
-) -> Status
-    ensures done { result ≡ Status.Done → (bytes : List ℕ) × (text : List ℕ) × ReadsUpTo 4194305 (S.left source.old) (S.left source.new) bytes
-        × Answers order bytes 0 text × Appends (K.held sink.old) (K.held sink.new) text }
-    ensures refused { result ≡ Status.Refused → (bytes : List ℕ) × (text : List ℕ) × ReadsUpTo 4194305 (S.left source.old) (S.left source.new) bytes
-        × Answers order bytes 1 text × Appends (K.held sink.old) (K.held sink.new) text }
-    ensures usage { result ≢ Status.Usage }
-    ensures read_fault { result ≡ Status.ReadFault → Rose (S.faults source.old) (S.faults source.new) × (sink.new ≡ sink.old) }
-    ensures front { result ≡ Status.WriteFault → (bytes : List ℕ) × (status : ℕ) × (text : List ℕ) × ReadsUpTo 4194305 (S.left source.old) (S.left source.new) bytes
-        × Answers order bytes status text × AppendsFront (K.held sink.old) (K.held sink.new) text }
-    ensures write_fault { result ≡ Status.WriteFault → Rose (K.faults sink.old) (K.faults sink.new) }
-    ensures memory { result ≡ Status.OutOfMemory → sink.new ≡ sink.old }
-    ensures source_calm { result ≢ Status.ReadFault → S.faults source.new ≡ S.faults source.old }
-    ensures sink_calm { result ≢ Status.WriteFault → K.faults sink.new ≡ K.faults sink.old }
+) -> Ended<P>
+    requires pages { length bank.items ≡ 64 }
+    requires blank { All IsBlank (map P.memory bank.items) }
+    ensures answers { AnswersRead order (S.left source.old) (S.left source.new) (K.held sink.old) (K.held sink.new) (map P.memory result.bank.items) result.tally result.status }
+    ensures unwritten { result.status ≡ Status.ReadFault → sink.new ≡ sink.old }
+    ensures source { SourceCount (S.faults source.old) (S.faults source.new) result.status }
+    ensures sink { SinkCount (K.faults sink.old) (K.faults sink.new) result.status }
 {
     match read_up_to(alloc, source, MOST_BYTES + 1) {
-        Ok(bytes) => answer(alloc, order, bytes.as_slice(), sink),
-        Err(ReadFault::Failed) => Status::ReadFault,
-        Err(ReadFault::OutOfMemory) => Status::OutOfMemory,
+        Ok(bytes) => answer(alloc, order, bytes.as_slice(), bank, sink),
+        Err(ReadFault::Failed) => unbegun(Status::ReadFault, bank),
+        Err(ReadFault::OutOfMemory) => unbegun(Status::OutOfMemory, bank),
     }
 }
 
 /// The usage line.
-fn write_usage<K: Sink>(sink: &mut K) -> Status
-    ensures usage { result ≡ Status.Usage → Appends (K.held sink.old) (K.held sink.new) usage_line × (K.faults sink.new ≡ K.faults sink.old) }
-    ensures front { result ≡ Status.WriteFault → AppendsFront (K.held sink.old) (K.held sink.new) usage_line × Rose (K.faults sink.old) (K.faults sink.new) }
-    ensures either { (result ≡ Status.Usage) ⊎ (result ≡ Status.WriteFault) }
+fn write_usage<P: Pages, K: Sink>(bank: Vec<P>, sink: &mut K) -> Ended<P>
+    requires pages { length bank.items ≡ 64 }
+    requires blank { All IsBlank (map P.memory bank.items) }
+    ensures tells { TellsUsage (K.held sink.old) (K.held sink.new) (map P.memory result.bank.items) result.tally result.status }
+    ensures count { SinkCount (K.faults sink.old) (K.faults sink.new) result.status }
 {
     match write_all(sink, usage()) {
-        Ok(()) => Status::Usage,
-        Err(Failed) => Status::WriteFault,
+        Ok(()) => unbegun(Status::Usage, bank),
+        Err(Failed) => unbegun(Status::WriteFault, bank),
     }
+}
+
+/// The answer to these words.
+fn end_of<P: Pages, S: Source, K: Sink>(
+    alloc: Global,
+    words: &[String],
+    bank: Vec<P>,
+    source: &mut S,
+    sink: &mut K,
+) -> Ended<P>
+    requires pages { length bank.items ≡ 64 }
+    requires blank { All IsBlank (map P.memory bank.items) }
+    ensures answers { AnswersWords (order_of (map string_bytes words.now)) (S.left source.old) (S.left source.new) (K.held sink.old) (K.held sink.new)
+        (map P.memory result.bank.items) result.tally result.status }
+    ensures unread { result.status ≡ Status.Usage → source.new ≡ source.old }
+    ensures unwritten { result.status ≡ Status.ReadFault → sink.new ≡ sink.old }
+    ensures source { SourceCount (S.faults source.old) (S.faults source.new) result.status }
+    ensures sink { SinkCount (K.faults sink.old) (K.faults sink.new) result.status }
+{
+    match read_words(words) {
+        Some(order) => read_and_answer(alloc, order, bank, source, sink),
+        None => write_usage(bank, sink),
+    }
+}
+
+/// What the top call leaves.
+#[derive(Drop)]
+pub struct Finished<P: Drop> {
+    /// 0 done, 1 refused, 2 wrong words, 3 the source failed, 4 the sink failed, 5 no memory.
+    pub status: u8,
+    /// The pages, each card's at its place.
+    pub bank: Vec<P>,
+    /// How many purchases ended in which way, and after how many replies.
+    pub tally: Tally,
 }
 
 /// Answers these words, reading from `source` where they ask for it and writing to `sink`.
 ///
-/// The words are those behind the program's name. `read` reads a TOML document that describes a card,
-/// of at most 4,194,304 bytes, and reports what a terminal reads of that card, line by line. `replay`
-/// reads one that describes a purchase as well, and reports each exchange and how the purchase ends.
-pub fn run<S: Source, K: Sink>(
+/// The words are those behind the program's name. Both orders read a scenario, a TOML document of at most
+/// 4,194,304 bytes. `replay` makes all its purchases, by the schedule and then lane by lane, then the
+/// settlement and an audit of each card, and reports each exchange, each end, the balances and how many
+/// purchases ended. `read` makes the first lane's first purchase, without its tear, up to the end of
+/// reading, and reports the exchanges and the card's data objects. Each line is handed to the sink as soon
+/// as it is made. The bank has 64 blank pages that are off, for the cards in their order.
+pub fn run<P: Pages, S: Source, K: Sink>(
     alloc: Global,
     words: &[String],
+    bank: Vec<P>,
     source: &mut S,
     sink: &mut K,
-) -> Finished
-    // 0: the bytes read are a card, and the sink got the whole report of its reading, or of the purchase.
-    ensures done { result.status ≡ 0 → (order : Order) × (bytes : List ℕ) × (text : List ℕ) × (order_of (map string_bytes words.now) ≡ Some order)
-        × ReadsUpTo 4194305 (S.left source.old) (S.left source.new) bytes × Answers order bytes 0 text × Appends (K.held sink.old) (K.held sink.new) text }
+) -> Finished<P>
+    requires pages { length bank.items ≡ 64 }
+    requires blank { All IsBlank (map P.memory bank.items) }
 
-    // 1: the bytes read are refused, and the sink got the line of that very refusal.
-    ensures refused { result.status ≡ 1 → (order : Order) × (bytes : List ℕ) × (text : List ℕ) × (order_of (map string_bytes words.now) ≡ Some order)
-        × ReadsUpTo 4194305 (S.left source.old) (S.left source.new) bytes × Answers order bytes 1 text × Appends (K.held sink.old) (K.held sink.new) text }
+    // 0: the bytes read are a scenario's, and of one run of it the sink got the text of its lines, the pages
+    // stand for its cards' decisions, and the tally is its count. No counter serves two purchases, power-ups
+    // find prefixes, and no transaction is booked twice.
+    ensures done { result.status ≡ 0 → (order : Order) × (order_of (map string_bytes words.now) ≡ Some order) × (bytes : List ℕ)
+        × ReadsUpTo 4194305 (S.left source.old) (S.left source.new) bytes
+        × IsAccepted order bytes (λ s. IsWhole order s (K.held sink.old) (K.held sink.new) (map P.memory result.bank.items) result.tally) }
 
-    // 2: the words are not in the grammar, and the sink got the usage line; nothing was read.
+    // 1: the bytes read are refused, and the sink got the line of that very fault; nothing was begun.
+    ensures refused { result.status ≡ 1 → (order : Order) × (order_of (map string_bytes words.now) ≡ Some order) × (bytes : List ℕ)
+        × ReadsUpTo 4194305 (S.left source.old) (S.left source.new) bytes
+        × (line : List ℕ) × IsRefused order bytes line × Appends (K.held sink.old) (K.held sink.new) line × Unbegun (map P.memory result.bank.items) result.tally }
+
+    // 2: the words are not in the grammar, and the sink got the usage line; nothing was read or begun.
     ensures usage { result.status ≡ 2 → (order_of (map string_bytes words.now) ≡ None)
-        × Appends (K.held sink.old) (K.held sink.new) usage_line × (source.new ≡ source.old) }
+        × Appends (K.held sink.old) (K.held sink.new) usage_line × Unbegun (map P.memory result.bank.items) result.tally }
+    ensures unread { result.status ≡ 2 → source.new ≡ source.old }
 
-    // 3: the source failed, and nothing was written.
+    // 3: the source failed, and nothing was written or begun.
     ensures read_fault { result.status ≡ 3 → (order_of (map string_bytes words.now) ≢ None)
-        × Rose (S.faults source.old) (S.faults source.new) × (sink.new ≡ sink.old) }
+        × Rose (S.faults source.old) (S.faults source.new) × Unbegun (map P.memory result.bank.items) result.tally }
+    ensures unwritten { result.status ≡ 3 → sink.new ≡ sink.old }
 
-    // 4: the sink failed, and got a front of the usage line, or of the report or the refusal's line
-    // that answers the bytes read.
+    // 4: the sink failed, and got a front of the usage line, of a refusal's line, or of the lines of a run up
+    // to some event, which lacks at most those of that event and those behind all events.
     ensures write_fault { result.status ≡ 4 → Rose (K.faults sink.old) (K.faults sink.new) }
-    ensures front { result.status ≡ 4 → WritesFront (order_of (map string_bytes words.now)) (S.left source.old) (S.left source.new) (K.held sink.old) (K.held sink.new) }
+    ensures front { result.status ≡ 4 → IsCutShort (order_of (map string_bytes words.now)) (S.left source.old) (S.left source.new)
+        (K.held sink.old) (K.held sink.new) (map P.memory result.bank.items) result.tally }
 
-    // 5: there was no memory, and nothing was written.
-    ensures memory { result.status ≡ 5 → (order_of (map string_bytes words.now) ≢ None) × (sink.new ≡ sink.old) }
+    // 5: there was no memory: before anything began, or in a run, of whose lines a front was written as for 4.
+    ensures memory { result.status ≡ 5 → (order : Order) × (order_of (map string_bytes words.now) ≡ Some order)
+        × IsStarved order (S.left source.old) (S.left source.new) (K.held sink.old) (K.held sink.new) (map P.memory result.bank.items) result.tally }
 
     // The source's count stays but for 3, and the sink's but for 4.
     ensures source_calm { result.status ≢ 3 → S.faults source.new ≡ S.faults source.old }
     ensures sink_calm { result.status ≢ 4 → K.faults sink.new ≡ K.faults sink.old }
     ensures known { result.status ≤ 5 }
 {
-    let status = match read_words(words) {
-        Some(order) => read_and_answer(alloc, order, source, sink),
-        None => write_usage(sink),
-    };
+    let ended = end_of(alloc, words, bank, source, sink);
     Finished {
-        status: status.code(),
+        status: ended.status.code(),
+        bank: ended.bank,
+        tally: ended.tally,
     }
 }

@@ -6,9 +6,9 @@ ghost use Rattle.emv_top.specs.Words.{order_of, order_named};
 /// What the program is asked to do.
 #[derive(Clone, Copy, PartialEq, Eq, Debug)]
 pub enum Order {
-    /// Read a card and print what it gives.
+    /// Read the card of the first lane's first purchase, and print what it gives.
     Read,
-    /// Make a purchase with a card, and print each exchange and its end.
+    /// Make all purchases of a scenario, and print each exchange and each end.
     Replay,
 }
 

@@ -1,25 +1,17 @@
 ghost use Rattle.std.specs.Prelude.{ℕ, List, Some, None};
 ghost use Rattle.std.specs.declared.option.Option.{Option};
 
-use emv_ports::{Failed, MemorySink, MemorySource, Sink, Source};
-use emv_top::run;
+use crate::blank_bank;
+use emv_ports::{Failed, MemoryPages, MemorySink, MemorySource, Sink, Source};
+use emv_top::{Finished, run};
 use std::alloc::Global;
 use std::test::Fail;
 
-/// A card that has one application, of which the terminal looks for another.
-const OTHER_CARD: &str = r#"
-aid = "A0000000041010"
-name = "A0000000031010"
-label = "CREDIT"
-aip = "1C00"
-afl = "08010300"
-record = []
-"#;
+mod documents;
+mod faults;
+mod rows;
 
-const OTHER_REPORT: &str = "L0 > 00a4040007a000000004101000
-L0 < 6a82
-read terminated select no-candidate
-";
+use rows::{BASE, BASE_READ, BASE_REPORT};
 
 /// A source that gives one byte a call, and tells nothing.
 #[derive(Drop)]
@@ -75,14 +67,24 @@ fn source_of(alloc: Global, text: &[u8], fails: &[u32]) -> Result<MemorySource, 
 }
 
 fn sink_of(alloc: Global, fails: &[u32]) -> Result<MemorySink, Fail> {
-    Ok(MemorySink::new(alloc, 10_000, fails.to_vec(alloc)?)?)
+    Ok(MemorySink::new(alloc, 100_000, fails.to_vec(alloc)?)?)
 }
 
 /// How a run ended and what the sink holds.
 #[derive(Drop)]
 struct Outcome {
-    status: u8,
+    finished: Finished<MemoryPages>,
     text: Vec<u8>,
+}
+
+impl Outcome {
+    /// How often the first card's pages were marked.
+    fn marks(&self) -> u32 {
+        match self.finished.bank.first() {
+            Some(pages) => pages.marks(),
+            None => 0,
+        }
+    }
 }
 
 /// The run of these words over a document. The calls of source and sink with these numbers fail.
@@ -93,11 +95,12 @@ fn run_of(
     fails: (&[u32], &[u32]),
 ) -> Result<Outcome, Fail> {
     let words = words_of(alloc, words)?;
+    let bank = blank_bank(alloc)?;
     let mut source = source_of(alloc, document, fails.0)?;
     let mut sink = sink_of(alloc, fails.1)?;
-    let finished = run(alloc, &words, &mut source, &mut sink);
+    let finished = run(alloc, &words, bank, &mut source, &mut sink);
     Ok(Outcome {
-        status: finished.status,
+        finished,
         text: sink.bytes().to_vec(alloc)?,
     })
 }
@@ -108,11 +111,24 @@ fn sound(alloc: Global, word: &str, document: &str) -> Result<Outcome, Fail> {
 }
 
 #[test]
-fn a_card_without_the_application_is_reported(rt: HostRuntime) -> Result<(), Fail> {
+fn a_payment_is_replayed_and_counted(rt: HostRuntime) -> Result<(), Fail> {
+    let ended = sound(rt.alloc(), "replay", BASE)?;
+    assert_eq!(rt; ended.finished.status, 0);
+    assert_eq!(rt; ended.text.as_slice(), BASE_REPORT.as_bytes());
+    assert_eq!(rt; ended.finished.tally.counts(), [1, 0, 0, 10]);
+    assert_eq!(rt; ended.marks(), 4);
+    assert_eq!(rt; ended.finished.bank.len(), 64);
+    Ok(())
+}
+
+#[test]
+fn a_card_is_read(rt: HostRuntime) -> Result<(), Fail> {
     for words in [["read"].as_slice(), &["--", "read"], &["read", "--"]] {
-        let ended = run_of(rt.alloc(), words, OTHER_CARD.as_bytes(), (&[], &[]))?;
-        assert_eq!(rt; ended.status, 0);
-        assert_eq!(rt; ended.text.as_slice(), OTHER_REPORT.as_bytes());
+        let ended = run_of(rt.alloc(), words, BASE.as_bytes(), (&[], &[]))?;
+        assert_eq!(rt; ended.finished.status, 0);
+        assert_eq!(rt; ended.text.as_slice(), BASE_READ.as_bytes());
+        assert_eq!(rt; ended.finished.tally.counts(), [0, 0, 0, 0]);
+        assert_eq!(rt; ended.marks(), 1);
     }
     Ok(())
 }
@@ -127,58 +143,27 @@ fn other_words_give_the_usage_line(rt: HostRuntime) -> Result<(), Fail> {
         &["--", "--", "read"],
         &["--help"],
         &["Read"],
+        &["generate"],
     ] {
-        let ended = run_of(rt.alloc(), words, OTHER_CARD.as_bytes(), (&[1], &[]))?;
-        assert_eq!(rt; ended.status, 2);
+        let ended = run_of(rt.alloc(), words, BASE.as_bytes(), (&[1], &[]))?;
+        assert_eq!(rt; ended.finished.status, 2);
         assert_eq!(rt;
             ended.text.as_slice(),
             b"usage: emvrun read|replay|generate N\n".as_slice()
         );
+        assert_eq!(rt; ended.marks(), 0);
     }
-    Ok(())
-}
-
-#[test]
-fn refusals_name_their_cause(rt: HostRuntime) -> Result<(), Fail> {
-    let long = vec![in rt.alloc(); b'\n'; 4_194_305]?;
-    for (text, line) in [
-        (b"".as_slice(), b"refused 7 NotBuilt file\n".as_slice()),
-        (b"aid = ", b"refused 7 NotBuilt file\n"),
-        (b"\xff", b"refused 7 NotBuilt file\n"),
-        (&long, b"refused 4 OutOfLimit file\n"),
-        (&long[1..], b"refused 7 NotBuilt file\n"),
-    ] {
-        let ended = run_of(rt.alloc(), &["read"], text, (&[], &[]))?;
-        assert_eq!(rt; ended.status, 1);
-        assert_eq!(rt; ended.text.as_slice(), line);
-    }
-    Ok(())
-}
-
-#[test]
-fn faults_of_the_outside_are_answered(rt: HostRuntime) -> Result<(), Fail> {
-    let unread = run_of(rt.alloc(), &["read"], OTHER_CARD.as_bytes(), (&[1], &[]))?;
-    assert_eq!(rt; unread.status, 3);
-    assert!(rt; unread.text.is_empty());
-    let unwritten = run_of(rt.alloc(), &["read"], OTHER_CARD.as_bytes(), (&[], &[2]))?;
-    assert_eq!(rt; unwritten.status, 4);
-    assert_eq!(rt;
-        unwritten.text.as_slice(),
-        b"L0 > 00a4040007a000000004101000\n".as_slice()
-    );
     Ok(())
 }
 
 #[test]
 fn a_slow_source_and_sink_give_the_same_report(rt: HostRuntime) -> Result<(), Fail> {
     let alloc = rt.alloc();
-    let words = words_of(alloc, &["read"])?;
-    let mut source = SlowSource(OTHER_CARD.as_bytes());
+    let words = words_of(alloc, &["replay"])?;
+    let bank = blank_bank(alloc)?;
+    let mut source = SlowSource(BASE.as_bytes());
     let mut sink = SlowSink(sink_of(alloc, &[])?);
-    assert_eq!(rt; run(alloc, &words, &mut source, &mut sink).status, 0);
-    assert_eq!(rt; sink.0.bytes(), OTHER_REPORT.as_bytes());
+    assert_eq!(rt; run(alloc, &words, bank, &mut source, &mut sink).status, 0);
+    assert_eq!(rt; sink.0.bytes(), BASE_REPORT.as_bytes());
     Ok(())
 }
-
-mod paying;
-mod reading;

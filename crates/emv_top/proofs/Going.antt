@@ -1,0 +1,189 @@
+-- A run that goes on, event by event, and one that stops.
+use Rattle.std.proofs.Common.{◌≡◌, ℕ, ◌+◌, Bool, List, [], ◌++◌, refl, sym, ap, ◌∙◌, subst, inl, inr, append_assoc}
+use Rattle.std.proofs.lemmas.List.{append-nil}
+use Rattle.std.specs.declared.option.Option.{Option}
+use Rattle.std.specs.Io.KnownBytes.{Appends}
+use Rattle.emv_ports.specs.Growth.{AppendsFront}
+use Rattle.emv_ports.proofs.Growth.{Appends-none, Appends-more}
+use Rattle.emv_top.specs.Answers.{Completes}
+use Rattle.emv_top.specs.Courses.{Course, Ends, SoFar, Stopped, Makes, IsThere, Breaks, Fails}
+use Rattle.emv_top.specs.Texts.{text_of}
+use Rattle.emv_top.proofs.Writing.{text_of-append}
+use Rattle.report_text.specs.declared.line.Line.{Line}
+use Rattle.scenario.specs.Plan.{ScenarioData}
+use Rattle.txn_replay.specs.Steps.{Step}
+use Rattle.txn_replay.specs.World.{World}
+use Rattle.txn_replay.specs.declared.event.Event.{Event}
+use Rattle.txn_replay.specs.Seen.{WorldSeen, WorldStands, Goes}
+
+-- the start of a run
+pub begins : (course : Course) (holds : World → Type 0) (w : World) (held : Option (List ℕ)) → course 0 [] [] w → holds w → SoFar course holds held held
+begins course holds w held reached stands = record {
+  count = 0;
+  choices = [];
+  lines = [];
+  world = w;
+  reached = reached;
+  stands = stands;
+  written = Appends-none held;
+}
+
+-- on to another place, without an event
+pub passes : (here there : Course) (holds : World → Type 0) (first held : Option (List ℕ))
+    → ((n : ℕ) (cs : List Bool) (ls : List Line) (w : World) → here n cs ls w → holds w → there n cs ls w)
+    → SoFar here holds first held → SoFar there holds first held
+passes here there holds first held on far = record {
+  count = far.count;
+  choices = far.choices;
+  lines = far.lines;
+  world = far.world;
+  reached = on far.count far.choices far.lines far.world far.reached far.stands;
+  stands = far.stands;
+  written = far.written;
+}
+
+module _ (s : ScenarioData) (e : Event) (shown : List Line → List Line) (v after : WorldSeen) (told : after.scenario ≡ s) where
+  step_of : (w : World) (lines : List Line) (goes : Goes after w e lines) → Step s w e goes.choices lines goes.after
+  step_of w lines goes = subst (λ (t : ScenarioData). Step t w e goes.choices lines goes.after) told goes.step
+
+  -- one event more
+  pub more : (here there : Course) (first old new : Option (List ℕ))
+      → ((n : ℕ) (cs c : List Bool) (ls made : List Line) (w w' : World) → here n cs ls w → WorldStands v w → IsThere s w e → Step s w e c made w'
+      → there (n + 1) (cs ++ c) (ls ++ shown made) w')
+      → ((w : World) → WorldStands v w → IsThere s w e) → ((w : World) → WorldStands v w → Makes after w e shown old new)
+      → SoFar here (WorldStands v) first old → SoFar there (WorldStands after) first new
+  more here there first old new grows is_there makes far =
+      let made : Makes after far.world e shown old new = makes far.world far.stands in
+      record {
+        count = far.count + 1;
+        choices = far.choices ++ made.goes.choices;
+        lines = far.lines ++ shown made.lines;
+        world = made.goes.after;
+        reached = grows far.count far.choices made.goes.choices far.lines made.lines far.world made.goes.after far.reached far.stands
+            (is_there far.world far.stands) (step_of far.world made.lines made.goes);
+        stands = made.goes.stands;
+        written = subst (λ (t : List ℕ). Appends first new t) (sym (text_of-append far.lines (shown made.lines)))
+            (Appends-more first old new (text_of far.lines) (text_of (shown made.lines)) far.written made.written);
+      }
+
+  -- an event of which a front of the lines was written, or none that was made
+  module _ (here : Course) (ends : Ends) (first old new : Option (List ℕ))
+      (stays : (n : ℕ) (cs : List Bool) (ls : List Line) (w : World) → here n cs ls w → (tail : List Line) × ends n cs ls w tail)
+      (grows : (n : ℕ) (cs c : List Bool) (ls made : List Line) (w w' : World) → here n cs ls w → WorldStands v w → IsThere s w e → Step s w e c made w'
+      → (tail : List Line) × ends (n + 1) (cs ++ c) (ls ++ shown made) w' tail)
+      (far : SoFar here (WorldStands v) first old) where
+    now : (tail : List Line) × ends far.count far.choices far.lines far.world tail
+    now = stays far.count far.choices far.lines far.world far.reached
+
+    breaks : Breaks s after far.world e shown old new → Stopped ends (WorldStands after) first new
+    breaks made =
+        let next : (tail : List Line) × ends (far.count + 1) (far.choices ++ made.goes.choices) (far.lines ++ shown made.lines) made.goes.after tail =
+        grows far.count far.choices made.goes.choices far.lines made.lines far.world made.goes.after far.reached far.stands
+        made.there (step_of far.world made.lines made.goes) in
+        record {
+          count = far.count + 1;
+          choices = far.choices ++ made.goes.choices;
+          before = far.lines;
+          last = shown made.lines;
+          tail = next.0;
+          world = made.goes.after;
+          reached = next.1;
+          stands = made.goes.stands;
+          one_less = inr (record { number = far.count; choices = far.choices; world = far.world; tail = now.0; reached = now.1; next = refl });
+          front = made.front.so_far.done;
+          rest = made.front.rest ++ text_of next.0;
+          splits = sym (append_assoc made.front.so_far.done made.front.rest (text_of next.0))
+              ∙ ap (λ (t : List ℕ). t ++ text_of next.0) made.front.so_far.splits;
+          written = Appends-more first old new (text_of far.lines) made.front.so_far.done far.written made.front.so_far.written;
+        }
+
+    keeps : WorldStands after far.world × (new ≡ old) → Stopped ends (WorldStands after) first new
+    keeps kept = record {
+      count = far.count;
+      choices = far.choices;
+      before = far.lines;
+      last = [];
+      tail = now.0;
+      world = far.world;
+      reached = subst (λ (ls : List Line). ends far.count far.choices ls far.world now.0) (sym (append-nil far.lines)) now.1;
+      stands = kept.0;
+      one_less = inl refl;
+      front = [];
+      rest = text_of now.0;
+      splits = refl;
+      written = subst (λ (t : List ℕ). Appends first new t) (sym (append-nil (text_of far.lines)))
+          (subst (λ (o : Option (List ℕ)). Appends first o (text_of far.lines)) (sym kept.1) far.written);
+    }
+
+    fails_by : Fails s after far.world e shown old new → Stopped ends (WorldStands after) first new
+    fails_by (inl made) = breaks made
+    fails_by (inr kept) = keeps kept
+
+    pub halts : ((w : World) → WorldStands v w → Fails s after w e shown old new) → Stopped ends (WorldStands after) first new
+    halts fails = fails_by (fails far.world far.stands)
+
+-- the lines behind the events
+module _ (here : Course) (tail : World → List Line) (holds : World → Type 0) (first old new : Option (List ℕ)) (far : SoFar here holds first old) where
+  pub completes : (runs : List Line → World → Type 0)
+      → ((n : ℕ) (cs : List Bool) (ls : List Line) (w : World) → here n cs ls w → holds w → runs (ls ++ tail w) w)
+      → ((w : World) → holds w → Appends old new (text_of (tail w))) → Completes runs holds first new
+  completes runs whole behind = record {
+    lines = far.lines ++ tail far.world;
+    world = far.world;
+    run = whole far.count far.choices far.lines far.world far.reached far.stands;
+    stands = far.stands;
+    written = subst (λ (t : List ℕ). Appends first new t) (sym (text_of-append far.lines (tail far.world)))
+        (Appends-more first old new (text_of far.lines) (text_of (tail far.world)) far.written (behind far.world far.stands));
+  }
+
+  pub stops_behind : (ends : Ends)
+      → ((n : ℕ) (cs : List Bool) (ls : List Line) (w : World) → here n cs ls w → holds w → ends n cs ls w (tail w))
+      → ((w : World) → holds w → AppendsFront old new (text_of (tail w))) → Stopped ends holds first new
+  stops_behind ends all behind =
+      let front : AppendsFront old new (text_of (tail far.world)) = behind far.world far.stands in
+      record {
+        count = far.count;
+        choices = far.choices;
+        before = far.lines;
+        last = [];
+        tail = tail far.world;
+        world = far.world;
+        reached = subst (λ (ls : List Line). ends far.count far.choices ls far.world (tail far.world)) (sym (append-nil far.lines))
+            (all far.count far.choices far.lines far.world far.reached far.stands);
+        stands = far.stands;
+        one_less = inl refl;
+        front = front.so_far.done;
+        rest = front.rest;
+        splits = front.so_far.splits;
+        written = Appends-more first old new (text_of far.lines) front.so_far.done far.written front.so_far.written;
+      }
+
+-- what holds of the world in other words
+pub stopped_with : (ends : Ends) (P Q : World → Type 0) (first held : Option (List ℕ))
+    → ((n : ℕ) (cs : List Bool) (ls : List Line) (w : World) (tail : List Line) → ends n cs ls w tail → P w → Q w)
+    → Stopped ends P first held → Stopped ends Q first held
+stopped_with ends P Q first held gives stopped = record {
+  count = stopped.count;
+  choices = stopped.choices;
+  before = stopped.before;
+  last = stopped.last;
+  tail = stopped.tail;
+  world = stopped.world;
+  reached = stopped.reached;
+  stands = gives stopped.count stopped.choices (stopped.before ++ stopped.last) stopped.world stopped.tail stopped.reached stopped.stands;
+  one_less = stopped.one_less;
+  front = stopped.front;
+  rest = stopped.rest;
+  splits = stopped.splits;
+  written = stopped.written;
+}
+
+pub completes_with : (runs : List Line → World → Type 0) (P Q : World → Type 0) (old new : Option (List ℕ))
+    → ((ls : List Line) (w : World) → runs ls w → P w → Q w) → Completes runs P old new → Completes runs Q old new
+completes_with runs P Q old new gives whole = record {
+  lines = whole.lines;
+  world = whole.world;
+  run = whole.run;
+  stands = gives whole.lines whole.world whole.run whole.stands;
+  written = whole.written;
+}

@@ -1,0 +1,14 @@
+use Rattle.std.proofs.Common.{◌∙◌}
+use Rattle.emv_top.proofs.Writing.{piece_more, piece_front}
+use Rattle.txn_replay.specs.Reading.{without_end}
+use Rattle.emv_top.proofs.lines.write_shown.Goals as goal
+
+pub returns-in-Err-clause-front : goal.returns-in-Err-clause-front
+returns-in-Err-clause-front g c =
+    piece_front without_end c.args.lines.now c.loop-line.line-index c.line-item.result c.loop-line-test.true c.line-item.is _ _ _ _ c.loop-line.invariant.so_far c.in-Err.ensures.front
+
+pub loop-line-preserved : goal.loop-line-preserved
+loop-line-preserved g c = record {
+  so_far = piece_more without_end c.args.lines.now c.loop-line.line-index c.line-item.result c.loop-line-test.true c.line-item.is _ _ _ _ c.loop-line.invariant.so_far c.in-Ok.ensures.all;
+  calm = c.in-Ok.ensures.stop ∙ c.loop-line.invariant.calm;
+}

@@ -1,0 +1,121 @@
+-- A run in its course: what a world stands for, and what the sink got of it so far.
+use Rattle.std.specs.Prelude.{◌≡◌, ◌⊎◌, ⊤, ℕ, ◌+◌, Bool, List, [], ◌++◌, slice_get, Some, if◌then◌else◌}
+use Rattle.std.specs.List.{flat_map}
+use Rattle.std.specs.declared.option.Option.{Option}
+use Rattle.std.specs.Io.KnownBytes.{Appends}
+use Rattle.emv_ports.specs.Growth.{AppendsFront}
+use Rattle.emv_top.specs.Texts.{text_of}
+use Rattle.report_text.specs.declared.line.Line.{Line}
+use Rattle.scenario.specs.Plan.{ScenarioData}
+use Rattle.txn_replay.specs.Reading.{ReadReached, is_read, data_at, ending_at, read_lines, without_end}
+use Rattle.txn_replay.specs.Run.{Place, Scheduled, Round, Settling, Auditing, Finished, Reached, closing}
+use Rattle.txn_replay.specs.Steps.{Settlement, Check, settlements, checks}
+use Rattle.txn_replay.specs.World.{World}
+use Rattle.txn_replay.specs.declared.event.Event.{Event}
+use Rattle.txn_replay.specs.declared.event.Event.TheVariants.{Turn, Settle, Audit}
+use Rattle.txn_replay.specs.Seen.{WorldSeen, WorldStands, Goes}
+
+-- how a run is defined: so many events, with these truth values, make these lines and lead to this world
+abbrev pub Course : Type 1
+Course = ℕ → List Bool → List Line → World → Type 0
+
+-- and these lines follow where those are all the events of the run
+abbrev pub Ends : Type 1
+Ends = ℕ → List Bool → List Line → World → List Line → Type 0
+
+-- the lines behind the events
+abbrev pub tail_at : ScenarioData → Place → World → List Line
+tail_at s (Scheduled k) w = []
+tail_at s (Round l) w = []
+tail_at s (Settling k) w = []
+tail_at s (Auditing k) w = []
+tail_at s Finished w = closing s w
+
+abbrev pub Replays : ScenarioData → Ends
+Replays s n choices lines w tail = (place : Place) × Reached s place n choices lines w × (tail ≡ tail_at s place w)
+
+-- the lines behind a reading's events
+abbrev pub read_tail : ScenarioData → World → List Line
+read_tail s w = (if is_read s w then read_lines (data_at s w 0) (ending_at w 0) else [])
+
+abbrev pub Reads : ScenarioData → Ends
+Reads s n choices lines w tail = ReadReached s n choices lines w × (tail ≡ read_tail s w)
+
+-- some events were made, and their lines were appended to what the sink held first
+pub record SoFar (course : Course) (holds : World → Type 0) (first held : Option (List ℕ)) : Type 0 where
+  pub count : ℕ
+  pub choices : List Bool
+  pub lines : List Line
+  pub world : World
+  pub reached : course count choices lines world
+  pub stands : holds world
+  pub written : Appends first held (text_of lines)
+
+-- these lines are those of all events but the last
+pub record IsOneLess (ends : Ends) (count : ℕ) (before : List Line) : Type 0 where
+  pub number : ℕ
+  pub choices : List Bool
+  pub world : World
+  pub tail : List Line
+  pub reached : ends number choices before world tail
+  pub next : number + 1 ≡ count
+
+-- some events were made, and a front of the text of their lines and of those behind them was appended, which lacks at
+-- most the lines of the last event and those behind all events
+pub record Stopped (ends : Ends) (holds : World → Type 0) (first held : Option (List ℕ)) : Type 0 where
+  pub count : ℕ
+  pub choices : List Bool
+  pub before : List Line
+  pub last : List Line
+  pub tail : List Line
+  pub world : World
+  pub reached : ends count choices (before ++ last) world tail
+  pub stands : holds world
+  pub one_less : (last ≡ []) ⊎ IsOneLess ends count before
+  pub front : List ℕ
+  pub rest : List ℕ
+  pub splits : front ++ rest ≡ text_of last ++ text_of tail
+  pub written : Appends first held (text_of before ++ front)
+
+-- whatever the sink held first, a run that had come here has come there
+abbrev pub Carries : WorldSeen → WorldSeen → Option (List ℕ) → Option (List ℕ) → Course → Course → Type 0
+Carries v after old new here there =
+    (first : Option (List ℕ)) → SoFar here (WorldStands v) first old → SoFar there (WorldStands after) first new
+
+-- or has stopped
+abbrev pub Halts : WorldSeen → WorldSeen → Option (List ℕ) → Option (List ℕ) → Course → Ends → Type 0
+Halts v after old new here ends =
+    (first : Option (List ℕ)) → SoFar here (WorldStands v) first old → Stopped ends (WorldStands after) first new
+
+-- a run has come here
+abbrev pub IsAt : WorldSeen → Option (List ℕ) → Course → Type 0
+IsAt v held here = (first : Option (List ℕ)) × SoFar here (WorldStands v) first held
+
+-- an event was made, and what is shown of its lines was appended
+pub record Makes (v : WorldSeen) (w : World) (e : Event) (shown : List Line → List Line) (old new : Option (List ℕ)) : Type 0 where
+  pub lines : List Line
+  pub goes : Goes v w e lines
+  pub written : Appends old new (text_of (shown lines))
+
+-- there is such an event: a message of the settlement, a step of the audit; a lane's exchange may be none
+abbrev pub IsThere : ScenarioData → World → Event → Type 0
+IsThere s w (Turn l) = ⊤
+IsThere s w (Settle k) = (at : Settlement) × (slice_get (settlements s w) k ≡ Some at)
+IsThere s w (Audit k) = (check : Check) × (slice_get (checks s) k ≡ Some check)
+
+-- an event was made, and a front of what is shown of its lines was appended
+pub record Breaks (s : ScenarioData) (v : WorldSeen) (w : World) (e : Event) (shown : List Line → List Line) (old new : Option (List ℕ)) : Type 0 where
+  pub lines : List Line
+  pub goes : Goes v w e lines
+  pub there : IsThere s w e
+  pub front : AppendsFront old new (text_of (shown lines))
+
+-- or nothing was made
+abbrev pub Fails : ScenarioData → WorldSeen → World → Event → (List Line → List Line) → Option (List ℕ) → Option (List ℕ) → Type 0
+Fails s v w e shown old new = Breaks s v w e shown old new ⊎ (WorldStands v w × (new ≡ old))
+
+abbrev pub all_lines : List Line → List Line
+all_lines lines = lines
+
+abbrev pub shown_lines : List Line → List Line
+shown_lines lines = flat_map without_end lines

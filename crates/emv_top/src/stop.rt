@@ -1,0 +1,8 @@
+/// Why a run stops before its end.
+#[derive(Clone, Copy, PartialEq, Eq, Debug)]
+pub enum Stop {
+    /// The sink failed.
+    Sink,
+    /// There was no memory.
+    OutOfMemory,
+}
