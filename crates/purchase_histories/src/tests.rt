@@ -1,0 +1,99 @@
+mod document;
+mod table;
+
+use document::BASE;
+use emv_ports::{MemoryPages, MemorySink, MemorySource};
+use emv_top::{Finished, run};
+use std::alloc::Global;
+use std::process::Abort;
+use std::test::Fail;
+use table::{HISTORIES, History};
+
+/// The text with one text in place of another.
+fn replaced(alloc: Global, text: &str, old: &str, new: &str) -> Result<String, Fail> {
+    let (front, rest) = text.split_once(old).ok_or("a text to replace")?;
+    Ok(format!(in alloc; "{front}{new}{rest}")?)
+}
+
+fn document_of(alloc: Global, history: &History) -> Result<String, Fail> {
+    let mut document = String::from_str(alloc, BASE)?;
+    for (old, new) in history.changes {
+        document = replaced(alloc, &document, old, new)?;
+    }
+    for part in history.more {
+        document.push_str(part)?;
+    }
+    Ok(document)
+}
+
+/// Adds a line to what a report tells, unless it is an exchange.
+fn tell(line: &str, told: &mut String) -> Result<(), Fail> {
+    if line.split_once(" > ").is_some() {
+        return Ok(());
+    }
+    if line.split_once(" < ").is_some() && line.split_once("S").is_none() {
+        return Ok(());
+    }
+    let front = match line.split_once(" tvr=") {
+        Some((front, _)) => front,
+        None => line,
+    };
+    told.push_str(front)?;
+    told.push_str("\n")?;
+    Ok(())
+}
+
+/// The report without its exchanges, but with the replies to the settlement, and the end lines up to
+/// their bits.
+fn told_by(alloc: Global, report: &[u8]) -> Result<String, Fail> {
+    let mut told = String::new(alloc);
+    let mut line = Vec::new(alloc);
+    for byte in report {
+        if *byte == b'\n' {
+            tell(&String::from_utf8_lossy(alloc, &line)?, &mut told)?;
+            line = Vec::new(alloc);
+        } else {
+            line.push(*byte)?;
+        }
+    }
+    Ok(told)
+}
+
+fn blank_bank(alloc: Global) -> Result<Vec<MemoryPages>, Fail> {
+    let mut bank = Vec::new(alloc);
+    for _card in 0..64 {
+        bank.push(MemoryPages::blank())?;
+    }
+    Ok(bank)
+}
+
+fn marks_of(finished: &Finished<MemoryPages>, card: usize) -> Option<u32> {
+    match finished.bank.get(card) {
+        Some(pages) => Some(pages.marks()),
+        None => None,
+    }
+}
+
+fn replay(rt: &impl Abort, alloc: Global, history: &History) -> Result<(), Fail> {
+    let document = document_of(alloc, history)?;
+    let mut words = Vec::new(alloc);
+    words.push(String::from_str(alloc, "replay")?)?;
+    let mut source = MemorySource::new(document.as_bytes().to_vec(alloc)?, Vec::new(alloc));
+    let mut sink = MemorySink::new(alloc, 100_000, Vec::new(alloc))?;
+    let finished = run(alloc, &words, blank_bank(alloc)?, &mut source, &mut sink);
+    assert_eq!(rt; finished.status, 0);
+    assert_eq!(rt; told_by(alloc, sink.bytes())?.as_str(), history.told);
+    assert_eq!(rt; finished.tally.counts(), history.counts);
+    for (card, marks) in history.marks.iter().enumerate() {
+        assert_eq!(rt; marks_of(&finished, card), Some(*marks));
+    }
+    Ok(())
+}
+
+#[test]
+fn purchases_are_as_independent_implementations_report(rt: HostRuntime) -> Result<(), Fail> {
+    for history in &HISTORIES {
+        replay(&rt, rt.alloc(), history)?;
+    }
+    Ok(())
+}

@@ -1,0 +1,615 @@
+//! Purchases with what two independent implementations report.
+use super::document::{RIVAL_LANE, SECOND_CARD, SECOND_LANE, SECOND_PURCHASE};
+
+/// A document, and what becomes of it.
+#[derive(Clone, Copy)]
+pub struct History {
+    /// The texts of the base document that are others here.
+    pub changes: &'static [(&'static str, &'static str)],
+    /// What stands behind it.
+    pub more: &'static [&'static str],
+    /// The report without its exchanges, but with the replies to the settlement, and the end lines up to
+    /// their bits.
+    pub told: &'static str,
+    /// How many purchases were approved, were declined and ended otherwise, and the replies that their
+    /// terminals had.
+    pub counts: [u64; 4],
+    /// How many decisions the first and the second card kept or began to keep.
+    pub marks: [u32; 2],
+}
+
+pub const HISTORIES: [History; 32] = [
+    // The base payment.
+    History {
+        changes: &[],
+        more: &[],
+        told: "L0 power c1 10,9,0,0,3,0
+L0 end 1 approved offline
+S0 < e2048a023030
+A c1 power 11,9,1,2500,3,0
+balance 4761739001010010 97500
+done 1
+",
+        counts: [1, 0, 0, 10],
+        marks: [4, 0],
+    },
+    // Two terminals and two cards of one account, in rounds.
+    History {
+        changes: &[
+            ("balance = 100000", "balance = 3000"),
+            ("count_limit = 5", "count_limit = 0"),
+        ],
+        more: &[SECOND_CARD, SECOND_LANE],
+        told: "L0 power c1 10,9,0,0,3,0
+L1 power c2 10,9,0,0,3,0
+L0 end 1 approved online
+L1 end 1 declined online
+S0 < e2048a023030
+A c1 power 11,11,0,0,3,0
+A c2 power 11,11,0,0,3,0
+balance 4761739001010010 500
+done 2
+",
+        counts: [1, 1, 0, 26],
+        marks: [6, 6],
+    },
+    // The second terminal comes first.
+    History {
+        changes: &[
+            (
+                "\n[issuer]",
+                "schedule = [1, 1, 1, 1, 1, 1, 1, 1, 1, 1, 1, 1, 1, 1, 1, 1, 1, 1, 1, 1]\n[issuer]",
+            ),
+            ("balance = 100000", "balance = 3000"),
+            ("count_limit = 5", "count_limit = 0"),
+        ],
+        more: &[SECOND_CARD, SECOND_LANE],
+        told: "L1 power c2 10,9,0,0,3,0
+L1 end 1 approved online
+L0 power c1 10,9,0,0,3,0
+L0 end 1 declined online
+S1 < e2048a023030
+A c1 power 11,11,0,0,3,0
+A c2 power 11,11,0,0,3,0
+balance 4761739001010010 500
+done 2
+",
+        counts: [1, 1, 0, 26],
+        marks: [6, 6],
+    },
+    // A card that two terminals want.
+    History {
+        changes: &[],
+        more: &[RIVAL_LANE],
+        told: "L0 power c1 10,9,0,0,3,0
+L0 end 1 approved offline
+L1 power c1 11,9,1,2500,3,0
+L1 end 1 approved offline
+S0 < e2048a023030
+S1 < e2048a023030
+A c1 power 12,9,2,5000,3,0
+balance 4761739001010010 95000
+done 2
+",
+        counts: [2, 0, 0, 20],
+        marks: [8, 0],
+    },
+    // The issuer is asked.
+    History {
+        changes: &[("count_limit = 5", "count_limit = 0")],
+        more: &[],
+        told: "L0 power c1 10,9,0,0,3,0
+L0 end 1 approved online
+S0 < e2048a023030
+A c1 power 11,11,0,0,3,0
+balance 4761739001010010 97500
+done 1
+",
+        counts: [1, 0, 0, 13],
+        marks: [6, 0],
+    },
+    // The request is lost.
+    History {
+        changes: &[
+            ("count_limit = 5", "count_limit = 0"),
+            ("word = 49", "word = 49\nlink = \"request_lost\""),
+        ],
+        more: &[],
+        told: "L0 power c1 10,9,0,0,3,0
+L0 end 1 declined offline
+S0 < e2048a023030
+A c1 power 11,9,0,0,3,0
+balance 4761739001010010 100000
+done 1
+",
+        counts: [0, 1, 0, 12],
+        marks: [5, 0],
+    },
+    // The reply is lost.
+    History {
+        changes: &[
+            ("count_limit = 5", "count_limit = 0"),
+            ("word = 49", "word = 49\nlink = \"reply_lost\""),
+        ],
+        more: &[],
+        told: "L0 power c1 10,9,0,0,3,0
+L0 end 1 declined offline
+S0 < e2048a023030
+A c1 power 11,9,0,0,3,0
+balance 4761739001010010 100000
+done 1
+",
+        counts: [0, 1, 0, 12],
+        marks: [5, 0],
+    },
+    // The request arrives twice.
+    History {
+        changes: &[
+            ("count_limit = 5", "count_limit = 0"),
+            ("word = 49", "word = 49\nlink = \"twice\""),
+        ],
+        more: &[],
+        told: "L0 power c1 10,9,0,0,3,0
+L0 end 1 approved online
+S0 < e2048a023030
+A c1 power 11,11,0,0,3,0
+balance 4761739001010010 97500
+done 1
+",
+        counts: [1, 0, 0, 13],
+        marks: [6, 0],
+    },
+    // Each settlement message is sent three times.
+    History {
+        changes: &[("\n[issuer]", "copies = 3\n[issuer]")],
+        more: &[],
+        told: "L0 power c1 10,9,0,0,3,0
+L0 end 1 approved offline
+S0 < e2048a023030
+S0 < e2048a023030
+S0 < e2048a023030
+A c1 power 11,9,1,2500,3,0
+balance 4761739001010010 97500
+done 1
+",
+        counts: [1, 0, 0, 10],
+        marks: [4, 0],
+    },
+    // The same where the issuer was asked.
+    History {
+        changes: &[
+            ("\n[issuer]", "copies = 3\n[issuer]"),
+            ("count_limit = 5", "count_limit = 0"),
+        ],
+        more: &[],
+        told: "L0 power c1 10,9,0,0,3,0
+L0 end 1 approved online
+S0 < e2048a023030
+S0 < e2048a023030
+S0 < e2048a023030
+A c1 power 11,11,0,0,3,0
+balance 4761739001010010 97500
+done 1
+",
+        counts: [1, 0, 0, 13],
+        marks: [6, 0],
+    },
+    // The repair of the first power-up is cut.
+    History {
+        changes: &[(
+            "word = 49",
+            "word = 49\ntear = { commit = 0, at = \"before\", write = 1 }",
+        )],
+        more: &[SECOND_PURCHASE],
+        told: "L0 power c1 torn
+L0 end 1 cut power
+L0 power c1 10,9,0,0,3,0
+L0 end 2 approved offline
+S0 < e2048a023030
+A c1 power 11,9,1,2500,3,0
+balance 4761739001010010 97500
+done 2
+",
+        counts: [1, 0, 1, 11],
+        marks: [4, 0],
+    },
+    // The first power-up is cut at its end.
+    History {
+        changes: &[(
+            "word = 49",
+            "word = 49\ntear = { commit = 0, at = \"release\" }",
+        )],
+        more: &[SECOND_PURCHASE],
+        told: "L0 power c1 torn
+L0 end 1 cut power
+L0 power c1 10,9,0,0,3,0
+L0 end 2 approved offline
+S0 < e2048a023030
+A c1 power 11,9,1,2500,3,0
+balance 4761739001010010 97500
+done 2
+",
+        counts: [1, 0, 1, 11],
+        marks: [4, 0],
+    },
+    // The counter: cut before its first write.
+    History {
+        changes: &[(
+            "word = 49",
+            "word = 49\ntear = { commit = 1, at = \"before\", write = 1 }",
+        )],
+        more: &[SECOND_PURCHASE],
+        told: "L0 power c1 10,9,0,0,3,0
+L0 end 1 cut initiate
+L0 power c1 10,9,0,0,3,0
+L0 end 2 approved offline
+S0 < e2048a023030
+A c1 power 11,9,1,2500,3,0
+balance 4761739001010010 97500
+done 2
+",
+        counts: [1, 0, 1, 13],
+        marks: [5, 0],
+    },
+    // The counter: cut within the list of its pages.
+    History {
+        changes: &[(
+            "word = 49",
+            "word = 49\ntear = { commit = 1, at = \"within\", write = 2 }",
+        )],
+        more: &[SECOND_PURCHASE],
+        told: "L0 power c1 10,9,0,0,3,0
+L0 end 1 cut initiate
+L0 power c1 10,9,0,0,3,0
+L0 end 2 approved offline
+S0 < e2048a023030
+A c1 power 11,9,1,2500,3,0
+balance 4761739001010010 97500
+done 2
+",
+        counts: [1, 0, 1, 13],
+        marks: [5, 0],
+    },
+    // The counter: cut within the gate.
+    History {
+        changes: &[(
+            "word = 49",
+            "word = 49\ntear = { commit = 1, at = \"within\", write = 3 }",
+        )],
+        more: &[SECOND_PURCHASE],
+        told: "L0 power c1 10,9,0,0,3,0
+L0 end 1 cut initiate
+L0 power c1 10,9,0,0,3,0
+L0 end 2 approved offline
+S0 < e2048a023030
+A c1 power 11,9,1,2500,3,0
+balance 4761739001010010 97500
+done 2
+",
+        counts: [1, 0, 1, 13],
+        marks: [5, 0],
+    },
+    // The counter: cut within the page behind the gate.
+    History {
+        changes: &[(
+            "word = 49",
+            "word = 49\ntear = { commit = 1, at = \"within\", write = 4 }",
+        )],
+        more: &[SECOND_PURCHASE],
+        told: "L0 power c1 10,9,0,0,3,0
+L0 end 1 cut initiate
+L0 power c1 11,9,0,0,3,0
+L0 end 2 approved offline
+S0 < e2048a023030
+A c1 power 12,9,1,2500,3,0
+balance 4761739001010010 97500
+done 2
+",
+        counts: [1, 0, 1, 13],
+        marks: [5, 0],
+    },
+    // The counter: kept, and its answer cut.
+    History {
+        changes: &[(
+            "word = 49",
+            "word = 49\ntear = { commit = 1, at = \"release\" }",
+        )],
+        more: &[SECOND_PURCHASE],
+        told: "L0 power c1 10,9,0,0,3,0
+L0 end 1 cut initiate
+L0 power c1 11,9,0,0,3,0
+L0 end 2 approved offline
+S0 < e2048a023030
+A c1 power 12,9,1,2500,3,0
+balance 4761739001010010 97500
+done 2
+",
+        counts: [1, 0, 1, 13],
+        marks: [5, 0],
+    },
+    // The PIN try: cut before its first write.
+    History {
+        changes: &[(
+            "word = 49",
+            "word = 49\ntear = { commit = 2, at = \"before\", write = 1 }",
+        )],
+        more: &[SECOND_PURCHASE],
+        told: "L0 power c1 10,9,0,0,3,0
+L0 end 1 cut verify
+L0 power c1 11,9,0,0,3,0
+L0 end 2 approved offline
+S0 < e2048a023030
+A c1 power 12,9,1,2500,3,0
+balance 4761739001010010 97500
+done 2
+",
+        counts: [1, 0, 1, 17],
+        marks: [6, 0],
+    },
+    // The PIN try: cut within the list of its pages.
+    History {
+        changes: &[(
+            "word = 49",
+            "word = 49\ntear = { commit = 2, at = \"within\", write = 2 }",
+        )],
+        more: &[SECOND_PURCHASE],
+        told: "L0 power c1 10,9,0,0,3,0
+L0 end 1 cut verify
+L0 power c1 11,9,0,0,3,0
+L0 end 2 approved offline
+S0 < e2048a023030
+A c1 power 12,9,1,2500,3,0
+balance 4761739001010010 97500
+done 2
+",
+        counts: [1, 0, 1, 17],
+        marks: [6, 0],
+    },
+    // The PIN try: cut within the gate.
+    History {
+        changes: &[(
+            "word = 49",
+            "word = 49\ntear = { commit = 2, at = \"within\", write = 3 }",
+        )],
+        more: &[SECOND_PURCHASE],
+        told: "L0 power c1 10,9,0,0,3,0
+L0 end 1 cut verify
+L0 power c1 11,9,0,0,3,0
+L0 end 2 approved offline
+S0 < e2048a023030
+A c1 power 12,9,1,2500,3,0
+balance 4761739001010010 97500
+done 2
+",
+        counts: [1, 0, 1, 17],
+        marks: [6, 0],
+    },
+    // The PIN try: cut within the page behind the gate.
+    History {
+        changes: &[(
+            "word = 49",
+            "word = 49\ntear = { commit = 2, at = \"within\", write = 4 }",
+        )],
+        more: &[SECOND_PURCHASE],
+        told: "L0 power c1 10,9,0,0,3,0
+L0 end 1 cut verify
+L0 power c1 11,9,0,0,2,0
+L0 end 2 approved offline
+S0 < e2048a023030
+A c1 power 12,9,1,2500,3,0
+balance 4761739001010010 97500
+done 2
+",
+        counts: [1, 0, 1, 17],
+        marks: [6, 0],
+    },
+    // The PIN try: kept, and its answer cut.
+    History {
+        changes: &[(
+            "word = 49",
+            "word = 49\ntear = { commit = 2, at = \"release\" }",
+        )],
+        more: &[SECOND_PURCHASE],
+        told: "L0 power c1 10,9,0,0,3,0
+L0 end 1 cut verify
+L0 power c1 11,9,0,0,2,0
+L0 end 2 approved offline
+S0 < e2048a023030
+A c1 power 12,9,1,2500,3,0
+balance 4761739001010010 97500
+done 2
+",
+        counts: [1, 0, 1, 17],
+        marks: [6, 0],
+    },
+    // The verified PIN: cut before its first write.
+    History {
+        changes: &[(
+            "word = 49",
+            "word = 49\ntear = { commit = 3, at = \"before\", write = 1 }",
+        )],
+        more: &[SECOND_PURCHASE],
+        told: "L0 power c1 10,9,0,0,3,0
+L0 end 1 cut verify
+L0 power c1 11,9,0,0,2,0
+L0 end 2 approved offline
+S0 < e2048a023030
+A c1 power 12,9,1,2500,3,0
+balance 4761739001010010 97500
+done 2
+",
+        counts: [1, 0, 1, 17],
+        marks: [7, 0],
+    },
+    // The verified PIN: cut within the list of its pages.
+    History {
+        changes: &[(
+            "word = 49",
+            "word = 49\ntear = { commit = 3, at = \"within\", write = 2 }",
+        )],
+        more: &[SECOND_PURCHASE],
+        told: "L0 power c1 10,9,0,0,3,0
+L0 end 1 cut verify
+L0 power c1 11,9,0,0,2,0
+L0 end 2 approved offline
+S0 < e2048a023030
+A c1 power 12,9,1,2500,3,0
+balance 4761739001010010 97500
+done 2
+",
+        counts: [1, 0, 1, 17],
+        marks: [7, 0],
+    },
+    // The verified PIN: cut within the gate.
+    History {
+        changes: &[(
+            "word = 49",
+            "word = 49\ntear = { commit = 3, at = \"within\", write = 3 }",
+        )],
+        more: &[SECOND_PURCHASE],
+        told: "L0 power c1 10,9,0,0,3,0
+L0 end 1 cut verify
+L0 power c1 11,9,0,0,2,0
+L0 end 2 approved offline
+S0 < e2048a023030
+A c1 power 12,9,1,2500,3,0
+balance 4761739001010010 97500
+done 2
+",
+        counts: [1, 0, 1, 17],
+        marks: [7, 0],
+    },
+    // The verified PIN: cut within the page behind the gate.
+    History {
+        changes: &[(
+            "word = 49",
+            "word = 49\ntear = { commit = 3, at = \"within\", write = 4 }",
+        )],
+        more: &[SECOND_PURCHASE],
+        told: "L0 power c1 10,9,0,0,3,0
+L0 end 1 cut verify
+L0 power c1 11,9,0,0,3,0
+L0 end 2 approved offline
+S0 < e2048a023030
+A c1 power 12,9,1,2500,3,0
+balance 4761739001010010 97500
+done 2
+",
+        counts: [1, 0, 1, 17],
+        marks: [7, 0],
+    },
+    // The verified PIN: kept, and its answer cut.
+    History {
+        changes: &[(
+            "word = 49",
+            "word = 49\ntear = { commit = 3, at = \"release\" }",
+        )],
+        more: &[SECOND_PURCHASE],
+        told: "L0 power c1 10,9,0,0,3,0
+L0 end 1 cut verify
+L0 power c1 11,9,0,0,3,0
+L0 end 2 approved offline
+S0 < e2048a023030
+A c1 power 12,9,1,2500,3,0
+balance 4761739001010010 97500
+done 2
+",
+        counts: [1, 0, 1, 17],
+        marks: [7, 0],
+    },
+    // The first cryptogram: cut before its first write.
+    History {
+        changes: &[(
+            "word = 49",
+            "word = 49\ntear = { commit = 4, at = \"before\", write = 1 }",
+        )],
+        more: &[SECOND_PURCHASE],
+        told: "L0 power c1 10,9,0,0,3,0
+L0 end 1 cut first
+L0 power c1 11,9,0,0,3,0
+L0 end 2 approved offline
+S0 < e2048a023030
+A c1 power 12,9,1,2500,3,0
+balance 4761739001010010 97500
+done 2
+",
+        counts: [1, 0, 1, 20],
+        marks: [8, 0],
+    },
+    // The first cryptogram: cut within the list of its pages.
+    History {
+        changes: &[(
+            "word = 49",
+            "word = 49\ntear = { commit = 4, at = \"within\", write = 2 }",
+        )],
+        more: &[SECOND_PURCHASE],
+        told: "L0 power c1 10,9,0,0,3,0
+L0 end 1 cut first
+L0 power c1 11,9,0,0,3,0
+L0 end 2 approved offline
+S0 < e2048a023030
+A c1 power 12,9,1,2500,3,0
+balance 4761739001010010 97500
+done 2
+",
+        counts: [1, 0, 1, 20],
+        marks: [8, 0],
+    },
+    // The first cryptogram: cut within the gate.
+    History {
+        changes: &[(
+            "word = 49",
+            "word = 49\ntear = { commit = 4, at = \"within\", write = 3 }",
+        )],
+        more: &[SECOND_PURCHASE],
+        told: "L0 power c1 10,9,0,0,3,0
+L0 end 1 cut first
+L0 power c1 11,9,0,0,3,0
+L0 end 2 approved offline
+S0 < e2048a023030
+A c1 power 12,9,1,2500,3,0
+balance 4761739001010010 97500
+done 2
+",
+        counts: [1, 0, 1, 20],
+        marks: [8, 0],
+    },
+    // The first cryptogram: cut within the page behind the gate.
+    History {
+        changes: &[(
+            "word = 49",
+            "word = 49\ntear = { commit = 4, at = \"within\", write = 4 }",
+        )],
+        more: &[SECOND_PURCHASE],
+        told: "L0 power c1 10,9,0,0,3,0
+L0 end 1 cut first
+L0 power c1 11,9,1,2500,3,0
+L0 end 2 approved offline
+S0 < e2048a023030
+A c1 power 12,9,2,5000,3,0
+balance 4761739001010010 97500
+done 2
+",
+        counts: [1, 0, 1, 20],
+        marks: [8, 0],
+    },
+    // The first cryptogram: kept, and its answer cut.
+    History {
+        changes: &[(
+            "word = 49",
+            "word = 49\ntear = { commit = 4, at = \"release\" }",
+        )],
+        more: &[SECOND_PURCHASE],
+        told: "L0 power c1 10,9,0,0,3,0
+L0 end 1 cut first
+L0 power c1 11,9,1,2500,3,0
+L0 end 2 approved offline
+S0 < e2048a023030
+A c1 power 12,9,2,5000,3,0
+balance 4761739001010010 97500
+done 2
+",
+        counts: [1, 0, 1, 20],
+        marks: [8, 0],
+    },
+];
