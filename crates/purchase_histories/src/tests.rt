@@ -91,7 +91,7 @@ fn replay(rt: &impl Abort, alloc: Global, history: &History) -> Result<(), Fail>
 }
 
 #[test]
-fn purchases_are_as_independent_implementations_report(rt: HostRuntime) -> Result<(), Fail> {
+fn purchases_are_as_an_independent_implementation_reports(rt: HostRuntime) -> Result<(), Fail> {
     for history in &HISTORIES {
         replay(&rt, rt.alloc(), history)?;
     }

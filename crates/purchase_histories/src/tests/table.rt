@@ -1,4 +1,4 @@
-//! Purchases with what two independent implementations report.
+//! Purchases with what an independent implementation of the rules reports.
 use super::document::{RIVAL_LANE, SECOND_CARD, SECOND_LANE, SECOND_PURCHASE};
 
 /// A document, and what becomes of it.
