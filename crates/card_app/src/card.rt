@@ -159,8 +159,7 @@ impl<'i, P: Pages> Card<'i, P> {
     }
 }
 
-/// Carries out a reply with this body: the decisions first, and then the answer. Gives the phase behind
-/// it.
+/// Carries out a reply with this body: its decisions, and then the answer. Gives the phase behind it.
 fn carry_out<P: Pages>(
     kept: Kept<P>,
     phase: Phase,

@@ -17,8 +17,7 @@ use card_cryptogram::{Body, Phase, is_record_named, put, replace};
 use card_files::{AppImage, Image};
 use card_state::{AppState, CardState};
 
-/// READ RECORD: the record P1 of a file of the selected application. Gives the status; the record goes
-/// to `out`.
+/// READ RECORD: record P1 of a file of the selected application goes to `out`. Gives the status.
 #[tactic(auto, unfolding(crate::specs::Files::record_row))]
 pub(crate) fn read_record(image: &Image, phase: Phase, command: &Command<'_>, out: &mut Body) -> u16
     requires { out.old.items ≡ [] }

@@ -79,8 +79,7 @@ fn show(image: &Image, state: &CardState, app: u8, out: &mut Body) -> u16
     }
 }
 
-/// SELECT: the first application whose name begins with the data, or the next one behind the selected
-/// one.
+/// SELECT: the first application whose name begins with the data, or the next behind the selected one.
 #[tactic(auto, unfolding(crate::specs::Files::select_row, crate::specs::Session::next_phase))]
 pub(crate) fn select(
     image: &Image,

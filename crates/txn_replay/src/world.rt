@@ -116,9 +116,8 @@ impl<'s, P: Pages> World<'s, P> {
     }
 
     /// One exchange of the lane of this index. A lane without a running purchase powers up the card of its
-    /// next one. A purchase whose dialogue is over ends in the same exchange. `false`, and then nothing has
-    /// happened: no purchase is left, or another lane's purchase has the card. After `AllocError` nothing
-    /// has changed.
+    /// next one; a purchase whose dialogue is over ends in the same exchange. `false`, and nothing happens,
+    /// where no purchase is left or another lane's has the card. After `AllocError` nothing has changed.
     pub fn turn(&mut self, lane: usize, lines: &mut Lines) -> Result<bool, AllocError>
         requires lane { lane < length self.old.scenario.lanes }
         requires empty { lines.old.items ≡ [] }
@@ -152,8 +151,8 @@ impl<'s, P: Pages> World<'s, P> {
     }
 
     /// The settlement message of this number, from 0, goes to the host: each lane's captures by purchase,
-    /// each as often as the scenario says. `false`, and then nothing has happened, where there is none.
-    /// After `AllocError` nothing has changed.
+    /// each as often as the scenario says. `false` where there is none; then, and after `AllocError`,
+    /// nothing has happened.
     pub fn settle(&mut self, number: u32, lines: &mut Lines) -> Result<bool, AllocError>
         requires empty { lines.old.items ≡ [] }
         ensures ok { OnOk result ((w : SpecWorld) → WorldStands self.old w → Goes self.new w (event.Settle number) lines.new.items) }
