@@ -1,7 +1,7 @@
 mod document;
 mod table;
 
-use document::BASE;
+use document::{CARD, ISSUER, LANE, PURCHASE};
 use emv_ports::{MemoryPages, MemorySink, MemorySource};
 use emv_top::{Finished, run};
 use std::alloc::Global;
@@ -9,19 +9,28 @@ use std::process::Abort;
 use std::test::Fail;
 use table::{HISTORIES, History};
 
-/// The text with one text in place of another.
-fn replaced(alloc: Global, text: &str, old: &str, new: &str) -> Result<String, Fail> {
-    let (front, rest) = text.split_once(old).ok_or("a text to replace")?;
-    Ok(format!(in alloc; "{front}{new}{rest}")?)
+/// Adds a text to a document, with other texts in place of some of its own.
+fn add(
+    alloc: Global,
+    document: &mut String,
+    text: &str,
+    changes: &[(&str, &str)],
+) -> Result<(), Fail> {
+    let mut changed = String::from_str(alloc, text)?;
+    for (old, new) in changes {
+        let (front, rest) = changed.split_once(old).ok_or("a text to replace")?;
+        changed = format!(in alloc; "{front}{new}{rest}")?;
+    }
+    document.push_str(&changed)?;
+    Ok(())
 }
 
 fn document_of(alloc: Global, history: &History) -> Result<String, Fail> {
-    let mut document = String::from_str(alloc, BASE)?;
-    for (old, new) in history.changes {
-        document = replaced(alloc, &document, old, new)?;
-    }
+    let base = format!(in alloc; "{ISSUER}{CARD}{LANE}{PURCHASE}")?;
+    let mut document = String::new(alloc);
+    add(alloc, &mut document, &base, history.changes)?;
     for part in history.more {
-        document.push_str(part)?;
+        add(alloc, &mut document, part.text, part.changes)?;
     }
     Ok(document)
 }

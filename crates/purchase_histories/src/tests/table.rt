@@ -1,5 +1,5 @@
 //! Purchases with what an independent implementation of the rules reports.
-use super::document::{RIVAL_LANE, SECOND_CARD, SECOND_LANE, SECOND_PURCHASE};
+use super::document::{Part, SECOND_CARD, SECOND_LANE, WITH_FIRST_CARD, WITH_SECOND_CARD};
 
 /// A document, and what becomes of it.
 #[derive(Clone, Copy)]
@@ -7,7 +7,7 @@ pub struct History {
     /// The texts of the base document that are others here.
     pub changes: &'static [(&'static str, &'static str)],
     /// What stands behind it.
-    pub more: &'static [&'static str],
+    pub more: &'static [Part],
     /// The report without its exchanges, but with the replies to the settlement, and the end lines up to
     /// their bits.
     pub told: &'static str,
@@ -39,7 +39,7 @@ done 1
             ("balance = 100000", "balance = 3000"),
             ("count_limit = 5", "count_limit = 0"),
         ],
-        more: &[SECOND_CARD, SECOND_LANE],
+        more: &[SECOND_CARD, SECOND_LANE, WITH_SECOND_CARD],
         told: "L0 power c1 10,9,0,0,3,0
 L1 power c2 10,9,0,0,3,0
 L0 end 1 approved online
@@ -63,7 +63,7 @@ done 2
             ("balance = 100000", "balance = 3000"),
             ("count_limit = 5", "count_limit = 0"),
         ],
-        more: &[SECOND_CARD, SECOND_LANE],
+        more: &[SECOND_CARD, SECOND_LANE, WITH_SECOND_CARD],
         told: "L1 power c2 10,9,0,0,3,0
 L1 end 1 approved online
 L0 power c1 10,9,0,0,3,0
@@ -80,7 +80,7 @@ done 2
     // A card that two terminals want.
     History {
         changes: &[],
-        more: &[RIVAL_LANE],
+        more: &[SECOND_LANE, WITH_FIRST_CARD],
         told: "L0 power c1 10,9,0,0,3,0
 L0 end 1 approved offline
 L1 power c1 11,9,1,2500,3,0
@@ -200,7 +200,7 @@ done 1
             "word = 49",
             "word = 49\ntear = { commit = 0, at = \"before\", write = 1 }",
         )],
-        more: &[SECOND_PURCHASE],
+        more: &[WITH_FIRST_CARD],
         told: "L0 power c1 torn
 L0 end 1 cut power
 L0 power c1 10,9,0,0,3,0
@@ -219,7 +219,7 @@ done 2
             "word = 49",
             "word = 49\ntear = { commit = 0, at = \"release\" }",
         )],
-        more: &[SECOND_PURCHASE],
+        more: &[WITH_FIRST_CARD],
         told: "L0 power c1 torn
 L0 end 1 cut power
 L0 power c1 10,9,0,0,3,0
@@ -238,7 +238,7 @@ done 2
             "word = 49",
             "word = 49\ntear = { commit = 1, at = \"before\", write = 1 }",
         )],
-        more: &[SECOND_PURCHASE],
+        more: &[WITH_FIRST_CARD],
         told: "L0 power c1 10,9,0,0,3,0
 L0 end 1 cut initiate
 L0 power c1 10,9,0,0,3,0
@@ -257,7 +257,7 @@ done 2
             "word = 49",
             "word = 49\ntear = { commit = 1, at = \"within\", write = 2 }",
         )],
-        more: &[SECOND_PURCHASE],
+        more: &[WITH_FIRST_CARD],
         told: "L0 power c1 10,9,0,0,3,0
 L0 end 1 cut initiate
 L0 power c1 10,9,0,0,3,0
@@ -276,7 +276,7 @@ done 2
             "word = 49",
             "word = 49\ntear = { commit = 1, at = \"within\", write = 3 }",
         )],
-        more: &[SECOND_PURCHASE],
+        more: &[WITH_FIRST_CARD],
         told: "L0 power c1 10,9,0,0,3,0
 L0 end 1 cut initiate
 L0 power c1 10,9,0,0,3,0
@@ -295,7 +295,7 @@ done 2
             "word = 49",
             "word = 49\ntear = { commit = 1, at = \"within\", write = 4 }",
         )],
-        more: &[SECOND_PURCHASE],
+        more: &[WITH_FIRST_CARD],
         told: "L0 power c1 10,9,0,0,3,0
 L0 end 1 cut initiate
 L0 power c1 11,9,0,0,3,0
@@ -314,7 +314,7 @@ done 2
             "word = 49",
             "word = 49\ntear = { commit = 1, at = \"release\" }",
         )],
-        more: &[SECOND_PURCHASE],
+        more: &[WITH_FIRST_CARD],
         told: "L0 power c1 10,9,0,0,3,0
 L0 end 1 cut initiate
 L0 power c1 11,9,0,0,3,0
@@ -333,7 +333,7 @@ done 2
             "word = 49",
             "word = 49\ntear = { commit = 2, at = \"before\", write = 1 }",
         )],
-        more: &[SECOND_PURCHASE],
+        more: &[WITH_FIRST_CARD],
         told: "L0 power c1 10,9,0,0,3,0
 L0 end 1 cut verify
 L0 power c1 11,9,0,0,3,0
@@ -352,7 +352,7 @@ done 2
             "word = 49",
             "word = 49\ntear = { commit = 2, at = \"within\", write = 2 }",
         )],
-        more: &[SECOND_PURCHASE],
+        more: &[WITH_FIRST_CARD],
         told: "L0 power c1 10,9,0,0,3,0
 L0 end 1 cut verify
 L0 power c1 11,9,0,0,3,0
@@ -371,7 +371,7 @@ done 2
             "word = 49",
             "word = 49\ntear = { commit = 2, at = \"within\", write = 3 }",
         )],
-        more: &[SECOND_PURCHASE],
+        more: &[WITH_FIRST_CARD],
         told: "L0 power c1 10,9,0,0,3,0
 L0 end 1 cut verify
 L0 power c1 11,9,0,0,3,0
@@ -390,7 +390,7 @@ done 2
             "word = 49",
             "word = 49\ntear = { commit = 2, at = \"within\", write = 4 }",
         )],
-        more: &[SECOND_PURCHASE],
+        more: &[WITH_FIRST_CARD],
         told: "L0 power c1 10,9,0,0,3,0
 L0 end 1 cut verify
 L0 power c1 11,9,0,0,2,0
@@ -409,7 +409,7 @@ done 2
             "word = 49",
             "word = 49\ntear = { commit = 2, at = \"release\" }",
         )],
-        more: &[SECOND_PURCHASE],
+        more: &[WITH_FIRST_CARD],
         told: "L0 power c1 10,9,0,0,3,0
 L0 end 1 cut verify
 L0 power c1 11,9,0,0,2,0
@@ -428,7 +428,7 @@ done 2
             "word = 49",
             "word = 49\ntear = { commit = 3, at = \"before\", write = 1 }",
         )],
-        more: &[SECOND_PURCHASE],
+        more: &[WITH_FIRST_CARD],
         told: "L0 power c1 10,9,0,0,3,0
 L0 end 1 cut verify
 L0 power c1 11,9,0,0,2,0
@@ -447,7 +447,7 @@ done 2
             "word = 49",
             "word = 49\ntear = { commit = 3, at = \"within\", write = 2 }",
         )],
-        more: &[SECOND_PURCHASE],
+        more: &[WITH_FIRST_CARD],
         told: "L0 power c1 10,9,0,0,3,0
 L0 end 1 cut verify
 L0 power c1 11,9,0,0,2,0
@@ -466,7 +466,7 @@ done 2
             "word = 49",
             "word = 49\ntear = { commit = 3, at = \"within\", write = 3 }",
         )],
-        more: &[SECOND_PURCHASE],
+        more: &[WITH_FIRST_CARD],
         told: "L0 power c1 10,9,0,0,3,0
 L0 end 1 cut verify
 L0 power c1 11,9,0,0,2,0
@@ -485,7 +485,7 @@ done 2
             "word = 49",
             "word = 49\ntear = { commit = 3, at = \"within\", write = 4 }",
         )],
-        more: &[SECOND_PURCHASE],
+        more: &[WITH_FIRST_CARD],
         told: "L0 power c1 10,9,0,0,3,0
 L0 end 1 cut verify
 L0 power c1 11,9,0,0,3,0
@@ -504,7 +504,7 @@ done 2
             "word = 49",
             "word = 49\ntear = { commit = 3, at = \"release\" }",
         )],
-        more: &[SECOND_PURCHASE],
+        more: &[WITH_FIRST_CARD],
         told: "L0 power c1 10,9,0,0,3,0
 L0 end 1 cut verify
 L0 power c1 11,9,0,0,3,0
@@ -523,7 +523,7 @@ done 2
             "word = 49",
             "word = 49\ntear = { commit = 4, at = \"before\", write = 1 }",
         )],
-        more: &[SECOND_PURCHASE],
+        more: &[WITH_FIRST_CARD],
         told: "L0 power c1 10,9,0,0,3,0
 L0 end 1 cut first
 L0 power c1 11,9,0,0,3,0
@@ -542,7 +542,7 @@ done 2
             "word = 49",
             "word = 49\ntear = { commit = 4, at = \"within\", write = 2 }",
         )],
-        more: &[SECOND_PURCHASE],
+        more: &[WITH_FIRST_CARD],
         told: "L0 power c1 10,9,0,0,3,0
 L0 end 1 cut first
 L0 power c1 11,9,0,0,3,0
@@ -561,7 +561,7 @@ done 2
             "word = 49",
             "word = 49\ntear = { commit = 4, at = \"within\", write = 3 }",
         )],
-        more: &[SECOND_PURCHASE],
+        more: &[WITH_FIRST_CARD],
         told: "L0 power c1 10,9,0,0,3,0
 L0 end 1 cut first
 L0 power c1 11,9,0,0,3,0
@@ -580,7 +580,7 @@ done 2
             "word = 49",
             "word = 49\ntear = { commit = 4, at = \"within\", write = 4 }",
         )],
-        more: &[SECOND_PURCHASE],
+        more: &[WITH_FIRST_CARD],
         told: "L0 power c1 10,9,0,0,3,0
 L0 end 1 cut first
 L0 power c1 11,9,1,2500,3,0
@@ -599,7 +599,7 @@ done 2
             "word = 49",
             "word = 49\ntear = { commit = 4, at = \"release\" }",
         )],
-        more: &[SECOND_PURCHASE],
+        more: &[WITH_FIRST_CARD],
         told: "L0 power c1 10,9,0,0,3,0
 L0 end 1 cut first
 L0 power c1 11,9,1,2500,3,0
