@@ -17,7 +17,7 @@ use Rattle.emv_top.proofs.ReadRuns.{read_fair}
 use Rattle.emv_top.proofs.ReadSettled.{read_settled}
 use Rattle.emv_top.proofs.Settled.{run_settled}
 use Rattle.kernel.specs.Tally.{Counts}
-use Rattle.report_text.specs.Refusal.{usage_line}
+use Rattle.report_text.specs.CommandLine.{usage_line}
 use Rattle.scenario.specs.Plan.{ScenarioData}
 use Rattle.scenario_fields.specs.Line.{refused_line}
 use Rattle.scenario_fields.specs.declared.fault.ScenarioFault.{ScenarioFault}

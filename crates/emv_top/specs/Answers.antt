@@ -14,7 +14,7 @@ use Rattle.emv_top.specs.declared.top.Status.TheVariants.{Done, Refused, Usage, 
 use Rattle.emv_top.specs.declared.words.Order.{Order}
 use Rattle.emv_top.specs.declared.words.Order.TheVariants.{Read, Replay}
 use Rattle.kernel.specs.Tally.{Counts}
-use Rattle.report_text.specs.Refusal.{usage_line}
+use Rattle.report_text.specs.CommandLine.{usage_line}
 use Rattle.report_text.specs.declared.line.Line.{Line}
 use Rattle.scenario.specs.Cards.{CardData}
 use Rattle.scenario.specs.Plan.{ScenarioData}

@@ -11,7 +11,7 @@ ghost use Rattle.emv_top.specs.Input.{first_purchases};
 ghost use Rattle.emv_top.specs.StatusCode.{code_of};
 ghost use Rattle.emv_top.specs.Words.{order_of};
 ghost use Rattle.emv_top.specs.declared.words.Order.{Order};
-ghost use Rattle.report_text.specs.Refusal.{usage_line};
+ghost use Rattle.report_text.specs.CommandLine.{usage_line};
 ghost use Rattle.scenario.specs.Plan.{IsScenario, ScenarioData};
 ghost use Rattle.scenario_fields.specs.Line.{refused_line};
 ghost use Rattle.txn_replay.specs.Laws.{IsFair};

@@ -1,4 +1,4 @@
 pub mod Pieces
 pub mod Words
 pub mod Text
-pub mod Refusal
+pub mod CommandLine

@@ -1,15 +1,15 @@
-//! The report of a run, line by line: the exact bytes of each line, and of the lines that a
-//! refused input or a wrong command line gets in its place.
+//! The report of a run, line by line: the exact bytes of each line, and of the line that a
+//! wrong command line gets in its place.
 #![tactic(auto)]
 
+pub mod command_line;
 pub mod line;
 pub mod pieces;
-pub mod refusal;
 pub mod words;
 pub mod write;
 
+pub use command_line::usage;
 pub use line::{EndParts, Line, Shown};
-pub use refusal::{Refusal, usage};
 pub use write::{Text, write_line};
 
 #[cfg(test)]

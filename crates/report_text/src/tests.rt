@@ -315,18 +315,9 @@ fn end_lines(rt: HostRuntime) {
 }
 
 #[test]
-fn lines_in_a_reports_place(rt: HostRuntime) {
+fn the_line_of_a_wrong_command_line(rt: HostRuntime) {
     assert_eq!(rt;
         usage(),
         b"usage: emvrun read|replay|generate N\n".as_slice()
     );
-    for (refusal, line) in [
-        (
-            Refusal::OutOfLimit,
-            b"refused 4 OutOfLimit file\n".as_slice(),
-        ),
-        (Refusal::NotBuilt, b"refused 7 NotBuilt file\n"),
-    ] {
-        assert_eq!(rt; refusal.line(), line);
-    }
 }
