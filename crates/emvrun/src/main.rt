@@ -1,33 +1,14 @@
 //! `emvrun`: terminals, cards and an issuer's host from one document, exchange by exchange.
 #![tactic(auto)]
 
-ghost use Rattle.std.specs.Prelude.{◌≡◌, IfOk, length, map};
-ghost use Rattle.std.specs.List.{All};
-ghost use Rattle.emv_ports.specs.Memory.{IsBlank};
-
 #[cfg(test)]
 mod tests;
 
-use emv_ports::{MemoryPages, StdinSource, StdoutSink};
+use emv_ports::{StdinSource, StdoutSink};
 use emv_top::run;
-use std::alloc::{AllocError, Global};
+use memory_bank::blank_bank;
 use std::process::ExitCode;
 use std::{env, io};
-
-/// A run has pages for so many cards.
-const CARDS: usize = 64;
-
-/// Blank pages for the cards.
-fn blank_bank(alloc: Global) -> Result<Vec<MemoryPages>, AllocError>
-    ensures pages { IfOk result (λ bank. length bank.items ≡ 64) }
-    ensures blank { IfOk result (λ bank. All IsBlank (map (λ pages. pages.memory) bank.items)) }
-{
-    let mut bank = Vec::with_capacity(alloc, CARDS)?;
-    for _card in 0..CARDS {
-        bank.push(MemoryPages::blank())?;
-    }
-    Ok(bank)
-}
 
 /// Answers the words of the command line: standard input is the document, standard output gets each
 /// line, and the exit status is that of the top call. Words that are no text are answered as words

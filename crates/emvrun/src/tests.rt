@@ -1,9 +1,9 @@
 ghost use Rattle.std.specs.Prelude.{ℕ, List, Some, None};
 ghost use Rattle.std.specs.declared.option.Option.{Option};
 
-use crate::blank_bank;
 use emv_ports::{Failed, MemoryPages, MemorySink, MemorySource, Sink, Source};
 use emv_top::{Finished, run};
+use memory_bank::blank_bank;
 use std::alloc::Global;
 use std::test::Fail;
 

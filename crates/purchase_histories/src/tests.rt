@@ -4,6 +4,7 @@ mod table;
 use document::{CARD, ISSUER, LANE, PURCHASE};
 use emv_ports::{MemoryPages, MemorySink, MemorySource};
 use emv_top::{Finished, run};
+use memory_bank::blank_bank;
 use std::alloc::Global;
 use std::process::Abort;
 use std::test::Fail;
@@ -66,14 +67,6 @@ fn told_by(alloc: Global, report: &[u8]) -> Result<String, Fail> {
         }
     }
     Ok(told)
-}
-
-fn blank_bank(alloc: Global) -> Result<Vec<MemoryPages>, Fail> {
-    let mut bank = Vec::new(alloc);
-    for _card in 0..64 {
-        bank.push(MemoryPages::blank())?;
-    }
-    Ok(bank)
 }
 
 fn marks_of(finished: &Finished<MemoryPages>, card: usize) -> Option<u32> {

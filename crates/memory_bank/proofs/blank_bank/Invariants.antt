@@ -1,7 +1,7 @@
 use Rattle.std.proofs.Common.{◌≡◌, length, map}
 use Rattle.std.specs.List.{All}
 use Rattle.emv_ports.specs.Memory.{IsBlank}
-use Rattle.emvrun.proofs.blank_bank.Given as goal
+use Rattle.memory_bank.proofs.blank_bank.Given as goal
 
 abbrev pub invariant-loop-card : goal.invariant-loop-card
 invariant-loop-card l = record {
