@@ -1,8 +1,9 @@
 ghost use Rattle.std.specs.Prelude.{ℕ, List, Some, None};
 ghost use Rattle.std.specs.declared.option.Option.{Option};
 
-use emv_ports::{Failed, MemoryPages, MemorySink, MemorySource, Sink, Source};
+use emv_ports::{Failed, Held, MemoryPages, MemorySink, MemorySource, Sink, Source};
 use emv_top::{Finished, run};
+use kernel::Tally;
 use memory_bank::blank_bank;
 use std::alloc::Global;
 use std::test::Fail;
@@ -70,20 +71,21 @@ fn sink_of(alloc: Global, fails: &[u32]) -> Result<MemorySink, Fail> {
     Ok(MemorySink::new(alloc, 100_000, fails.to_vec(alloc)?)?)
 }
 
-/// How a run ended and what the sink holds.
+/// How a run ended, how often the first card's pages were marked, and what the sink holds.
 #[derive(Drop)]
 struct Outcome {
-    finished: Finished<MemoryPages>,
+    status: u8,
+    cards: usize,
+    marks: u32,
+    tally: Tally,
     text: Vec<u8>,
 }
 
-impl Outcome {
-    /// How often the first card's pages were marked.
-    fn marks(&self) -> u32 {
-        match self.finished.bank.first() {
-            Some(pages) => pages.marks(),
-            None => 0,
-        }
+/// How often the first pages of a bank were marked.
+fn first_marks(bank: Vec<Held<MemoryPages>>) -> u32 {
+    match bank.into_iter().next() {
+        Some(pages) => pages.into_inner().marks(),
+        None => 0,
     }
 }
 
@@ -98,9 +100,16 @@ fn run_of(
     let bank = blank_bank(alloc)?;
     let mut source = source_of(alloc, document, fails.0)?;
     let mut sink = sink_of(alloc, fails.1)?;
-    let finished = run(alloc, &words, bank, &mut source, &mut sink);
+    let Finished {
+        status,
+        bank,
+        tally,
+    } = run(alloc, &words, bank, &mut source, &mut sink);
     Ok(Outcome {
-        finished,
+        status,
+        cards: bank.len(),
+        marks: first_marks(bank),
+        tally,
         text: sink.bytes().to_vec(alloc)?,
     })
 }
@@ -113,11 +122,11 @@ fn sound(alloc: Global, word: &str, document: &str) -> Result<Outcome, Fail> {
 #[test]
 fn a_payment_is_replayed_and_counted(rt: HostRuntime) -> Result<(), Fail> {
     let ended = sound(rt.alloc(), "replay", BASE)?;
-    assert_eq!(rt; ended.finished.status, 0);
+    assert_eq!(rt; ended.status, 0);
     assert_eq!(rt; ended.text.as_slice(), BASE_REPORT.as_bytes());
-    assert_eq!(rt; ended.finished.tally.counts(), [1, 0, 0, 10]);
-    assert_eq!(rt; ended.marks(), 4);
-    assert_eq!(rt; ended.finished.bank.len(), 64);
+    assert_eq!(rt; ended.tally.counts(), [1, 0, 0, 10]);
+    assert_eq!(rt; ended.marks, 4);
+    assert_eq!(rt; ended.cards, 64);
     Ok(())
 }
 
@@ -125,10 +134,10 @@ fn a_payment_is_replayed_and_counted(rt: HostRuntime) -> Result<(), Fail> {
 fn a_card_is_read(rt: HostRuntime) -> Result<(), Fail> {
     for words in [["read"].as_slice(), &["--", "read"], &["read", "--"]] {
         let ended = run_of(rt.alloc(), words, BASE.as_bytes(), (&[], &[]))?;
-        assert_eq!(rt; ended.finished.status, 0);
+        assert_eq!(rt; ended.status, 0);
         assert_eq!(rt; ended.text.as_slice(), BASE_READ.as_bytes());
-        assert_eq!(rt; ended.finished.tally.counts(), [0, 0, 0, 0]);
-        assert_eq!(rt; ended.marks(), 1);
+        assert_eq!(rt; ended.tally.counts(), [0, 0, 0, 0]);
+        assert_eq!(rt; ended.marks, 1);
     }
     Ok(())
 }
@@ -146,12 +155,12 @@ fn other_words_give_the_usage_line(rt: HostRuntime) -> Result<(), Fail> {
         &["generate"],
     ] {
         let ended = run_of(rt.alloc(), words, BASE.as_bytes(), (&[1], &[]))?;
-        assert_eq!(rt; ended.finished.status, 2);
+        assert_eq!(rt; ended.status, 2);
         assert_eq!(rt;
             ended.text.as_slice(),
             b"usage: emvrun read|replay|generate N\n".as_slice()
         );
-        assert_eq!(rt; ended.marks(), 0);
+        assert_eq!(rt; ended.marks, 0);
     }
     Ok(())
 }

@@ -5,20 +5,21 @@ ghost use Rattle.std.specs.Prelude.{◌≡◌, IfOk, length, map};
 ghost use Rattle.std.specs.List.{All};
 ghost use Rattle.emv_ports.specs.Memory.{IsBlank};
 
-use emv_ports::MemoryPages;
+use emv_ports::{Held, MemoryPages};
 use std::alloc::{AllocError, Global};
 
 /// A run has pages for so many cards.
 const CARDS: usize = 64;
 
-/// Blank pages, off, for the cards of a run. `AllocError` is want of memory.
-pub fn blank_bank(alloc: Global) -> Result<Vec<MemoryPages>, AllocError>
+/// Blank pages, off, for the cards of a run, each in a box: a card moves a pointer, and not its pages.
+/// `AllocError` is want of memory.
+pub fn blank_bank(alloc: Global) -> Result<Vec<Held<MemoryPages>>, AllocError>
     ensures pages { IfOk result (λ bank. length bank.items ≡ 64) }
     ensures blank { IfOk result (λ bank. All IsBlank (map (λ pages. pages.memory) bank.items)) }
 {
     let mut bank = Vec::with_capacity(alloc, CARDS)?;
     for _card in 0..CARDS {
-        bank.push(MemoryPages::blank())?;
+        bank.push(Held::new(alloc, MemoryPages::blank())?)?;
     }
     Ok(bank)
 }

@@ -2,8 +2,8 @@ mod document;
 mod table;
 
 use document::{CARD, ISSUER, LANE, PURCHASE};
-use emv_ports::{MemoryPages, MemorySink, MemorySource};
-use emv_top::{Finished, run};
+use emv_ports::{MemorySink, MemorySource};
+use emv_top::run;
 use memory_bank::blank_bank;
 use std::alloc::Global;
 use std::process::Abort;
@@ -69,13 +69,6 @@ fn told_by(alloc: Global, report: &[u8]) -> Result<String, Fail> {
     Ok(told)
 }
 
-fn marks_of(finished: &Finished<MemoryPages>, card: usize) -> Option<u32> {
-    match finished.bank.get(card) {
-        Some(pages) => Some(pages.marks()),
-        None => None,
-    }
-}
-
 fn replay(rt: &impl Abort, alloc: Global, history: &History) -> Result<(), Fail> {
     let document = document_of(alloc, history)?;
     let mut words = Vec::new(alloc);
@@ -86,8 +79,8 @@ fn replay(rt: &impl Abort, alloc: Global, history: &History) -> Result<(), Fail>
     assert_eq!(rt; finished.status, 0);
     assert_eq!(rt; told_by(alloc, sink.bytes())?.as_str(), history.told);
     assert_eq!(rt; finished.tally.counts(), history.counts);
-    for (card, marks) in history.marks.iter().enumerate() {
-        assert_eq!(rt; marks_of(&finished, card), Some(*marks));
+    for (pages, marks) in finished.bank.into_iter().zip(history.marks) {
+        assert_eq!(rt; pages.into_inner().marks(), marks);
     }
     Ok(())
 }

@@ -49,7 +49,7 @@ const FAULTS: [(&str, &str, &str); 4] = [
 fn is_refused(alloc: Global, bytes: &[u8], line: &str) -> Result<bool, Fail> {
     for word in ["read", "replay"] {
         let ended = run_of(alloc, &[word], bytes, (&[], &[]))?;
-        if ended.finished.status != 1 || ended.text.as_slice() != line.as_bytes() {
+        if ended.status != 1 || ended.text.as_slice() != line.as_bytes() {
             return Ok(false);
         }
     }
@@ -81,7 +81,7 @@ fn a_card_is_read_in_a_purchase(rt: HostRuntime) -> Result<(), Fail> {
         &rt, "a lane",
     );
     let ended = run_of(rt.alloc(), &["read"], text.as_bytes(), (&[], &[]))?;
-    assert_eq!(rt; ended.finished.status, 1);
+    assert_eq!(rt; ended.status, 1);
     assert_eq!(rt;
         ended.text.as_slice(),
         b"refused 6 UnknownName lane[0].purchase[0]\n".as_slice()

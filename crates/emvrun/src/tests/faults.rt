@@ -45,16 +45,16 @@ fn decided_at(number: u32) -> u32 {
 fn a_sink_may_fail_at_each_line(rt: HostRuntime) -> Result<(), Fail> {
     for number in 1..=line_count(BASE_REPORT) {
         let ended = cut_at(rt.alloc(), BASE, number)?;
-        assert_eq!(rt; ended.finished.status, 4);
+        assert_eq!(rt; ended.status, 4);
         assert_eq!(rt; ended.text.as_slice(), first_lines(BASE_REPORT, number - 1));
-        assert_eq!(rt; ended.marks(), decided_at(number));
+        assert_eq!(rt; ended.marks, decided_at(number));
         let approved = if number < 20 {
             [0, 0, 0, 0]
         } else {
             [1, 0, 0, 10]
         };
-        assert_eq!(rt; ended.finished.tally.counts(), approved);
-        assert_eq!(rt; ended.finished.bank.len(), 64);
+        assert_eq!(rt; ended.tally.counts(), approved);
+        assert_eq!(rt; ended.cards, 64);
     }
     Ok(())
 }
@@ -62,13 +62,13 @@ fn a_sink_may_fail_at_each_line(rt: HostRuntime) -> Result<(), Fail> {
 #[test]
 fn a_sink_may_fail_at_each_line_of_scripts_and_tears(rt: HostRuntime) -> Result<(), Fail> {
     let whole = sound(rt.alloc(), "replay", TORN)?;
-    assert_eq!(rt; whole.finished.status, 0);
+    assert_eq!(rt; whole.status, 0);
     assert_eq!(rt; whole.text.as_slice(), TORN_REPORT.as_bytes());
     for number in 1..=line_count(TORN_REPORT) {
         let ended = cut_at(rt.alloc(), TORN, number)?;
-        assert_eq!(rt; ended.finished.status, 4);
+        assert_eq!(rt; ended.status, 4);
         assert_eq!(rt; ended.text.as_slice(), first_lines(TORN_REPORT, number - 1));
-        assert!(rt; ended.marks() <= whole.marks());
+        assert!(rt; ended.marks <= whole.marks);
     }
     Ok(())
 }
@@ -77,10 +77,10 @@ fn a_sink_may_fail_at_each_line_of_scripts_and_tears(rt: HostRuntime) -> Result<
 fn a_source_may_fail(rt: HostRuntime) -> Result<(), Fail> {
     for word in ["read", "replay"] {
         let unread = run_of(rt.alloc(), &[word], BASE.as_bytes(), (&[1], &[]))?;
-        assert_eq!(rt; unread.finished.status, 3);
+        assert_eq!(rt; unread.status, 3);
         assert!(rt; unread.text.is_empty());
-        assert_eq!(rt; unread.marks(), 0);
-        assert_eq!(rt; unread.finished.tally.counts(), [0, 0, 0, 0]);
+        assert_eq!(rt; unread.marks, 0);
+        assert_eq!(rt; unread.tally.counts(), [0, 0, 0, 0]);
     }
     Ok(())
 }
@@ -88,8 +88,8 @@ fn a_source_may_fail(rt: HostRuntime) -> Result<(), Fail> {
 #[test]
 fn a_refusal_may_fail(rt: HostRuntime) -> Result<(), Fail> {
     let unwritten = run_of(rt.alloc(), &["replay"], b"", (&[], &[1]))?;
-    assert_eq!(rt; unwritten.finished.status, 4);
+    assert_eq!(rt; unwritten.status, 4);
     assert!(rt; unwritten.text.is_empty());
-    assert_eq!(rt; unwritten.marks(), 0);
+    assert_eq!(rt; unwritten.marks, 0);
     Ok(())
 }
