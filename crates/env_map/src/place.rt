@@ -118,7 +118,19 @@ fn rotate_behind(bytes: &mut [u8], start: usize, count: usize)
     ensures { let kept = length bytes.old - count in
         bytes.new ≡ take start bytes.old ++ (drop kept bytes.old ++ drop start (take kept bytes.old)) }
 {
-    bytes[start..].rotate_right(count);
+    bring_to_front(&mut bytes[start..], count);
+}
+
+/// Moves the last bytes, as many as `count`, before the others. `rotate_right` would clear a buffer for them.
+fn bring_to_front(bytes: &mut [u8], count: usize)
+    requires { count ≤ length bytes.old }
+    ensures { let kept = length bytes.old - count in
+        bytes.new ≡ drop kept bytes.old ++ take kept bytes.old }
+{
+    bytes.reverse();
+    let (front, behind) = bytes.split_at_mut(count);
+    front.reverse();
+    behind.reverse();
 }
 
 /// Writes bytes over as many others.

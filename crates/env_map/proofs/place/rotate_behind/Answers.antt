@@ -21,5 +21,5 @@ rotated bytes ys start count within is_rotated =
 
 pub returns : goal.returns
 returns c =
-    rotated c.args.bytes.now c.rotate_right.new.self c.args.start c.args.count c.requires
-    (rw (to_end c.args.bytes.now c.args.start) at c.rotate_right.ensures.after)
+    rotated c.args.bytes.now c.bring_to_front.new.bytes c.args.start c.args.count c.requires
+    (rw (to_end c.args.bytes.now c.args.start) at c.bring_to_front.ensures)
