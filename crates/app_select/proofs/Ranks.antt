@@ -1,6 +1,6 @@
 -- The candidates by name, by confirmation and by rank.
-use Rattle.std.proofs.Common.{◌≡◌, ℕ, zero, suc, ◌+◌, ◌-◌, ◌≤◌, ◌<◌, ◌&&◌, ◌||◌, not, Bool, true, false, List, [], ◌∷◌, ◌++◌, length, take, drop, get_or, refl, sym, ap, ◌∙◌, arith, if◌then◌else◌, append_assoc, append-nil, length-append}
-use Rattle.std.specs.List.{filter, list_any}
+use Rattle.std.proofs.Common.{◌≡◌, ℕ, zero, suc, ◌+◌, ◌-◌, ◌%◌, ◌==◌, ◌≤◌, ◌<◌, ◌&&◌, ◌||◌, not, Bool, true, false, List, [], ◌∷◌, ◌++◌, length, take, drop, get_or, refl, sym, ap, ◌∙◌, arith, if◌then◌else◌, Option, Some, None, append_assoc, append-nil, length-append}
+use Rattle.std.specs.List.{filter, list_any, slice_get}
 use Rattle.std.specs.Str.{bytes_eq}
 use Rattle.std.proofs.lemmas.Bool.Decides.{nat_tests}
 use Rattle.std.proofs.lemmas.List.{map-append, take_more, drop_more, drop_all, length-map}
@@ -69,6 +69,58 @@ one_more rank (suc ranks) candidate rest = one_more_by rank ranks candidate rest
 by_rank-none : (rank ranks : ℕ) → by_rank rank ranks [] ≡ []
 by_rank-none rank zero = refl
 by_rank-none rank (suc ranks) = by_rank-none (rank + 1) ranks
+
+rank_within_by : (byte : ℕ) (test : Bool) → (byte % 16 == 0) ≡ test → (1 ≤ rank_of (Some byte)) × (rank_of (Some byte) ≤ 16)
+rank_within_by byte true is = rw is (omega arith, omega arith)
+rank_within_by byte false is =
+    let some : 1 ≤ byte % 16 = grind (arith, nat_tests) in
+    rw is (some, omega arith)
+
+rank_within : (priority : Option ℕ) → (1 ≤ rank_of priority) × (rank_of priority ≤ 16)
+rank_within None = (omega arith, omega arith)
+rank_within (Some byte) = rank_within_by byte (byte % 16 == 0) refl
+
+-- one candidate comes at its rank
+alone_by : (rank ranks : ℕ) (candidate : CandidateData) (test : Bool) → has_rank rank candidate ≡ test → rank ≤ rank_of candidate.priority
+    → rank_of candidate.priority < rank + suc ranks
+    → (rank + 1 ≤ rank_of candidate.priority → by_rank (rank + 1) ranks (candidate ∷ []) ≡ candidate ∷ [])
+    → by_rank rank (suc ranks) (candidate ∷ []) ≡ candidate ∷ []
+alone_by rank ranks candidate true is above below later =
+    let here : rank_of candidate.priority < rank + 1 = grind (arith, nat_tests) in
+    rw (is, passed (rank + 1) ranks candidate [] here, by_rank-none (rank + 1) ranks) refl
+alone_by rank ranks candidate false is above below later =
+    let behind : rank + 1 ≤ rank_of candidate.priority = grind (arith, nat_tests) in
+    rw is (later behind)
+
+alone_from : (rank ranks : ℕ) (candidate : CandidateData) → rank ≤ rank_of candidate.priority → rank_of candidate.priority < rank + ranks → by_rank rank ranks (candidate ∷ []) ≡ candidate ∷ []
+alone_from rank zero candidate above below = grind arith
+alone_from rank (suc ranks) candidate above below =
+    alone_by rank ranks candidate (has_rank rank candidate) refl above below (λ behind. alone_from (rank + 1) ranks candidate behind (omega (arith, below)))
+
+pub none_found : (confirm : Bool) → candidates confirm [] ≡ []
+unfolding candidates
+none_found confirm = by_rank-none 1 16
+
+pub one_found : (confirm : Bool) (candidate : CandidateData) → candidates confirm (candidate ∷ []) ≡ (if is_allowed confirm candidate then candidate ∷ [] else [])
+unfolding candidates
+one_found confirm candidate =
+    let within = rank_within candidate.priority in
+    elim (is_allowed confirm candidate) as (λ b. ordered (if b then candidate ∷ [] else []) ≡ (if b then candidate ∷ [] else [])) [
+      | true ↦ alone_from 1 16 candidate within.0 (omega (arith, within.1))
+      | false ↦ by_rank-none 1 16
+    ]
+
+pub none_left : (found : List Candidate) → slice_get found 0 ≡ None → found ≡ []
+none_left [] is = refl
+none_left (candidate ∷ found) is = cc
+
+pub one_left : (confirm : Bool) (found : List Candidate) (only : Candidate) (stays : Bool) → length found < 2 → slice_get found 0 ≡ Some only → stays ≡ is_allowed confirm (seen_candidate only)
+    → candidates confirm (seen_all found) ≡ (if stays then seen_all found else [])
+one_left confirm [] only stays few is same = cc
+one_left confirm (first ∷ []) only stays few is same =
+    let it : first ≡ only = cc in
+    rw (it, same) (one_found confirm (seen_candidate only))
+one_left confirm (first ∷ second ∷ found) only stays few is same = grind arith
 
 by_rank-few : (rank ranks : ℕ) (found : List CandidateData) → length (by_rank rank ranks found) ≤ length found
 by_rank-few rank ranks [] = rw (by_rank-none rank ranks) (omega arith)

@@ -104,8 +104,12 @@ impl<'s> Candidates<'s> {
         ensures candidates { self.new ≡ spec.candidates confirm self.old }
         ensures few { length self.new ≤ length self.old }
     {
-        let found = self.list.take();
-        push_all(&found, confirm, &mut self.list);
+        if self.list.len() < 2 {
+            leave_allowed(confirm, &mut self.list);
+        } else {
+            let found = self.list.take();
+            push_all(&found, confirm, &mut self.list);
+        }
     }
 }
 
@@ -202,5 +206,20 @@ fn push_all<'s>(found: &[Candidate<'s>], confirm: bool, list: &mut List<'s>)
 {
     for rank in 1..=LAST_RANK {
         push_ranked(found, confirm, rank, list);
+    }
+}
+
+/// Leaves the one application that was found where it may be selected: it is in its order where it stands.
+fn leave_allowed(confirm: bool, list: &mut List<'_>)
+    requires { length list.old.items < 2 }
+    ensures candidates { seen_all list.new.items ≡ spec.candidates confirm (seen_all list.old.items) }
+    ensures few { length list.new.items ≤ length list.old.items }
+{
+    let stays = match list.first() {
+        Some(only) => is_allowed(confirm, only),
+        None => true,
+    };
+    if !stays {
+        list.clear();
     }
 }
