@@ -5,3 +5,4 @@ pub mod DolSpelled
 pub mod EntryAt
 pub mod Filled
 pub mod Forms
+pub mod Given

@@ -2,6 +2,7 @@ ghost use Rattle.std.specs.Prelude.{◌≡◌, ◌+◌, ◌<◌, ◌≤◌, ◌�
 ghost use Rattle.object_lists.specs.DolEntries.{total_of};
 ghost use Rattle.object_lists.specs.DolSeen.{seen, all_seen};
 ghost use Rattle.object_lists.specs.Filled.{dol_data, entry_data, fitted, known};
+ghost use Rattle.object_lists.specs.Given.{entries_given};
 ghost use Rattle.object_lists.specs.Filled as spec;
 
 use crate::dol::{Dol, Entry, total};
@@ -26,6 +27,34 @@ pub fn fill(dol: &Dol, card: &Env, terminal: &Env, out: &mut ArrayVec<u8, 252>) 
     ensures free { IfErr result (λ full. full.free ≡ 252) }
     ensures err { OnErr result (out.new.items ≡ []) }
 {
+    fill_from(dol, Some(card), terminal, out)
+}
+
+/// The same before the card gave any object.
+pub fn fill_without_card(dol: &Dol, terminal: &Env, out: &mut ArrayVec<u8, 252>) -> Result<(), Full>
+    ensures ok { OnOk result (out.new.items ≡ dol_data dol.now [] terminal.now) }
+    ensures len { OnOk result (length out.new.items ≡ total_of dol.now) }
+    ensures full { IsErr result ↔ (252 < total_of dol.now) }
+    ensures needed { IfErr result (λ full. full.needed ≡ total_of dol.now) }
+    ensures free { IfErr result (λ full. full.free ≡ 252) }
+    ensures err { OnErr result (out.new.items ≡ []) }
+{
+    fill_from(dol, None, terminal, out)
+}
+
+fn fill_from(
+    dol: &Dol,
+    card: Option<&Env>,
+    terminal: &Env,
+    out: &mut ArrayVec<u8, 252>,
+) -> Result<(), Full>
+    ensures ok { OnOk result (out.new.items ≡ dol_data dol.now (entries_given (option_map (λ env. env.now) card.entry)) terminal.now) }
+    ensures len { OnOk result (length out.new.items ≡ total_of dol.now) }
+    ensures full { IsErr result ↔ (252 < total_of dol.now) }
+    ensures needed { IfErr result (λ full. full.needed ≡ total_of dol.now) }
+    ensures free { IfErr result (λ full. full.free ≡ 252) }
+    ensures err { OnErr result (out.new.items ≡ []) }
+{
     out.clear();
     let needed = total(dol) as usize;
     if needed > MOST {
@@ -35,9 +64,9 @@ pub fn fill(dol: &Dol, card: &Env, terminal: &Env, out: &mut ArrayVec<u8, 252>) 
     Ok(())
 }
 
-fn append_all(out: &mut ArrayVec<u8, 252>, entries: &[Entry], card: &Env, terminal: &Env)
+fn append_all(out: &mut ArrayVec<u8, 252>, entries: &[Entry], card: Option<&Env>, terminal: &Env)
     requires { length out.old.items + total_of (all_seen entries.now) ≤ 252 }
-    ensures filled { out.new.items ≡ out.old.items ++ dol_data (all_seen entries.now) card.now terminal.now }
+    ensures filled { out.new.items ≡ out.old.items ++ dol_data (all_seen entries.now) (entries_given (option_map (λ env. env.now) card.entry)) terminal.now }
     ensures len { length out.new.items ≡ length out.old.items + total_of (all_seen entries.now) }
 {
     for entry in entries {
@@ -45,9 +74,9 @@ fn append_all(out: &mut ArrayVec<u8, 252>, entries: &[Entry], card: &Env, termin
     }
 }
 
-fn append_entry(out: &mut ArrayVec<u8, 252>, entry: &Entry, card: &Env, terminal: &Env)
+fn append_entry(out: &mut ArrayVec<u8, 252>, entry: &Entry, card: Option<&Env>, terminal: &Env)
     requires { length out.old.items + entry.now.count ≤ 252 }
-    ensures filled { out.new.items ≡ out.old.items ++ entry_data card.now terminal.now (seen entry.now) }
+    ensures filled { out.new.items ≡ out.old.items ++ entry_data (entries_given (option_map (λ env. env.now) card.entry)) terminal.now (seen entry.now) }
     ensures len { length out.new.items ≡ length out.old.items + entry.now.count }
 {
     let count = usize::from(entry.count);
@@ -59,15 +88,15 @@ fn append_entry(out: &mut ArrayVec<u8, 252>, entry: &Entry, card: &Env, terminal
 
 /// The format and the value of an object that the dictionary has and that is not constructed.
 #[tactic(auto, unfolding(crate::specs::Filled::known))]
-fn known_value<'a>(tag: Tag, card: &'a Env, terminal: &'a Env) -> Option<(Format, &'a [u8])>
-    ensures { option_map (λ found. (found.0, found.1.now)) result ≡ known card.now terminal.now tag.0 }
+fn known_value<'a>(tag: Tag, card: Option<&'a Env>, terminal: &'a Env) -> Option<(Format, &'a [u8])>
+    ensures { option_map (λ found. (found.0, found.1.now)) result ≡ known (entries_given (option_map (λ env. env.now) card.entry)) terminal.now tag.0 }
 {
     if is_constructed(tag) {
         return None;
     }
     let row = tag_row(tag)?;
     let value = match row.origin {
-        Origin::Card => card.get(tag)?,
+        Origin::Card => card?.get(tag)?,
         Origin::Terminal | Origin::Issuer => terminal.get(tag)?,
     };
     Some((row.format, value))

@@ -7,7 +7,7 @@ pub mod filling;
 
 pub use card_data::CardData;
 pub use dol::{Dol, DolFault, place, read_dol, total};
-pub use filling::fill;
+pub use filling::{fill, fill_without_card};
 
 #[cfg(test)]
 mod tests;

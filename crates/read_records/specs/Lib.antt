@@ -7,3 +7,4 @@ pub mod Records
 pub mod SeenRow
 pub mod SeenOptions
 pub mod SeenFault
+pub mod Stepping

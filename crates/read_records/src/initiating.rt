@@ -13,7 +13,7 @@ use arrayvec::ArrayVec;
 use ber_tlv::{Tag, write_item};
 use emv_dict::Cause;
 use env_map::Env;
-use object_lists::{fill, read_dol};
+use object_lists::{fill_without_card, read_dol};
 use std::marker::Model;
 
 /// The most bytes that an object list is read from.
@@ -64,23 +64,13 @@ impl Initiating {
 
     /// Fills the card's object list (9F38) from the terminal's objects. The cause is `Dol` of 9F38, where
     /// the list can't be read or wants more than 252 bytes.
+    #[tactic(auto, unfolding(crate::specs::Options::initiated))]
     pub fn begin(pdol: Option<&[u8]>, terminal: &Env) -> Result<Initiating, Cause>
         ensures { MatchResult result
             (λ state. Leads (initiating (option_map (λ list. list.now) pdol.entry) terminal.now) [] (initiated state))
             (λ cause. Leads (initiating (option_map (λ list. list.now) pdol.entry) terminal.now) [] (λ _. Stopped cause)) }
     {
-        Initiating::begin_over(pdol, &Env::new(), terminal)
-    }
-
-    /// The same with the map that the card's objects will be put into, which is empty as yet.
-    #[tactic(auto, unfolding(crate::specs::Options::initiated))]
-    pub fn begin_over(pdol: Option<&[u8]>, card: &Env, terminal: &Env) -> Result<Initiating, Cause>
-        requires { card.now ≡ [] }
-        ensures { MatchResult result
-            (λ state. Leads (initiating (option_map (λ list. list.now) pdol.entry) terminal.now) [] (initiated state))
-            (λ cause. Leads (initiating (option_map (λ list. list.now) pdol.entry) terminal.now) [] (λ _. Stopped cause)) }
-    {
-        match filled(pdol, card, terminal) {
+        match filled(pdol, terminal) {
             Some(data) => Ok(Initiating { data }),
             None => Err(Cause::Dol(Tag(0x9f38))),
         }
@@ -148,8 +138,7 @@ fn write_options(data: &[u8], out: &mut Out)
 }
 
 /// The data of an object list, where it can be read and its data have room.
-fn filled(pdol: Option<&[u8]>, card: &Env, terminal: &Env) -> Option<ArrayVec<u8, 252>>
-    requires { card.now ≡ [] }
+fn filled(pdol: Option<&[u8]>, terminal: &Env) -> Option<ArrayVec<u8, 252>>
     ensures { option_map (λ given. given.items) result ≡ options_data (option_map (λ list. list.now) pdol.entry) terminal.now }
 {
     let mut data = ArrayVec::new();
@@ -162,7 +151,7 @@ fn filled(pdol: Option<&[u8]>, card: &Env, terminal: &Env) -> Option<ArrayVec<u8
     let Ok(dol) = read_dol(pdol) else {
         return None;
     };
-    match fill(&dol, card, terminal, &mut data) {
+    match fill_without_card(&dol, terminal, &mut data) {
         Ok(()) => Some(data),
         Err(_) => None,
     }

@@ -11,7 +11,7 @@ pub mod record;
 
 pub use initiating::{InitiateNext, Initiating, OptionsNext};
 pub use object_lists::CardData;
-pub use reading::{Course, CourseNext, ReadNext, Reading};
+pub use reading::{Course, CourseNext, CourseStep, ReadNext, Reading};
 
 #[cfg(test)]
 mod tests;

@@ -50,8 +50,20 @@ pub enum CourseNext {
     Ended(Cause),
 }
 
+/// The same where the course goes on in its place.
+#[derive(Drop)]
+pub enum CourseStep {
+    /// It asks for the record that the course has come to.
+    Ask,
+    /// All records are read, and their objects are as they must be.
+    Done,
+    /// It ended for this cause.
+    Ended(Cause),
+}
+
 impl Course {
     ghost use Rattle.read_records.specs.Leading.{CourseNextLeads, left_next};
+    ghost use Rattle.read_records.specs.Stepping.{next_with};
 
     /// The course through the records of these groups, at least one.
     pub(crate) fn new(groups: Groups) -> Course
@@ -84,52 +96,66 @@ impl Course {
         // Fewer records are left.
         ensures nearer { length (left_next result) < length self }
     {
-        let Course { current, later } = self;
-        match read_record(current.file / 8, env, reply) {
-            Ok(()) => Course::go_on(env, current, later),
-            Err(cause) => CourseNext::Ended(cause),
+        let mut course = self;
+        match course.go_on(env, reply) {
+            CourseStep::Ask => CourseNext::Ask(course),
+            CourseStep::Done => CourseNext::Done,
+            CourseStep::Ended(cause) => CourseNext::Ended(cause),
+        }
+    }
+
+    /// As `take`, where the course stands: it comes to the next record in its place.
+    pub fn go_on(&mut self, env: &mut Env, reply: &[u8]) -> CourseStep
+        requires { HasOptions env.old }
+        ensures leads { (whole : List (List ℕ) → Progress ReadCard) (answers : List (List ℕ))
+            → Leads whole answers (reading (record { entries = env.old; left = self.old }))
+            → CourseNextLeads env.new whole (answers ++ reply.now ∷ []) (next_with result self.new) }
+        ensures options { HasOptions env.new }
+        ensures forms { result ≡ CourseStep.Done → HasForms env.new }
+        // Fewer records are left.
+        ensures nearer { length (left_next (next_with result self.new)) < length self.old }
+    {
+        match read_record(self.current.file / 8, env, reply) {
+            Ok(()) => Course::advance(env, &mut self.current, &mut self.later),
+            Err(cause) => CourseStep::Ended(cause),
         }
     }
 
     /// Goes on behind the first record of a group.
-    fn go_on(env: &Env, current: Group, later: Groups) -> CourseNext
+    fn advance(env: &Env, current: &mut Group, later: &mut Groups) -> CourseStep
         requires { HasOptions env.now }
         ensures leads { (whole : List (List ℕ) → Progress ReadCard) (answers : List (List ℕ))
-            → Leads whole answers (reading (record { entries = env.now; left = places_from (current.file / 8) (current.first + 1) (current.last - current.first) ++ places_of later.items }))
-            → CourseNextLeads env.now whole answers result }
-        ensures forms { result ≡ CourseNext.Done → HasForms env.now }
-        ensures left { length (left_next result) ≤ length (places_from (current.file / 8) (current.first + 1) (current.last - current.first) ++ places_of later.items) }
+            → Leads whole answers (reading (record { entries = env.now; left = places_from (current.old.file / 8) (current.old.first + 1) (current.old.last - current.old.first) ++ places_of later.old.items }))
+            → CourseNextLeads env.now whole answers (next_with result (places_with current.new later.new.items)) }
+        ensures forms { result ≡ CourseStep.Done → HasForms env.now }
+        ensures left { length (left_next (next_with result (places_with current.new later.new.items)))
+            ≤ length (places_from (current.old.file / 8) (current.old.first + 1) (current.old.last - current.old.first) ++ places_of later.old.items) }
     {
         if current.first < current.last {
-            let next = Group {
-                first: current.first + 1,
-                ..current
-            };
-            return CourseNext::Ask(Course {
-                current: next,
-                later,
-            });
+            current.first += 1;
+            return CourseStep::Ask;
         }
         if later.is_empty() {
             Course::finish(env)
         } else {
-            CourseNext::Ask(Course::new(later))
+            *current = later.remove(0);
+            CourseStep::Ask
         }
     }
 
     /// Ends reading: the mandatory objects must be there, and the checked ones have their forms.
     #[tactic(auto, unfolding(crate::specs::DataRead::reading))]
-    fn finish(env: &Env) -> CourseNext
+    fn finish(env: &Env) -> CourseStep
         requires { HasOptions env.now }
-        ensures leads { (whole : List (List ℕ) → Progress ReadCard) (answers : List (List ℕ))
+        ensures leads { (whole : List (List ℕ) → Progress ReadCard) (answers : List (List ℕ)) (left : List RecordPlace)
             → Leads whole answers (reading (record { entries = env.now; left = [] }))
-            → CourseNextLeads env.now whole answers result }
-        ensures forms { result ≡ CourseNext.Done → HasForms env.now }
-        ensures left { left_next result ≡ [] }
+            → CourseNextLeads env.now whole answers (next_with result left) }
+        ensures forms { result ≡ CourseStep.Done → HasForms env.now }
+        ensures left { (left : List RecordPlace) → left_next (next_with result left) ≡ [] }
     {
         match objects_fault(env) {
-            None => CourseNext::Done,
-            Some(cause) => CourseNext::Ended(cause),
+            None => CourseStep::Done,
+            Some(cause) => CourseStep::Ended(cause),
         }
     }
 }

@@ -1,15 +1,11 @@
-use Rattle.std.proofs.Common.{◌≡◌, ◌/◌, length, arith}
-use Rattle.std.proofs.lemmas.Bool.Decides.{nat_tests}
-use Rattle.read_records.proofs.Groups.{next_place, last_place}
-use Rattle.read_records.proofs.Stages.{leads_left}
+use Rattle.std.proofs.Common.{sym}
+use Rattle.read_records.proofs.Stages.{record_taken, record_refused}
 use Rattle.read_records.proofs.reading.Course.go_on.Goals as goal
 
-pub returns-then-current-clause-leads : goal.returns-then-current-clause-leads
-returns-then-current-clause-leads c whole answers leads =
-    leads_left whole answers c.args.env.now _ _ (next_place (c.args.current.file / 8) c.args.current.first c.args.current.last c.args.later.items c.if-current.true) leads
+pub returns-in-Ok-clause-leads : goal.returns-in-Ok-clause-leads
+returns-in-Ok-clause-leads c whole answers leads =
+    c.advance.ensures.leads whole _ (record_taken whole answers c.args.env.now _ _ _ c.args.reply.now (rw (sym c.self.view_is) at leads) c.in-Ok.ensures.exact)
 
-pub returns-then-is_empty-clause-leads : goal.returns-then-is_empty-clause-leads
-returns-then-is_empty-clause-leads c whole answers leads =
-    let none : length c.args.later.items ≡ 0 = grind (arith, nat_tests, c.is_empty.ensures, c.if-is_empty.true) in
-    c.finish.ensures.leads whole answers
-    (leads_left whole answers c.args.env.now _ _ (last_place (c.args.current.file / 8) c.args.current.first c.args.current.last c.args.later.items c.if-current.false none) leads)
+pub returns-in-Err-clause-leads : goal.returns-in-Err-clause-leads
+returns-in-Err-clause-leads c whole answers leads =
+    record_refused whole answers c.args.env.now _ _ _ c.args.reply.now (rw (sym c.self.view_is) at leads) c.in-Err.ensures.exact
