@@ -15,3 +15,4 @@ pub mod Tally
 pub mod Shown
 pub mod Sound
 pub mod Laws
+pub mod Reading

@@ -23,6 +23,7 @@ use crate::stage::{AtScript, AtSecond, Trading};
 use crate::table::{HostReply, Table};
 use ber_tlv::Tag;
 use emv_dict::{AidRow, Ending, Kind};
+use env_map::Env;
 use object_lists::CardData;
 use script_run::{RunNext, Running};
 
@@ -57,6 +58,7 @@ fn kind_for(reply: &HostReply) -> Kind
 #[cycle(before)]
 pub(crate) fn run_before<'s>(
     table: &mut Table<'s>,
+    terminal: &mut Env,
     card: &CardData,
     row: &AidRow,
     index: usize,
@@ -73,12 +75,12 @@ pub(crate) fn run_before<'s>(
     match template_of(&table.reply, BEFORE, index) {
         Some(template) => {
             let next = Running::begin(template);
-            before_next(table, card, row, next, index + 1)
+            before_next(table, terminal, card, row, next, index + 1)
         }
         None => {
             let asked = kind_for(&table.reply);
             let online = true;
-            begin_second(table, card, row, AtSecond { asked, online })
+            begin_second(table, terminal, card, row, AtSecond { asked, online })
         }
     }
 }
@@ -87,6 +89,7 @@ pub(crate) fn run_before<'s>(
 #[cycle(before)]
 fn before_next<'s>(
     table: &mut Table<'s>,
+    terminal: &mut Env,
     card: &CardData,
     row: &AidRow,
     next: RunNext,
@@ -113,7 +116,7 @@ fn before_next<'s>(
         }
         RunNext::Done(found) => {
             table.moment.has_run_before(found);
-            run_before(table, card, row, index)
+            run_before(table, terminal, card, row, index)
         }
     }
 }
@@ -121,6 +124,7 @@ fn before_next<'s>(
 /// The card's answer in a script before the second GENERATE AC.
 pub(crate) fn on_script_before<'s>(
     table: &mut Table<'s>,
+    terminal: &mut Env,
     card: &CardData,
     row: &AidRow,
     state: AtScript,
@@ -137,7 +141,7 @@ pub(crate) fn on_script_before<'s>(
 {
     let AtScript { running, next } = state;
     let gone_on = running.take(reply);
-    before_next(table, card, row, gone_on, next)
+    before_next(table, terminal, card, row, gone_on, next)
 }
 
 /// Runs the scripts behind the second GENERATE AC, from the one that has so many before it on.

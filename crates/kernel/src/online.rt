@@ -37,6 +37,7 @@ const SECOND_LIST: Tag = Tag(0x8d);
 /// The card's answer to the first GENERATE AC.
 pub(crate) fn on_first<'s>(
     table: &mut Table<'s>,
+    terminal: &mut Env,
     card: &CardData,
     row: &AidRow,
     asked: Kind,
@@ -52,13 +53,19 @@ pub(crate) fn on_first<'s>(
     ensures room { HasRoom table.new (scripts_left table.new.reply.scripts result) }
 {
     match read_ac(reply, asked, false) {
-        Ok(ac) => decide(table, card, row, ac),
+        Ok(ac) => decide(table, terminal, card, row, ac),
         Err(cause) => Trading::Over(Ending::Terminated(Step::First, cause)),
     }
 }
 
 /// The first cryptogram decides, or asks the issuer.
-fn decide<'s>(table: &mut Table<'s>, card: &CardData, row: &AidRow, ac: Ac) -> Trading<'s>
+fn decide<'s>(
+    table: &mut Table<'s>,
+    terminal: &mut Env,
+    card: &CardData,
+    row: &AidRow,
+    ac: Ac,
+) -> Trading<'s>
     requires deal { IsDeal (deal_of table.old) }
     requires room { HasRoom table.old 8 }
     ensures stands { (marks : List Mark) (log : List Logged) (rest : List Reply → Standing Mark)
@@ -73,12 +80,17 @@ fn decide<'s>(table: &mut Table<'s>, card: &CardData, row: &AidRow, ac: Ac) -> T
     match kind {
         Kind::Tc => Trading::Over(Ending::Approved { online: false }),
         Kind::Aac => Trading::Over(Ending::Declined { online: false }),
-        Kind::Arqc => go_online(table, card, row),
+        Kind::Arqc => go_online(table, terminal, card, row),
     }
 }
 
 /// The issuer is asked, where the terminal can go online.
-fn go_online<'s>(table: &mut Table<'s>, card: &CardData, row: &AidRow) -> Trading<'s>
+fn go_online<'s>(
+    table: &mut Table<'s>,
+    terminal: &mut Env,
+    card: &CardData,
+    row: &AidRow,
+) -> Trading<'s>
     requires deal { IsDeal (deal_of table.old) }
     requires room { HasRoom table.old 8 }
     requires last { IsSome table.old.moment.last }
@@ -91,19 +103,12 @@ fn go_online<'s>(table: &mut Table<'s>, card: &CardData, row: &AidRow) -> Tradin
     ensures room { HasRoom table.new (scripts_left table.new.reply.scripts result) }
 {
     if is_offline_only(table.settings) {
-        return be_unable(table, card, row, false);
+        return be_unable(table, terminal, card, row, false);
     }
-    let mut terminal = Env::new();
-    put_objects(
-        &mut terminal,
-        table.settings,
-        table.purchase,
-        row,
-        &table.moment,
-    );
+    put_objects(terminal, table.settings, table.purchase, row, &table.moment);
     write_online(
         &table.moment,
-        &terminal,
+        terminal,
         table.settings,
         card,
         &mut table.message,
@@ -168,6 +173,7 @@ fn write_online(
 /// second cryptogram at once.
 pub(crate) fn be_unable<'s>(
     table: &mut Table<'s>,
+    terminal: &mut Env,
     card: &CardData,
     row: &AidRow,
     sent: bool,
@@ -185,6 +191,7 @@ pub(crate) fn be_unable<'s>(
     table.moment.was_unable(sent, asked);
     begin_second(
         table,
+        terminal,
         card,
         row,
         AtSecond {
@@ -207,6 +214,7 @@ fn kind_unable(moment: &Moment, card: &CardData, row: &AidRow, settings: &Settin
 #[tactic(auto, unfolding(crate::specs::Dialogue::second))]
 pub(crate) fn begin_second<'s>(
     table: &mut Table<'s>,
+    terminal: &mut Env,
     card: &CardData,
     row: &AidRow,
     state: AtSecond,
@@ -220,16 +228,9 @@ pub(crate) fn begin_second<'s>(
     ensures few { trading_rank table.new.reply.scripts result ≤ 1 + bytes_in (behind_if state.online table.old.reply.scripts) }
     ensures room { HasRoom table.new (scripts_left table.new.reply.scripts result) }
 {
-    let mut terminal = Env::new();
-    put_terminal(
-        &mut terminal,
-        table.settings,
-        table.purchase,
-        row,
-        &table.moment,
-    );
+    put_terminal(terminal, table.settings, table.purchase, row, &table.moment);
     let mut filled = ArrayVec::new();
-    if fill_list(SECOND_LIST, card, &terminal, &mut filled) {
+    if fill_list(SECOND_LIST, card, terminal, &mut filled) {
         write_generate(state.asked, &filled, &mut table.command);
         Trading::Second(state)
     } else {

@@ -20,6 +20,8 @@ ghost use Rattle.kernel.specs.Course.{Standing, card_step, cut_off};
 ghost use Rattle.kernel.specs.Dialogue.{dialogue, initiation, candidates_left, granted, restrictions};
 ghost use Rattle.kernel.specs.Fits.{OpeningFits, SelectFits, InitiateFits, ReadFits, NextFits, NextStands, selected_then};
 ghost use Rattle.kernel.specs.Kernel.{opening_next};
+ghost use Rattle.kernel.specs.Reading.{IsBeforeReading, next_at};
+ghost use Rattle.read_records.specs.Stepping.{next_with};
 ghost use Rattle.kernel.specs.Marks.{Mark, moment};
 ghost use Rattle.kernel.specs.Rank.{opening_rank, next_rank, search_rank, rank_behind};
 ghost use Rattle.kernel.specs.Reply.{Reply, CardSaid, CardGone};
@@ -36,9 +38,9 @@ use apdu_core::Out;
 use app_select::{Choice, Search, SearchNext};
 use emv_dict::{AidRow, Ending, Purchase, Settings, Step};
 use env_map::Env;
-use read_records::{Course, CourseNext, Initiating, OptionsNext};
+use read_records::{Course, CourseStep, Initiating, OptionsNext};
 
-/// What follows before the card is read.
+/// What follows before the card is read, as contracts say it.
 #[derive(Drop)]
 pub(crate) enum OpeningNext<'s> {
     /// It isn't read yet.
@@ -91,18 +93,18 @@ fn ask_search<'s>(
 }
 
 /// How application selection goes on behind an answer or a refusal.
-fn search_next<'s>(table: &mut Table<'s>, objects: &Env, next: SearchNext<'s>) -> Opening<'s>
+fn search_next<'s>(table: &mut Table<'s>, objects: &mut Env, next: SearchNext<'s>) -> Opening<'s>
     requires deal { IsDeal (deal_of table.old) }
     requires room { NextHasRoom next table.old.candidates }
-    requires objects { objects.now ≡ [] }
+    requires objects { objects.old ≡ [] }
     requires moment { table.old.moment ≡ moment [] }
     ensures stands { (log : List Logged) (course : List (List ℕ) → Progress SelectedData) (rest : List Reply → Standing Mark)
         → ((later : List Reply) → rest later ≡ card_step (cut_off []) step.Select step.Select [] course (selected_then (deal_of table.old)) log later)
         → SearchNextLeads table.old.candidates course [] next.entry
-        → OpeningStands table.new objects.now result log rest }
+        → OpeningStands table.new objects.new result log rest }
     ensures same { deal_of table.new ≡ deal_of table.old }
     ensures few { opening_rank table.new result ≤ search_rank next.entry table.old.candidates + (most_records + rank_behind table.old) }
-    ensures fits { OpeningFits table.new objects.now result }
+    ensures fits { OpeningFits table.new objects.new result }
 {
     match next {
         SearchNext::Ask(search) => ask_search(table, objects, true, search),
@@ -113,27 +115,28 @@ fn search_next<'s>(table: &mut Table<'s>, objects: &Env, next: SearchNext<'s>) -
 
 /// GET PROCESSING OPTIONS is asked.
 #[tactic(auto, unfolding(crate::specs::Dialogue::initiation))]
-fn initiate<'s>(table: &mut Table<'s>, objects: &Env, choice: Choice<'s>) -> Opening<'s>
+fn initiate<'s>(table: &mut Table<'s>, objects: &mut Env, choice: Choice<'s>) -> Opening<'s>
     requires deal { IsDeal (deal_of table.old) }
-    requires objects { objects.now ≡ [] }
+    requires objects { objects.old ≡ [] }
     requires moment { table.old.moment ≡ moment [] }
     ensures stands { (log : List Logged) (rest : List Reply → Standing Mark)
         → ((later : List Reply) → rest later
         ≡ initiation (deal_of table.old) (selected_with choice.entry table.old.candidates) (candidates_left (deal_of table.old) table.old.candidates) log later)
-        → OpeningStands table.new objects.now result log rest }
+        → OpeningStands table.new objects.new result log rest }
     ensures same { deal_of table.new ≡ deal_of table.old }
     ensures few { opening_rank table.new result ≤ 1 + 2 * length table.old.candidates + (most_records + rank_behind table.old) }
-    ensures fits { OpeningFits table.new objects.now result }
+    ensures fits { OpeningFits table.new objects.new result }
 {
-    let mut terminal = Env::new();
     put_terminal(
-        &mut terminal,
+        objects,
         table.settings,
         table.purchase,
         choice.row(),
         &table.moment,
     );
-    match Initiating::begin_over(choice.pdol(), objects, &terminal) {
+    let begun = Initiating::begin(choice.pdol(), objects);
+    objects.clear();
+    match begun {
         Ok(initiating) => {
             initiating.ask(&mut table.command);
             Opening::Initiate(AtInitiate { initiating, choice })
@@ -145,23 +148,23 @@ fn initiate<'s>(table: &mut Table<'s>, objects: &Env, choice: Choice<'s>) -> Ope
 /// What follows the answer to GET PROCESSING OPTIONS.
 fn initiate_next<'s>(
     table: &mut Table<'s>,
-    objects: &Env,
+    objects: &mut Env,
     choice: Choice<'s>,
     next: OptionsNext,
 ) -> Opening<'s>
     requires deal { IsDeal (deal_of table.old) }
-    requires refused { next ≡ OptionsNext.Refused → objects.now ≡ [] }
-    requires begun { IsBegun next → HasOptions objects.now }
+    requires refused { next ≡ OptionsNext.Refused → objects.old ≡ [] }
+    requires begun { IsBegun next → HasOptions objects.old }
     requires moment { table.old.moment ≡ moment [] }
     requires few { length (begun_next next) ≤ most_records }
     ensures stands { (log : List Logged) (course : List (List ℕ) → Progress (Option Opened)) (rest : List Reply → Standing Mark)
         → ((later : List Reply) → rest later ≡ card_step (cut_off []) step.Initiate step.Initiate [] course
         (granted (deal_of table.old) choice.entry.row (candidates_left (deal_of table.old) table.old.candidates)) log later)
-        → OptionsNextLeads objects.now course [] next
-        → OpeningStands table.new objects.now result log rest }
+        → OptionsNextLeads objects.old course [] next
+        → OpeningStands table.new objects.new result log rest }
     ensures same { deal_of table.new ≡ deal_of table.old }
     ensures few { opening_rank table.new result ≤ 2 * length table.old.candidates + (most_records + rank_behind table.old) }
-    ensures fits { OpeningFits table.new objects.now result }
+    ensures fits { OpeningFits table.new objects.new result }
 {
     match next {
         OptionsNext::Refused => {
@@ -197,49 +200,42 @@ fn ask_record<'s>(
 }
 
 /// How reading goes on behind an answer.
-fn read_next<'s>(
-    table: &mut Table<'s>,
-    objects: &Env,
-    row: &'s AidRow,
-    next: CourseNext,
-) -> OpeningNext<'s>
+fn read_next<'s>(table: &mut Table<'s>, objects: &Env, at: &AtRead<'s>, next: &CourseStep)
     requires options { HasOptions objects.now }
-    requires forms { next ≡ CourseNext.Done → HasForms objects.now }
-    requires row { IsAidRow row.now }
+    requires forms { next.now ≡ CourseStep.Done → HasForms objects.now }
+    requires row { IsAidRow at.now.row.now }
     requires moment { table.old.moment ≡ moment [] }
     ensures stands { (log : List Logged) (course : List (List ℕ) → Progress ReadCard) (rest : List Reply → Standing Mark)
         → ((later : List Reply) → rest later ≡ card_step (cut_off []) step.Read step.Read [] course
-        (λ card. restrictions (record { deal = deal_of table.old; row = row.entry.now; card = card })) log later)
-        → CourseNextLeads objects.now course [] next
-        → NextStands table.new objects.now result log rest }
+        (λ card. restrictions (record { deal = deal_of table.old; row = at.now.row.now; card = card })) log later)
+        → CourseNextLeads objects.now course [] (next_with next.now at.now.course)
+        → NextStands table.new objects.now (next_at next.now at.now) log rest }
     ensures same { deal_of table.new ≡ deal_of table.old }
-    ensures few { next_rank table.new result ≤ length (left_next next) + rank_behind table.old }
-    ensures fits { NextFits table.new objects.now result }
+    ensures few { next_rank table.new (next_at next.now at.now) ≤ length (left_next (next_with next.now at.now.course)) + rank_behind table.old }
+    ensures fits { NextFits table.new objects.now (next_at next.now at.now) }
 {
     match next {
-        CourseNext::Ask(course) => OpeningNext::On(ask_record(table, objects, row, course)),
-        CourseNext::Done => OpeningNext::Read(row),
-        CourseNext::Ended(cause) => {
-            OpeningNext::On(Opening::Over(Ending::Terminated(Step::Read, cause)))
-        }
+        CourseStep::Ask => at.course.ask(&mut table.command),
+        CourseStep::Done => {}
+        CourseStep::Ended(_) => {}
     }
 }
 
 /// The card's answer in application selection.
 fn on_select<'s>(
     table: &mut Table<'s>,
-    objects: &Env,
+    objects: &mut Env,
     state: AtSelect<'s>,
     reply: &[u8],
 ) -> Opening<'s>
     requires deal { IsDeal (deal_of table.old) }
-    requires fits { SelectFits table.old objects.now state }
+    requires fits { SelectFits table.old objects.old state }
     ensures stands { (before now : List Logged) (rest : List Reply → Standing Mark)
-        → OpeningStands table.old objects.now (stage.Select state.entry) before rest
-        → OpeningStands table.new objects.now result now (λ later. rest (CardSaid reply.now now ∷ later)) }
+        → OpeningStands table.old objects.old (stage.Select state.entry) before rest
+        → OpeningStands table.new objects.new result now (λ later. rest (CardSaid reply.now now ∷ later)) }
     ensures same { deal_of table.new ≡ deal_of table.old }
     ensures nearer { opening_rank table.new result < 2 * answers_left state.entry.search table.old.candidates + (most_records + rank_behind table.old) }
-    ensures fits { OpeningFits table.new objects.now result }
+    ensures fits { OpeningFits table.new objects.new result }
 {
     let AtSelect { search, begun: _ } = state;
     let next = search.take(&mut table.candidates, reply);
@@ -267,48 +263,47 @@ fn on_initiate<'s>(
     initiate_next(table, objects, choice, next)
 }
 
-/// The card's answer to READ RECORD.
-fn on_read<'s>(
+/// The card's answer to READ RECORD, taken where the course stands.
+pub(crate) fn on_read<'s>(
     table: &mut Table<'s>,
     objects: &mut Env,
-    state: AtRead<'s>,
+    at: &mut AtRead<'s>,
     reply: &[u8],
-) -> OpeningNext<'s>
-    requires fits { ReadFits table.old objects.old state }
+) -> CourseStep
+    requires fits { ReadFits table.old objects.old at.old }
     ensures stands { (before now : List Logged) (rest : List Reply → Standing Mark)
-        → OpeningStands table.old objects.old (stage.Read state.entry) before rest
-        → NextStands table.new objects.new result now (λ later. rest (CardSaid reply.now now ∷ later)) }
+        → OpeningStands table.old objects.old (stage.Read at.old) before rest
+        → NextStands table.new objects.new (next_at result at.new) now (λ later. rest (CardSaid reply.now now ∷ later)) }
     ensures same { deal_of table.new ≡ deal_of table.old }
-    ensures nearer { next_rank table.new result < length state.entry.course + rank_behind table.old }
-    ensures fits { NextFits table.new objects.new result }
+    ensures nearer { next_rank table.new (next_at result at.new) < length at.old.course + rank_behind table.old }
+    ensures fits { NextFits table.new objects.new (next_at result at.new) }
 {
-    let AtRead { course, row } = state;
-    let next = course.take(objects, reply);
-    read_next(table, objects, row, next)
+    let next = at.course.go_on(objects, reply);
+    read_next(table, objects, at, &next);
+    next
 }
 
-/// The card's answer before it is read.
+/// The card's answer before its records are read.
 pub(crate) fn on_answer<'s>(
     table: &mut Table<'s>,
     objects: &mut Env,
     state: Opening<'s>,
     reply: &[u8],
-) -> OpeningNext<'s>
+) -> Opening<'s>
     requires deal { IsDeal (deal_of table.old) }
     requires fits { OpeningFits table.old objects.old state }
-    requires waits { opening_next state ≡ waits.ToCard }
+    requires before { IsBeforeReading state }
     ensures stands { (before now : List Logged) (rest : List Reply → Standing Mark)
         → OpeningStands table.old objects.old state.entry before rest
-        → NextStands table.new objects.new result now (λ later. rest (CardSaid reply.now now ∷ later)) }
+        → OpeningStands table.new objects.new result now (λ later. rest (CardSaid reply.now now ∷ later)) }
     ensures same { deal_of table.new ≡ deal_of table.old }
-    ensures nearer { next_rank table.new result < opening_rank table.old state.entry }
-    ensures fits { NextFits table.new objects.new result }
+    ensures nearer { opening_rank table.new result < opening_rank table.old state.entry }
+    ensures fits { OpeningFits table.new objects.new result }
 {
     match state {
-        Opening::Select(state) => OpeningNext::On(on_select(table, objects, state, reply)),
-        Opening::Initiate(state) => OpeningNext::On(on_initiate(table, objects, state, reply)),
-        Opening::Read(state) => on_read(table, objects, state, reply),
-        Opening::Over(_) => unreachable!(),
+        Opening::Select(state) => on_select(table, objects, state, reply),
+        Opening::Initiate(state) => on_initiate(table, objects, state, reply),
+        Opening::Read(_) | Opening::Over(_) => unreachable!(),
     }
 }
 

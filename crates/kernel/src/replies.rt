@@ -24,6 +24,7 @@ use crate::table::{HostReply, Table};
 use auth_message::{Reply as Said, read_reply};
 use ber_tlv::{Cursor, append};
 use emv_dict::{AidRow, Ending, Kind, Step};
+use env_map::Env;
 use object_lists::CardData;
 use online_step::{Ac, authenticate_command, read_ac, read_verdict};
 
@@ -31,7 +32,12 @@ use online_step::{Ac, authenticate_command, read_ac, read_verdict};
 const MOST_TEMPLATES: usize = 8;
 
 /// The host doesn't reply.
-pub(crate) fn on_silence<'s>(table: &mut Table<'s>, card: &CardData, row: &AidRow) -> Trading<'s>
+pub(crate) fn on_silence<'s>(
+    table: &mut Table<'s>,
+    terminal: &mut Env,
+    card: &CardData,
+    row: &AidRow,
+) -> Trading<'s>
     requires deal { IsDeal (deal_of table.old) }
     requires room { HasRoom table.old 8 }
     ensures stands { (log : List Logged) (rest : List Reply → Standing Mark)
@@ -41,12 +47,13 @@ pub(crate) fn on_silence<'s>(table: &mut Table<'s>, card: &CardData, row: &AidRo
     ensures nearer { trading_rank table.new.reply.scripts result < 3 + most_scripts }
     ensures room { HasRoom table.new (scripts_left table.new.reply.scripts result) }
 {
-    be_unable(table, card, row, true)
+    be_unable(table, terminal, card, row, true)
 }
 
 /// The host's reply; one with a fault makes the terminal unable to go online.
 pub(crate) fn on_reply<'s>(
     table: &mut Table<'s>,
+    terminal: &mut Env,
     card: &CardData,
     row: &AidRow,
     reply: &[u8],
@@ -61,14 +68,15 @@ pub(crate) fn on_reply<'s>(
     ensures room { HasRoom table.new (scripts_left table.new.reply.scripts result) }
 {
     match read_reply(reply) {
-        Ok(said) => take_reply(table, card, row, said),
-        Err(_) => be_unable(table, card, row, true),
+        Ok(said) => take_reply(table, terminal, card, row, said),
+        Err(_) => be_unable(table, terminal, card, row, true),
     }
 }
 
 /// A reply that was read.
 fn take_reply<'s>(
     table: &mut Table<'s>,
+    terminal: &mut Env,
     card: &CardData,
     row: &AidRow,
     said: Said<'_>,
@@ -85,7 +93,7 @@ fn take_reply<'s>(
 {
     table.moment.has_reply(&said);
     keep(&mut table.reply, &said);
-    authenticate(table, card, row, said.auth)
+    authenticate(table, terminal, card, row, said.auth)
 }
 
 /// Keeps a reply for the steps behind it.
@@ -122,6 +130,7 @@ fn are_few(scripts: &[u8]) -> bool
 #[tactic(auto, unfolding(crate::specs::Dialogue::authentication))]
 fn authenticate<'s>(
     table: &mut Table<'s>,
+    terminal: &mut Env,
     card: &CardData,
     row: &AidRow,
     auth: Option<&[u8]>,
@@ -143,10 +152,10 @@ fn authenticate<'s>(
                 authenticate_command(value, &mut table.command);
                 Trading::Authenticate
             } else {
-                run_before(table, card, row, 0)
+                run_before(table, terminal, card, row, 0)
             }
         }
-        None => run_before(table, card, row, 0),
+        None => run_before(table, terminal, card, row, 0),
     }
 }
 
@@ -160,6 +169,7 @@ fn has_authentication(card: &CardData) -> bool
 /// The card's answer to EXTERNAL AUTHENTICATE.
 pub(crate) fn on_authenticate<'s>(
     table: &mut Table<'s>,
+    terminal: &mut Env,
     card: &CardData,
     row: &AidRow,
     reply: &[u8],
@@ -176,7 +186,7 @@ pub(crate) fn on_authenticate<'s>(
     match read_verdict(reply) {
         Ok(good) => {
             table.moment.has_authenticated(good);
-            run_before(table, card, row, 0)
+            run_before(table, terminal, card, row, 0)
         }
         Err(cause) => Trading::Over(Ending::Terminated(Step::Authenticate, cause)),
     }

@@ -43,6 +43,7 @@ const FIRST_LIST: Tag = Tag(0x8c);
 #[tactic(auto, unfolding(crate::specs::Dialogue::restrictions))]
 pub(crate) fn begin_trading<'s>(
     table: &mut Table<'s>,
+    terminal: &mut Env,
     card: &CardData,
     row: &AidRow,
     log: &[Logged],
@@ -61,13 +62,14 @@ pub(crate) fn begin_trading<'s>(
     let bits = restrict(card, table.settings, row, table.purchase);
     table.moment.has_read();
     table.moment.has_restricted(bits);
-    begin_verify(table, card, row, log)
+    begin_verify(table, terminal, card, row, log)
 }
 
 /// Cardholder verification begins.
 #[tactic(auto, unfolding(crate::specs::Dialogue::verification))]
 fn begin_verify<'s>(
     table: &mut Table<'s>,
+    terminal: &mut Env,
     card: &CardData,
     row: &AidRow,
     log: &[Logged],
@@ -84,12 +86,13 @@ fn begin_verify<'s>(
     ensures room { HasRoom table.new (scripts_left table.new.reply.scripts result) }
 {
     let next = Verifying::begin(card, table.settings, table.purchase);
-    verify_next(table, card, row, log, next)
+    verify_next(table, terminal, card, row, log, next)
 }
 
 /// How cardholder verification goes on.
 fn verify_next<'s>(
     table: &mut Table<'s>,
+    terminal: &mut Env,
     card: &CardData,
     row: &AidRow,
     log: &[Logged],
@@ -115,7 +118,7 @@ fn verify_next<'s>(
         }
         VerifyNext::Done(verified) => {
             table.moment.has_verified(verified);
-            begin_risk(table, card, row, log)
+            begin_risk(table, terminal, card, row, log)
         }
         VerifyNext::Ended(cause) => Trading::Over(Ending::Terminated(Step::Verify, cause)),
     }
@@ -124,6 +127,7 @@ fn verify_next<'s>(
 /// The card's answer in cardholder verification.
 pub(crate) fn on_verify<'s>(
     table: &mut Table<'s>,
+    terminal: &mut Env,
     card: &CardData,
     row: &AidRow,
     log: &[Logged],
@@ -142,13 +146,14 @@ pub(crate) fn on_verify<'s>(
     ensures room { HasRoom table.new (scripts_left table.new.reply.scripts result) }
 {
     let next = verifying.take(reply);
-    verify_next(table, card, row, log, next)
+    verify_next(table, terminal, card, row, log, next)
 }
 
 /// Terminal risk management begins.
 #[tactic(auto, unfolding(crate::specs::Dialogue::risk))]
 fn begin_risk<'s>(
     table: &mut Table<'s>,
+    terminal: &mut Env,
     card: &CardData,
     row: &AidRow,
     log: &[Logged],
@@ -165,12 +170,13 @@ fn begin_risk<'s>(
     ensures room { HasRoom table.new (scripts_left table.new.reply.scripts result) }
 {
     let next = Judging::begin(card, table.settings, row, table.purchase, log);
-    judge_next(table, card, row, next)
+    judge_next(table, terminal, card, row, next)
 }
 
 /// How terminal risk management goes on.
 fn judge_next<'s>(
     table: &mut Table<'s>,
+    terminal: &mut Env,
     card: &CardData,
     row: &AidRow,
     next: JudgeNext,
@@ -193,7 +199,7 @@ fn judge_next<'s>(
         }
         JudgeNext::Done(judged) => {
             table.moment.has_judged(judged);
-            analyse(table, card, row)
+            analyse(table, terminal, card, row)
         }
         JudgeNext::Ended(cause) => Trading::Over(Ending::Terminated(Step::Risk, cause)),
     }
@@ -202,6 +208,7 @@ fn judge_next<'s>(
 /// The card's answer in terminal risk management.
 pub(crate) fn on_judge<'s>(
     table: &mut Table<'s>,
+    terminal: &mut Env,
     card: &CardData,
     row: &AidRow,
     judging: Judging,
@@ -217,12 +224,17 @@ pub(crate) fn on_judge<'s>(
     ensures room { HasRoom table.new (scripts_left table.new.reply.scripts result) }
 {
     let next = judging.take(reply);
-    judge_next(table, card, row, next)
+    judge_next(table, terminal, card, row, next)
 }
 
 /// Action analysis asks the card nothing.
 #[tactic(auto, unfolding(crate::specs::Dialogue::analysis))]
-fn analyse<'s>(table: &mut Table<'s>, card: &CardData, row: &AidRow) -> Trading<'s>
+fn analyse<'s>(
+    table: &mut Table<'s>,
+    terminal: &mut Env,
+    card: &CardData,
+    row: &AidRow,
+) -> Trading<'s>
     requires deal { IsDeal (deal_of table.old) }
     requires room { HasRoom table.old 8 }
     ensures stands { (marks : List Mark) (log : List Logged) (rest : List Reply → Standing Mark)
@@ -234,7 +246,7 @@ fn analyse<'s>(table: &mut Table<'s>, card: &CardData, row: &AidRow) -> Trading<
 {
     let asked = kind_wanted(&table.moment, card, row, table.settings);
     table.moment.has_analysed(asked);
-    begin_first(table, card, row, asked)
+    begin_first(table, terminal, card, row, asked)
 }
 
 /// The kind of cryptogram that is asked for first.
@@ -248,7 +260,13 @@ fn kind_wanted(moment: &Moment, card: &CardData, row: &AidRow, settings: &Settin
 
 /// The first GENERATE AC is asked for a cryptogram of this kind.
 #[tactic(auto, unfolding(crate::specs::Dialogue::first))]
-fn begin_first<'s>(table: &mut Table<'s>, card: &CardData, row: &AidRow, asked: Kind) -> Trading<'s>
+fn begin_first<'s>(
+    table: &mut Table<'s>,
+    terminal: &mut Env,
+    card: &CardData,
+    row: &AidRow,
+    asked: Kind,
+) -> Trading<'s>
     requires deal { IsDeal (deal_of table.old) }
     requires room { HasRoom table.old 8 }
     ensures stands { (marks : List Mark) (log : List Logged) (rest : List Reply → Standing Mark)
@@ -258,16 +276,9 @@ fn begin_first<'s>(table: &mut Table<'s>, card: &CardData, row: &AidRow, asked: 
     ensures few { trading_rank table.new.reply.scripts result ≤ 4 + most_scripts }
     ensures room { HasRoom table.new (scripts_left table.new.reply.scripts result) }
 {
-    let mut terminal = Env::new();
-    put_terminal(
-        &mut terminal,
-        table.settings,
-        table.purchase,
-        row,
-        &table.moment,
-    );
+    put_terminal(terminal, table.settings, table.purchase, row, &table.moment);
     let mut filled = ArrayVec::new();
-    if fill_list(FIRST_LIST, card, &terminal, &mut filled) {
+    if fill_list(FIRST_LIST, card, terminal, &mut filled) {
         write_generate(asked, &filled, &mut table.command);
         Trading::First(asked)
     } else {

@@ -21,11 +21,13 @@ use crate::stage::Trading;
 use crate::table::Table;
 use crate::trading::{on_judge, on_verify};
 use emv_dict::{AidRow, Ending, Logged, Step};
+use env_map::Env;
 use object_lists::CardData;
 
 /// The card's answer.
 pub(crate) fn on_card<'s>(
     table: &mut Table<'s>,
+    terminal: &mut Env,
     card: &CardData,
     row: &AidRow,
     log: &[Logged],
@@ -45,11 +47,11 @@ pub(crate) fn on_card<'s>(
     ensures room { HasRoom table.new (scripts_left table.new.reply.scripts result) }
 {
     match trading {
-        Trading::Verify(state) => on_verify(table, card, row, log, state, reply),
-        Trading::Risk(state) => on_judge(table, card, row, state, reply),
-        Trading::First(asked) => on_first(table, card, row, asked, reply),
-        Trading::Authenticate => on_authenticate(table, card, row, reply),
-        Trading::ScriptBefore(state) => on_script_before(table, card, row, state, reply),
+        Trading::Verify(state) => on_verify(table, terminal, card, row, log, state, reply),
+        Trading::Risk(state) => on_judge(table, terminal, card, row, state, reply),
+        Trading::First(asked) => on_first(table, terminal, card, row, asked, reply),
+        Trading::Authenticate => on_authenticate(table, terminal, card, row, reply),
+        Trading::ScriptBefore(state) => on_script_before(table, terminal, card, row, state, reply),
         Trading::Second(state) => on_second(table, state, reply),
         Trading::ScriptBehind(state, ending) => on_script_behind(table, state, ending, reply),
         Trading::Online | Trading::Over(_) => unreachable!(),
@@ -83,6 +85,7 @@ pub(crate) fn on_gone<'s>(table: &mut Table<'s>, trading: Trading<'s>) -> Tradin
 /// The host's reply, or its silence.
 pub(crate) fn on_host<'s>(
     table: &mut Table<'s>,
+    terminal: &mut Env,
     card: &CardData,
     row: &AidRow,
     trading: Trading<'s>,
@@ -100,8 +103,8 @@ pub(crate) fn on_host<'s>(
 {
     match trading {
         Trading::Online => match reply {
-            Some(reply) => on_reply(table, card, row, reply),
-            None => on_silence(table, card, row),
+            Some(reply) => on_reply(table, terminal, card, row, reply),
+            None => on_silence(table, terminal, card, row),
         },
         _ => unreachable!(),
     }

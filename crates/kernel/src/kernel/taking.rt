@@ -9,6 +9,7 @@ ghost use Rattle.object_lists.specs.CardRead.{ReadCard, card_of};
 ghost use Rattle.object_lists.specs.Forms.{HasForms};
 ghost use Rattle.kernel.specs.Dialogue.{restrictions};
 ghost use Rattle.kernel.specs.Fits.{OpeningFits, HasReadCard};
+ghost use Rattle.kernel.specs.Reading.{IsBeforeReading};
 ghost use Rattle.kernel.specs.Kernel.{KernelStands, StageFits, StageGoes, TradingFits, TradingGoes, deal_in, next_of, stage_next, opening_next, trading_next};
 ghost use Rattle.kernel.specs.Marks.{Mark};
 ghost use Rattle.kernel.specs.Rank.{rank_of, stage_rank, opening_rank, trading_rank, rank_behind};
@@ -16,17 +17,21 @@ ghost use Rattle.kernel.specs.Reply.{Reply, CardSaid, CardGone, HostSaid, HostSi
 ghost use Rattle.kernel.specs.Stages.{OpeningStands};
 ghost use Rattle.kernel.specs.Table.{IsDeal, deal_of};
 ghost use Rattle.kernel.specs.declared.kernel.Next.TheVariants as next;
+ghost use Rattle.kernel.specs.declared.stage.Opening.TheVariants as openings;
+ghost use Rattle.kernel.specs.declared.stage.Stage.TheVariants as stages;
+ghost use Rattle.emv_dict.specs.declared.ending.Ending.TheVariants.{Terminated};
+ghost use Rattle.emv_dict.specs.declared.ending.Step.TheVariants as steps;
 
 use super::Kernel;
 use crate::opening;
-use crate::opening::OpeningNext;
 use crate::stage::{AtTrading, Opening, Stage, Trading};
 use crate::table::Table;
 use crate::trading::begin_trading;
 use crate::turns::{on_card, on_gone, on_host};
-use emv_dict::{AidRow, Ending, Logged, Step};
+use emv_dict::{AidRow, Cause, Ending, Logged, Step};
 use env_map::Env;
 use object_lists::CardData;
+use read_records::CourseStep;
 use std::mem;
 
 /// What stands in place of a stage while it is taken out.
@@ -76,7 +81,7 @@ impl<'s> Kernel<'s> {
         ensures nearer { rank_of self.new < rank_of self.old }
     {
         let stage = mem::replace(&mut self.stage, Stage::Opening(Opening::Over(TAKEN_OUT)));
-        self.stage = stage_heard(&mut self.table, &self.card, stage, reply);
+        self.stage = stage_heard(&mut self.table, &mut self.objects, &self.card, stage, reply);
         self.taken = self.taken.saturating_add(1);
     }
 
@@ -135,31 +140,25 @@ impl<'s> Kernel<'s> {
     }
 }
 
-/// The card's answer before it is read. Once it is read, the trading begins.
-fn on_opening<'s>(
+/// The card's answer in application selection, or to GET PROCESSING OPTIONS.
+fn opening_said<'s>(
     table: &mut Table<'s>,
     objects: &mut Env,
-    held: &mut Option<CardData>,
-    state: Opening<'s>,
+    opening: &mut Opening<'s>,
     reply: &[u8],
-    log: &[Logged],
-) -> Stage<'s>
+)
     requires deal { IsDeal (deal_of table.old) }
-    requires fits { OpeningFits table.old objects.old state }
-    requires held { held.old ≡ None }
-    requires waits { opening_next state ≡ next.ToCard }
-    requires log { All (λ logged. logged.amount ≤ most_amount) log.now }
-    ensures stands { (before : List LoggedRow) (rest : List Reply → Standing Mark)
-        → OpeningStands table.old objects.old state.entry before rest
-        → StageGoes table.new objects.new held.new result log.now (λ later. rest (CardSaid reply.now log.now ∷ later)) }
+    requires fits { OpeningFits table.old objects.old opening.old }
+    requires before { IsBeforeReading opening.old }
+    ensures stands { (before now : List LoggedRow) (rest : List Reply → Standing Mark)
+        → OpeningStands table.old objects.old opening.old before rest
+        → OpeningStands table.new objects.new opening.new now (λ later. rest (CardSaid reply.now now ∷ later)) }
     ensures same { deal_of table.new ≡ deal_of table.old }
-    ensures nearer { stage_rank table.new result < opening_rank table.old state.entry }
-    ensures fits { StageFits table.new objects.new held.new result }
+    ensures nearer { opening_rank table.new opening.new < opening_rank table.old opening.old }
+    ensures fits { OpeningFits table.new objects.new opening.new }
 {
-    match opening::on_answer(table, objects, state, reply) {
-        OpeningNext::On(state) => Stage::Opening(state),
-        OpeningNext::Read(row) => Stage::Trading(has_read(table, objects, held, row, log)),
-    }
+    let state = mem::replace(opening, Opening::Over(TAKEN_OUT));
+    *opening = opening::on_answer(table, objects, state, reply);
 }
 
 /// The card is read, and the trading begins. The data take their place before, and stay in it.
@@ -167,25 +166,33 @@ fn has_read<'s>(
     table: &mut Table<'s>,
     objects: &mut Env,
     held: &mut Option<CardData>,
+    stage: &mut Stage<'s>,
     row: &'s AidRow,
     log: &[Logged],
-) -> AtTrading<'s>
+)
     requires deal { IsDeal (deal_of table.old) }
     requires read { HasReadCard table.old objects.old row.now }
     requires log { All (λ logged. logged.amount ≤ most_amount) log.now }
     ensures stands { (rest : List Reply → Standing Mark)
         → ((later : List Reply) → rest later ≡ restrictions (record { deal = deal_of table.old; row = row.entry.now; card = card_of objects.old }) log.now later)
-        → TradingGoes table.new held.new result log.now rest }
+        → StageGoes table.new objects.new held.new stage.new log.now rest }
     ensures same { deal_of table.new ≡ deal_of table.old }
-    ensures few { trading_rank table.new.reply.scripts result.trading ≤ rank_behind table.old }
-    ensures fits { TradingFits table.new held.new result }
+    ensures few { stage_rank table.new stage.new ≤ rank_behind table.old }
+    ensures fits { StageFits table.new objects.new held.new stage.new }
 {
     keep_card(objects, held);
     let Some(card) = held else {
         unreachable!();
     };
-    let trading = begin_trading(table, card, row, log);
-    AtTrading { row, trading }
+    let trading = begin_trading(table, objects, card, row, log);
+    *stage = Stage::Trading(AtTrading { row, trading });
+}
+
+/// Reading ended for this cause.
+fn end_reading(stage: &mut Stage<'_>, cause: Cause)
+    ensures { stage.new ≡ stages.Opening (openings.Over (Terminated steps.Read cause)) }
+{
+    *stage = Stage::Opening(Opening::Over(Ending::Terminated(Step::Read, cause)));
 }
 
 /// Keeps what these objects make.
@@ -217,17 +224,23 @@ fn stage_said<'s>(
     ensures fits { StageFits table.new objects.new held.new stage.new }
 {
     match stage {
-        Stage::Opening(opening) => {
-            let state = mem::replace(opening, Opening::Over(TAKEN_OUT));
-            *stage = on_opening(table, objects, held, state, reply, log);
-        }
-        Stage::Trading(at) => trading_said(table, held, at, reply, log),
+        Stage::Opening(Opening::Read(at)) => match opening::on_read(table, objects, at, reply) {
+            CourseStep::Ask => {}
+            CourseStep::Done => {
+                let row = at.row;
+                has_read(table, objects, held, stage, row, log);
+            }
+            CourseStep::Ended(cause) => end_reading(stage, cause),
+        },
+        Stage::Opening(opening) => opening_said(table, objects, opening, reply),
+        Stage::Trading(at) => trading_said(table, objects, held, at, reply, log),
     }
 }
 
 /// The card's answer once it is read.
 fn trading_said<'s>(
     table: &mut Table<'s>,
+    terminal: &mut Env,
     held: &Option<CardData>,
     at: &mut AtTrading<'s>,
     reply: &[u8],
@@ -248,7 +261,7 @@ fn trading_said<'s>(
         unreachable!();
     };
     let trading = mem::replace(&mut at.trading, Trading::Over(TAKEN_OUT));
-    at.trading = on_card(table, card, at.row, log, trading, reply);
+    at.trading = on_card(table, terminal, card, at.row, log, trading, reply);
 }
 
 /// The card is gone at any stage.
@@ -276,29 +289,31 @@ fn stage_gone<'s>(table: &mut Table<'s>, stage: Stage<'s>) -> Stage<'s>
 /// The host's reply, or its silence, at the stage that waits for it.
 fn stage_heard<'s>(
     table: &mut Table<'s>,
+    terminal: &mut Env,
     held: &Option<CardData>,
     stage: Stage<'s>,
     reply: Option<&[u8]>,
 ) -> Stage<'s>
     requires deal { IsDeal (deal_of table.old) }
-    requires fits { (objects : Entries) × StageFits table.old objects held.now stage }
+    requires fits { StageFits table.old terminal.old held.now stage }
     requires waits { stage_next stage ≡ next.ToHost }
-    ensures stands { (objects : Entries) (log : List LoggedRow) (rest : List Reply → Standing Mark)
-        → StageGoes table.old objects held.now stage.entry log rest
-        → StageGoes table.new objects held.now result log (λ later. rest (from_host (option_map (λ reply. reply.now) reply.entry) ∷ later)) }
+    ensures stands { (log : List LoggedRow) (rest : List Reply → Standing Mark)
+        → StageGoes table.old terminal.old held.now stage.entry log rest
+        → StageGoes table.new terminal.new held.now result log (λ later. rest (from_host (option_map (λ reply. reply.now) reply.entry) ∷ later)) }
     ensures same { deal_of table.new ≡ deal_of table.old }
     ensures nearer { stage_rank table.new result < stage_rank table.old stage.entry }
-    ensures fits { (objects : Entries) → StageFits table.new objects held.now result }
+    ensures fits { StageFits table.new terminal.new held.now result }
 {
     match stage {
         Stage::Opening(_) => unreachable!(),
-        Stage::Trading(at) => Stage::Trading(trading_heard(table, held, at, reply)),
+        Stage::Trading(at) => Stage::Trading(trading_heard(table, terminal, held, at, reply)),
     }
 }
 
 /// The host's reply, or its silence, once the card is read.
 fn trading_heard<'s>(
     table: &mut Table<'s>,
+    terminal: &mut Env,
     held: &Option<CardData>,
     at: AtTrading<'s>,
     reply: Option<&[u8]>,
@@ -317,6 +332,6 @@ fn trading_heard<'s>(
         unreachable!();
     };
     let AtTrading { row, trading } = at;
-    let trading = on_host(table, card, row, trading, reply);
+    let trading = on_host(table, terminal, card, row, trading, reply);
     AtTrading { row, trading }
 }

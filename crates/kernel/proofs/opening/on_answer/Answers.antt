@@ -5,6 +5,3 @@ returns-in-Select-clause-stands c = λ before now rest stands. c.on_select.ensur
 
 pub returns-in-Initiate-clause-stands : goal.returns-in-Initiate-clause-stands
 returns-in-Initiate-clause-stands c = λ before now rest stands. c.on_initiate.ensures.stands before now rest (rw c.in-Initiate.is at stands)
-
-pub returns-in-Read-clause-stands : goal.returns-in-Read-clause-stands
-returns-in-Read-clause-stands c = λ before now rest stands. c.on_read.ensures.stands before now rest (rw c.in-Read.is at stands)

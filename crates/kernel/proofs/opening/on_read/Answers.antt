@@ -10,8 +10,8 @@ use Rattle.kernel.proofs.opening.on_read.Goals as goal
 pub returns-clause-stands : goal.returns-clause-stands
 returns-clause-stands c = λ before now rest stands.
     let table = c.args.table.now in
-    let start : Opened = record { entries = c.args.objects.now; left = c.args.state.course } in
+    let start : Opened = record { entries = c.args.objects.now; left = c.args.at.now.course } in
     let whole = reading start in
     c.read_next.ensures.stands now (λ later. whole (c.args.reply.now ∷ later)) _
-    (taken_on step.Read step.Read whole (λ card. restrictions (record { deal = deal_of table; row = c.args.state.row.now; card = card })) before rest stands.passed table.command.items stands.shows c.args.reply.now now)
-    (course_shifted _ whole c.args.reply.now _ (c.take-next.ensures.leads whole [] (λ later. refl)))
+    (taken_on step.Read step.Read whole (λ card. restrictions (record { deal = deal_of table; row = c.args.at.now.row.now; card = card })) before rest stands.passed table.command.items stands.shows c.args.reply.now now)
+    (course_shifted _ whole c.args.reply.now _ (c.go_on-next.ensures.leads whole [] (λ later. refl)))
