@@ -14,12 +14,15 @@ ghost use Rattle.kernel.specs.Stages.{OpeningStands};
 ghost use Rattle.kernel.specs.Table.{IsDeal, deal_of};
 ghost use Rattle.kernel.specs.Reply.{Reply, CardSaid, CardGone, HostSaid, HostSilent};
 
+use crate::moment::Moment;
 use crate::opening;
 use crate::opening::OpeningNext;
 use crate::stage::{AtTrading, Opening, Stage, Trading};
-use crate::table::Table;
+use crate::table::{HostReply, Table};
 use crate::trading::begin_trading;
 use apdu_core::Out;
+use app_select::Candidates;
+use arrayvec::ArrayVec;
 use emv_dict::{Logged, Purchase, Settings};
 use env_map::Env;
 use object_lists::CardData;
@@ -76,7 +79,16 @@ impl<'s> Kernel<'s> {
         let mut command = Out::new();
         let opening = opening::begin(settings, purchase, &mut command);
         Kernel {
-            table: Table::new(settings, purchase, command),
+            // Made in its place: a function of its own would move the candidates once more.
+            table: Table {
+                settings,
+                purchase,
+                candidates: Candidates::new(settings),
+                moment: Moment::new(),
+                reply: HostReply::none(),
+                command,
+                message: ArrayVec::new(),
+            },
             objects: Env::new(),
             card: None,
             stage: Stage::Opening(opening),

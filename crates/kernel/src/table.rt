@@ -1,9 +1,6 @@
 //! What lies on the terminal's table while a dialogue goes on: what was dealt, what is known, and the
 //! buffers that are lent to the steps.
 ghost use Rattle.std.specs.Prelude.{◌≡◌, []};
-ghost use Rattle.emv_dict.specs.Settings.{IsSettings};
-ghost use Rattle.kernel.specs.Marks.{moment};
-ghost use Rattle.kernel.specs.Table.{deal_of};
 
 use crate::moment::{IssuerData, Moment};
 use apdu_core::Out;
@@ -49,30 +46,9 @@ pub(crate) struct Table<'s> {
     pub message: Message,
 }
 
-impl<'s> Table<'s> {
-    /// The table with the first command: nothing is known yet.
-    pub(crate) fn new(settings: &'s Settings, purchase: &'s Purchase, command: Out) -> Table<'s>
-        requires { IsSettings settings.now }
-        ensures deal { deal_of result ≡ record { settings = settings.now; purchase = purchase.now } }
-        ensures candidates { result.candidates ≡ [] }
-        ensures moment { result.moment ≡ moment [] }
-        ensures command { result.command.items ≡ command.items }
-    {
-        Table {
-            settings,
-            purchase,
-            candidates: Candidates::new(settings),
-            moment: Moment::new(),
-            reply: HostReply::none(),
-            command,
-            message: ArrayVec::new(),
-        }
-    }
-}
-
 impl HostReply {
     /// No reply.
-    fn none() -> HostReply
+    pub(crate) fn none() -> HostReply
         ensures { result.scripts ≡ [] }
     {
         HostReply {
