@@ -1,0 +1,82 @@
+-- How a dialogue ends from where it stands, whatever its card answers from there on: built from the last step to the
+-- first, and carried along what a terminal was told.
+use Rattle.std.proofs.Common.{◌≡◌, ℕ, List, [], ◌∷◌, ◌++◌, Option, ap, sym, subst, ◌∙◌, append-nil}
+use Rattle.std.proofs.lemmas.List.{append_assoc}
+use Rattle.card_files.specs.Views.{AppData}
+use Rattle.card_state.specs.Decisions.{Decided}
+use Rattle.emv_dict.specs.declared.ending.Ending.{Ending}
+use Rattle.emv_dict.specs.declared.purchase.Logged.{Logged}
+use Rattle.kernel.specs.Course.{Standing}
+use Rattle.kernel.specs.Dialogue.{dialogue}
+use Rattle.kernel.specs.Marks.{Mark}
+use Rattle.kernel.specs.Reply.{Reply, CardSaid, from_host, Deed, ToCard, ToHost, Over}
+use Rattle.kernel.specs.Terminal.{Deal}
+use Rattle.completeness.specs.Cards.{Now, powered, says, goes}
+use Rattle.completeness.specs.Told.{Told, begins, card as told_card, host as told_host, IsDecided, IsLinked}
+
+-- the rest of a dialogue over the replies to come ends with a decision
+pub data Ends (image : List AppData) : Now → (List Reply → Standing Mark) → Type 0 where
+  over : {now : Now} {start : List Reply → Standing Mark} (ending : Ending) → (start []).deed ≡ Over ending → IsDecided ending → Ends image now start
+  asks : {now : Now} {start : List Reply → Standing Mark} (command : List ℕ) → (start []).deed ≡ ToCard command →
+      ((log : List Logged) → Ends image (goes image now command) (λ later. start (CardSaid (says image now command) log ∷ later))) →
+      Ends image now start
+  sends : {now : Now} {start : List Reply → Standing Mark} (message : List ℕ) → (start []).deed ≡ ToHost message →
+      ((reply : Option (List ℕ)) → IsLinked reply → Ends image now (λ later. start (from_host reply ∷ later))) →
+      Ends image now start
+
+-- so does any other that makes the same of all replies
+pub ends_as : {image : List AppData} {now : Now} {start other : List Reply → Standing Mark} → ((later : List Reply) → start later ≡ other later)
+    → Ends image now start → Ends image now other
+ends_as {image} {now} {start} {other} same (over ending is decided) =
+    over ending (sym (ap (λ (s : Standing Mark). s.deed) (same [])) ∙ is) decided
+ends_as {image} {now} {start} {other} same (asks command is next) =
+    asks command (sym (ap (λ (s : Standing Mark). s.deed) (same [])) ∙ is)
+    (λ log. ends_as (λ later. same (CardSaid (says image now command) log ∷ later)) (next log))
+ends_as {image} {now} {start} {other} same (sends message is next) =
+    sends message (sym (ap (λ (s : Standing Mark). s.deed) (same [])) ∙ is)
+    (λ reply linked. ends_as (λ later. same (from_host reply ∷ later)) (next reply linked))
+
+command_in : Deed → List ℕ
+command_in (ToCard command) = command
+command_in (ToHost message) = []
+command_in (Over ending) = []
+
+-- what is left behind these replies
+abbrev left : Deal → List Reply → List Reply → Standing Mark
+left deal replies later = dialogue deal (replies ++ later)
+
+at_front : (deal : Deal) (replies : List Reply) → (dialogue deal (replies ++ [])).deed ≡ (dialogue deal replies).deed
+at_front deal replies = ap (λ (rs : List Reply). (dialogue deal rs).deed) (append-nil replies)
+
+behind : (deal : Deal) (replies : List Reply) (reply : Reply) (later : List Reply) → left deal replies (reply ∷ later) ≡ left deal (replies ++ reply ∷ []) later
+behind deal replies reply later = ap (dialogue deal) (sym (append_assoc replies (reply ∷ []) later))
+
+module _ {image : List AppData} (deal : Deal) where
+  answered : {now : Now} (replies : List Reply) (command : List ℕ) (log : List Logged) → Ends image now (left deal replies) → (dialogue deal replies).deed ≡ ToCard command
+      → Ends image (goes image now command) (left deal (replies ++ CardSaid (says image now command) log ∷ []))
+  unfolding command_in
+  answered {now} replies command log (over ending is decided) wanted = absurd (cc (sym is ∙ at_front deal replies ∙ wanted))
+  answered {now} replies command log (asks other is next) wanted =
+      let same : other ≡ command = ap command_in (sym is ∙ at_front deal replies ∙ wanted) in
+      ends_as (behind deal replies (CardSaid (says image now command) log))
+      (subst (λ (c : List ℕ). Ends image (goes image now c) (λ later. left deal replies (CardSaid (says image now c) log ∷ later))) same (next log))
+  answered {now} replies command log (sends message is next) wanted = absurd (cc (sym is ∙ at_front deal replies ∙ wanted))
+
+  replied : {now : Now} (replies : List Reply) (message : List ℕ) (reply : Option (List ℕ)) → Ends image now (left deal replies) → (dialogue deal replies).deed ≡ ToHost message
+      → IsLinked reply → Ends image now (left deal (replies ++ from_host reply ∷ []))
+  replied {now} replies message reply (over ending is decided) wanted linked = absurd (cc (sym is ∙ at_front deal replies ∙ wanted))
+  replied {now} replies message reply (asks command is next) wanted linked = absurd (cc (sym is ∙ at_front deal replies ∙ wanted))
+  replied {now} replies message reply (sends other is next) wanted linked = ends_as (behind deal replies (from_host reply)) (next reply linked)
+
+  -- whatever a terminal was told, the rest ends so, where the whole dialogue does
+  pub every : {found : List Decided} {now : Now} {replies : List Reply} → Ends image (powered found) (dialogue deal) → Told image deal found now replies
+      → Ends image now (left deal replies)
+  every ends begins = ends
+  every ends (told_card {now} {replies} {command} log told wanted) = answered replies command log (every ends told) wanted
+  every ends (told_host {now} {replies} {message} reply told wanted linked) = replied replies message reply (every ends told) wanted linked
+
+  pub decided_at : {now : Now} (replies : List Reply) (ending : Ending) → Ends image now (left deal replies) → (dialogue deal replies).deed ≡ Over ending → IsDecided ending
+  decided_at replies ending (over other is decided) ended =
+      let same : Over other ≡ Over ending = sym is ∙ at_front deal replies ∙ ended in subst IsDecided (cc same) decided
+  decided_at replies ending (asks command is next) ended = absurd (cc (sym is ∙ at_front deal replies ∙ ended))
+  decided_at replies ending (sends message is next) ended = absurd (cc (sym is ∙ at_front deal replies ∙ ended))

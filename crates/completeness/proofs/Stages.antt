@@ -1,0 +1,53 @@
+-- What each stage of a dialogue owes, for a card of this image.
+use Rattle.std.proofs.Common.{◌≡◌, ℕ, ◌≤◌, false, List, slice_get, Option, Some, None, length}
+use Rattle.card_cryptogram.specs.declared.phase.Phase.TheVariants.{Selected, Started}
+use Rattle.card_app.specs.OwnLists.{cdol_of}
+use Rattle.card_files.specs.Kept.{KeepsRules}
+use Rattle.card_files.specs.Views.{AppData}
+use Rattle.card_state.specs.declared.state.AppState.{AppState}
+use Rattle.emv_dict.specs.declared.purchase.AidRow.{AidRow}
+use Rattle.emv_dict.specs.declared.purchase.Logged.{Logged}
+use Rattle.env_map.specs.Entries.{Entries, value_of}
+use Rattle.kernel.specs.Dialogue.{Trade, analysis, read}
+use Rattle.kernel.specs.Marks.{Mark}
+use Rattle.kernel.specs.Terminal.{Deal}
+use Rattle.object_lists.specs.CardRead.{ReadCard}
+use Rattle.object_lists.specs.DolEntries.{total_of}
+use Rattle.read_records.specs.Options.{Opened, initiating}
+use Rattle.completeness.proofs.Answers.{state_at, phase_at}
+use Rattle.completeness.proofs.Ends.{Ends}
+use Rattle.completeness.proofs.Runs.{Runs}
+use Rattle.completeness.specs.Cards.{Now}
+use Rattle.completeness.specs.WellFormed.{IsWhole, list_total}
+
+-- the object lists that were read want what the application takes
+pub record HasLists (a : AppData) (card : ReadCard) : Type 0 where
+  pub first : list_total (value_of 0x8C card.entries) ≡ Some (total_of (cdol_of a.cdol1))
+  pub second : list_total (value_of 0x8D card.entries) ≡ Some (total_of (cdol_of a.cdol2))
+
+-- from action analysis on
+abbrev pub AnalysisEnds : List AppData → Type 0
+AnalysisEnds image =
+    (a : AppData) (app : ℕ) (now : Now) (trade : Trade) (marks : List Mark) (log : List Logged)
+    → slice_get image app ≡ Some a → HasLists a trade.card → phase_at image now ≡ Started app
+    → Ends image now (analysis trade marks log)
+
+-- from reading on
+abbrev pub ReadEnds : List AppData → Type 0
+ReadEnds image =
+    (a : AppData) (app : ℕ) (now : Now) (deal : Deal) (row : AidRow) (whole : IsWhole a) (log : List Logged)
+    → slice_get image app ≡ Some a → phase_at image now ≡ Started app
+    → Ends image now (read deal row whole.reads.start log)
+
+-- GET PROCESSING OPTIONS was answered: the application is refused where it has no counter left, and nothing is decided;
+-- else it is started, and reading begins with what its own profile and locator give
+abbrev pub Initiated : List AppData → (a : AppData) → IsWhole a → ℕ → AppState → Now → Now → Option Opened → Type 0
+Initiated image a whole app s before at None = (65535 ≤ s.counter) × (phase_at image at ≡ Selected app) × (at.kept ≡ before.kept)
+Initiated image a whole app s before at (Some opened) = (opened ≡ whole.reads.start) × (phase_at image at ≡ Started app)
+
+abbrev pub InitiationRuns : List AppData → Type 0
+InitiationRuns image =
+    (a : AppData) (app : ℕ) (now : Now) (s : AppState) (terminal : Entries) (whole : IsWhole a)
+    → KeepsRules a → length a.aip ≡ 2 → slice_get image app ≡ Some a → slice_get (state_at image now).apps.items app ≡ Some s
+    → (state_at image now).blocked ≡ false → s.blocked ≡ false → phase_at image now ≡ Selected app
+    → Runs image (Initiated image a whole app s now) now (initiating a.pdol terminal)

@@ -1,0 +1,4 @@
+pub mod Cards
+pub mod Told
+pub mod WellFormed
+pub mod Laws
