@@ -6,6 +6,7 @@ use Rattle.emv_ports.specs.Memory.{Memory}
 use Rattle.emv_ports.specs.Reading.{ReadsUpTo}
 use Rattle.emv_top.specs.Answers.{Answers, AnswersRead, AnswersWords, AreSettled, Completes, IsAccepted, IsCut, IsCutShort, IsRefused, IsStarved, IsWhole, Leaves, Plays, Refuses, SinkCount, SourceCount, Unbegun}
 use Rattle.emv_top.specs.Courses.{Replays, Reads, Stopped}
+use Rattle.emv_top.specs.Decided.{HasProfiles, RunsAreDecided}
 use Rattle.emv_top.specs.Input.{IsInput}
 use Rattle.emv_top.specs.StatusCode.{code_of}
 use Rattle.emv_top.specs.declared.top.Status.{Status}
@@ -18,12 +19,12 @@ use Rattle.emv_top.proofs.ReadSettled.{read_settled}
 use Rattle.emv_top.proofs.Settled.{run_settled}
 use Rattle.kernel.specs.Tally.{Counts}
 use Rattle.report_text.specs.CommandLine.{usage_line}
-use Rattle.scenario.specs.Plan.{ScenarioData}
+use Rattle.scenario.specs.Plan.{ScenarioData, IsScenario}
 use Rattle.scenario_fields.specs.Line.{refused_line}
 use Rattle.scenario_fields.specs.declared.fault.ScenarioFault.{ScenarioFault}
 use Rattle.txn_replay.specs.Laws.{RunsAreFair, WholeRunsAreFair, IsFair}
 use Rattle.txn_replay.specs.Reading.{ReadRun, to_read}
-use Rattle.txn_replay.specs.Run.{Run}
+use Rattle.txn_replay.specs.Run.{Finished, Run}
 use Rattle.txn_replay.specs.World.{World}
 use Rattle.txn_replay.specs.Seen.{WorldSeen, WorldStands}
 
@@ -33,10 +34,17 @@ module _ (s : ScenarioData) (v : WorldSeen) (told : v.scenario ≡ s) (old new :
   left : (w : World) → WorldStands v w → IsFair s w → Leaves s bank tally w
   left = subst (λ (t : ScenarioData). (w : World) → WorldStands v w → IsFair t w → Leaves t bank tally w) told leaves
 
-  pub whole_replay : WholeRunsAreFair → Completes (Run s) (WorldStands v) old new → IsWhole Replay s old new bank tally
-  whole_replay law whole =
-      completes_with (Run s) (WorldStands v) (λ w. Leaves s bank tally w × AreSettled s w) old new
-      (λ ls w run stands. (left w stands (law s ls w run), run_settled s run.count run.choices run.reported w run.reached)) whole
+  pub whole_replay : WholeRunsAreFair → RunsAreDecided → IsScenario s → HasProfiles s → Completes (Run s) (WorldStands v) old new → IsWhole Replay s old new bank tally
+  whole_replay law decides fits profiles whole =
+      let run : Run s whole.lines whole.world = whole.run in
+      record {
+        lines = whole.lines;
+        world = whole.world;
+        run = (run, decides s Finished run.count run.choices run.reported whole.world run.reached fits profiles);
+        stands =
+            (left whole.world whole.stands (law s whole.lines whole.world run), run_settled s run.count run.choices run.reported whole.world run.reached);
+        written = whole.written;
+      }
 
   pub cut_replay : RunsAreFair → Stopped (Replays s) (WorldStands v) old new → IsCut Replay s old new bank tally
   cut_replay law stopped =

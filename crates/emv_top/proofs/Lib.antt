@@ -14,3 +14,7 @@ pub mod Closings
 pub mod ReadGoing
 pub mod Settled
 pub mod ReadSettled
+pub mod Fates
+pub mod Deciding
+pub mod Accepting
+pub mod Profiles

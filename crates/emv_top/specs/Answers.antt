@@ -7,6 +7,7 @@ use Rattle.emv_ports.specs.Growth.{AppendsFront}
 use Rattle.emv_ports.specs.Memory.{Memory, IsBlank}
 use Rattle.emv_ports.specs.Reading.{ReadsUpTo}
 use Rattle.emv_top.specs.Courses.{Ends, Replays, Reads, Stopped}
+use Rattle.emv_top.specs.Decided.{DecidedRun}
 use Rattle.emv_top.specs.Input.{IsInput}
 use Rattle.emv_top.specs.Texts.{text_of}
 use Rattle.emv_top.specs.declared.top.Status.{Status}
@@ -23,7 +24,6 @@ use Rattle.scenario_fields.specs.declared.fault.ScenarioFault.{ScenarioFault}
 use Rattle.txn_replay.specs.Counting.{counts}
 use Rattle.txn_replay.specs.Laws.{IsFair}
 use Rattle.txn_replay.specs.Reading.{ReadRun, to_read}
-use Rattle.txn_replay.specs.Run.{Run}
 use Rattle.txn_replay.specs.World.{World, card_at}
 use Rattle.txn_replay.specs.Seen.{BankStands}
 
@@ -64,11 +64,11 @@ pub record Completes (runs : List Line → World → Type 0) (holds : World → 
   pub stands : holds world
   pub written : Appends old new (text_of lines)
 
--- the runs that an order asks for, and the scenario whose cards, lanes and host they are of: a card is read without
--- its purchase's tear
+-- the runs that an order asks for, and the scenario whose cards, lanes and host they are of: in a whole run each purchase
+-- with a well-formed card is decided, and a card is read without its purchase's tear
 abbrev pub runs_of : Order → ScenarioData → List Line → World → Type 0
 runs_of Read s = ReadRun s
-runs_of Replay s = Run s
+runs_of Replay s = DecidedRun s
 
 abbrev pub played : Order → ScenarioData → ScenarioData
 played Read s = to_read s

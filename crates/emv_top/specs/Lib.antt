@@ -5,4 +5,5 @@ pub mod Texts
 pub mod Short
 pub mod Input
 pub mod Courses
+pub mod Decided
 pub mod Answers

@@ -6,6 +6,7 @@
 mod closing;
 mod events;
 mod input;
+mod laws;
 mod lines;
 mod reading;
 mod replaying;

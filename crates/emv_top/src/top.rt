@@ -1,5 +1,5 @@
 //! The top call.
-ghost use Rattle.std.specs.Prelude.{◌≡◌, ◌≢◌, ◌≤◌, ◌⊎◌, ℕ, List, None, Some, map, length, string_bytes};
+ghost use Rattle.std.specs.Prelude.{◌≡◌, ◌≢◌, ◌≤◌, ◌⊎◌, ℕ, List, None, Some, Ok, map, length, string_bytes};
 ghost use Rattle.std.specs.List.{All};
 ghost use Rattle.std.specs.Io.KnownBytes.{Appends};
 ghost use Rattle.emv_ports.specs.Causes.{Rose};
@@ -7,7 +7,8 @@ ghost use Rattle.emv_ports.specs.Growth.{AppendsFront};
 ghost use Rattle.emv_ports.specs.Memory.{IsBlank};
 ghost use Rattle.emv_ports.specs.Reading.{ReadsUpTo};
 ghost use Rattle.emv_top.specs.Answers.{Answers, AnswersRead, AnswersWords, AreSpare, IsAccepted, IsCutShort, IsRefused, IsStarved, IsWhole, Leaves, Plays, Refuses, SinkCount, SourceCount, TellsUsage, Unbegun};
-ghost use Rattle.emv_top.specs.Input.{first_purchases};
+ghost use Rattle.emv_top.specs.Decided.{HasProfiles};
+ghost use Rattle.emv_top.specs.Input.{IsInput, first_purchases};
 ghost use Rattle.emv_top.specs.StatusCode.{code_of};
 ghost use Rattle.emv_top.specs.Words.{order_of};
 ghost use Rattle.emv_top.specs.declared.words.Order.{Order};
@@ -20,6 +21,7 @@ ghost use Rattle.txn_replay.specs.World.{World as Told};
 ghost use Rattle.txn_replay.specs.Seen.{WorldStands};
 
 use crate::input::{read_input, take_tear};
+use crate::laws::runs_are_decided;
 use crate::reading::read_through;
 use crate::replaying::replay_through;
 use crate::stop::Stop;
@@ -110,12 +112,14 @@ fn replay<P: Pages, K: Sink>(
     sink: &mut K,
 ) -> Ended<P>
     requires rules { IsScenario scenario.now }
+    requires profiles { HasProfiles scenario.now }
     requires pages { length bank.items ≡ 64 }
     requires blank { All IsBlank (map P.memory bank.items) }
     ensures plays { Plays Order.Replay scenario.now (K.held sink.old) (K.held sink.new) (map P.memory result.bank.items) result.tally result.status }
     ensures count { SinkCount (K.faults sink.old) (K.faults sink.new) result.status }
 {
     runs_are_fair();
+    runs_are_decided();
     match World::new(alloc, scenario, bank) {
         Ok(world) => {
             let mut world = world;
@@ -167,6 +171,7 @@ fn play<P: Pages, K: Sink>(
     sink: &mut K,
 ) -> Ended<P>
     requires rules { IsScenario scenario }
+    requires profiles { HasProfiles scenario }
     requires some { order ≡ Order.Read → 1 ≤ length (first_purchases scenario.lanes) }
     requires pages { length bank.items ≡ 64 }
     requires blank { All IsBlank (map P.memory bank.items) }
@@ -312,7 +317,8 @@ pub fn run<P: Pages, S: Source, K: Sink>(
 
     // 0: the bytes read are a scenario's, and of one run of it the sink got the text of its lines, the pages
     // stand for its cards' decisions, and the tally is its count. No counter serves two purchases, power-ups
-    // find prefixes, and no transaction is booked twice.
+    // find prefixes, and no transaction is booked twice. In a whole run each purchase without a tear whose card
+    // was well-formed at its power-up is approved or declined.
     ensures done { result.status ≡ 0 → (order : Order) × (order_of (map string_bytes words.now) ≡ Some order) × (bytes : List ℕ)
         × ReadsUpTo 4194305 (S.left source.old) (S.left source.new) bytes
         × IsAccepted order bytes (λ s. IsWhole order s (K.held sink.old) (K.held sink.new) (map P.memory result.bank.items) result.tally) }
@@ -346,6 +352,12 @@ pub fn run<P: Pages, S: Source, K: Sink>(
     ensures source_calm { result.status ≢ 3 → S.faults source.new ≡ S.faults source.old }
     ensures sink_calm { result.status ≢ 4 → K.faults sink.new ≡ K.faults sink.old }
     ensures known { result.status ≤ 5 }
+
+    // Where the words are in the grammar, the bytes read are a scenario's, and no count rose: 0, or 5.
+    ensures settled { (order : Order) (bytes : List ℕ) (scenario : ScenarioData) → order_of (map string_bytes words.now) ≡ Some order
+        → S.left source.old ≢ None → ReadsUpTo 4194305 (S.left source.old) (S.left source.new) bytes → IsInput order bytes (Ok scenario)
+        → (Rose (S.faults source.old) (S.faults source.new) → ⊥) → (Rose (K.faults sink.old) (K.faults sink.new) → ⊥)
+        → (result.status ≡ 0) ⊎ (result.status ≡ 5) }
 {
     let ended = end_of(alloc, words, bank, source, sink);
     Finished {

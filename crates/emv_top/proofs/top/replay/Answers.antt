@@ -10,7 +10,8 @@ pub returns-in-Ok-replay_through-clause-plays : goal.returns-in-Ok-replay_throug
 returns-in-Ok-replay_through-clause-plays g c =
     subst (λ (st : Status). Plays Replay c.args.scenario.now (g.K.Sink.held c.args.sink.now) (g.K.Sink.held c.replay_through.new.sink)
     (map g.P.Pages.memory c.end_world.result.bank.items) c.end_world.result.tally st) (sym c.end_world.ensures.status)
-    (whole_replay c.args.scenario.now c.replay_through.new.world c.replay_through.ensures.told _ _ _ _ c.end_world.ensures.leaves c.runs_are_fair.ensures.whole c.in-Ok-replay_through.ensures.ok)
+    (whole_replay c.args.scenario.now c.replay_through.new.world c.replay_through.ensures.told _ _ _ _ c.end_world.ensures.leaves c.runs_are_fair.ensures.whole c.runs_are_decided.ensures c.requires.rules c.requires.profiles
+    c.in-Ok-replay_through.ensures.ok)
 
 pub returns-in-Err-Sink-clause-plays : goal.returns-in-Err-Sink-clause-plays
 returns-in-Err-Sink-clause-plays g c =

@@ -1,4 +1,5 @@
-use Rattle.std.proofs.Common.{◌∙◌, sym, subst, ◌≤◌, ℕ}
+use Rattle.std.proofs.Common.{◌∙◌, ◌≡◌, ◌⊎◌, sym, subst, ◌≤◌, ℕ}
+use Rattle.emv_top.proofs.Accepting.{settles}
 use Rattle.emv_top.proofs.Answering.{clause_done, clause_refused, clause_usage, clause_read_fault, clause_front, clause_memory, clause_rose, source_calm, sink_calm, code_known, usage_by, read_fault_by}
 use Rattle.emv_top.proofs.top.run.Goals as goal
 
@@ -38,3 +39,9 @@ returns-clause-sink_calm g c = λ other. sink_calm _ _ c.end_of-ended.result.sta
 
 pub returns-clause-known : goal.returns-clause-known
 returns-clause-known g c = subst (λ (n : ℕ). n ≤ 5) (sym c.code.ensures) (code_known c.end_of-ended.result.status)
+
+pub returns-clause-settled : goal.returns-clause-settled
+returns-clause-settled g c = λ order bytes scenario is known reads accepted calm still.
+    subst (λ (n : ℕ). (n ≡ 0) ⊎ (n ≡ 5)) (sym c.code.ensures)
+    (settles order bytes scenario accepted _ _ _ _ _ _ known reads _ is c.end_of-ended.result.status _ _ _ _ c.end_of-ended.ensures.answers
+    c.end_of-ended.ensures.source c.end_of-ended.ensures.sink calm still)
