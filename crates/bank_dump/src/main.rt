@@ -1,0 +1,85 @@
+//! A run as `emvrun replay` makes it, and then on standard error what it left: for `scripts/check-refusals`,
+//! which refuses it memory. A line for each card whose pages are not those of a blank card, as a power-up finds
+//! them, and a line for the tally.
+#![tactic(auto)]
+
+use emv_ports::{Held, MemoryPages, Pages, StdinSource, StdoutSink};
+use emv_top::run;
+use kernel::Tally;
+use memory_bank::blank_bank;
+use std::alloc::{AllocError, Global};
+use std::io;
+use std::process::ExitCode;
+
+/// The exit status where what the run left could not be told.
+const NOT_TOLD: u8 = 6;
+
+/// What a card's pages show.
+#[derive(Clone, Copy, PartialEq, Eq)]
+struct Shown {
+    marks: u32,
+    sum: u64,
+}
+
+/// A sum over the bytes (FNV-1a), on from this one.
+fn sum_over(bytes: &[u8; 64], before: u64) -> u64 {
+    let mut sum = before;
+    for byte in bytes {
+        sum = (sum ^ u64::from(*byte)).wrapping_mul(0x0100_0000_01b3);
+    }
+    sum
+}
+
+/// What the pages show once they are turned on.
+fn shown_by(pages: MemoryPages) -> Shown {
+    let mut pages = pages;
+    pages.power_up();
+    let mut sum = 0xcbf2_9ce4_8422_2325;
+    for page in 0..64 {
+        sum = sum_over(&pages.read(page), sum);
+    }
+    Shown {
+        marks: pages.marks(),
+        sum,
+    }
+}
+
+/// Tells what a run left.
+fn tell(rt: &HostRuntime, bank: Vec<Held<MemoryPages>>, tally: &Tally) -> io::Result<()> {
+    let blank = shown_by(MemoryPages::blank());
+    let mut card: u32 = 0;
+    for pages in bank {
+        let shown = shown_by(pages.into_inner());
+        if shown != blank {
+            let Shown { marks, sum } = shown;
+            eprintln!(rt; "card {card} marks {marks} pages {sum:016x}")?;
+        }
+        card = card.saturating_add(1);
+    }
+    let [approved, declined, other, replies] = tally.counts();
+    eprintln!(rt; "tally {approved} {declined} {other} {replies}")
+}
+
+/// The words of the run.
+fn words(alloc: Global) -> Result<Vec<String>, AllocError> {
+    let mut words = Vec::new(alloc);
+    words.push(String::from_str(alloc, "replay")?)?;
+    Ok(words)
+}
+
+/// The run, and what it left. Where there is no memory for the word or the bank, nothing is run or told.
+fn main(rt: HostRuntime) -> ExitCode {
+    let Ok(bank) = blank_bank(rt.alloc()) else {
+        return ExitCode::from(5);
+    };
+    let Ok(words) = words(rt.alloc()) else {
+        return ExitCode::from(5);
+    };
+    let mut source = StdinSource::new(rt.reader());
+    let mut sink = StdoutSink::new(io::writer(&rt));
+    let finished = run(rt.alloc(), &words, bank, &mut source, &mut sink);
+    match tell(&rt, finished.bank, &finished.tally) {
+        Ok(()) => ExitCode::from(finished.status),
+        Err(_) => ExitCode::from(NOT_TOLD),
+    }
+}
