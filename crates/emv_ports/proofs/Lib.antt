@@ -1,4 +1,5 @@
 pub mod Cells
 pub mod Growth
 pub mod PowerUp
+pub mod Roughening
 pub mod Settling

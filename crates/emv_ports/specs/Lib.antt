@@ -6,5 +6,6 @@ pub mod Memory
 pub mod MemoryPages
 pub mod PageReading
 pub mod Reading
+pub mod Rough
 pub mod State
 pub mod Workings

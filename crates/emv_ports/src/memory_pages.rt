@@ -1,9 +1,10 @@
 //! Card pages that live in memory, and tear by plan.
-ghost use Rattle.std.specs.Prelude.{◌≡◌, ◌<◌, map, length, IsTrue};
+ghost use Rattle.std.specs.Prelude.{◌≡◌, ◌<◌, map, length, unwrap_or, IsTrue};
 ghost use Rattle.std.specs.List.{list_all};
 ghost use Rattle.emv_ports.specs.Cut.{is_plan, write_cut, release_cut};
-ghost use Rattle.emv_ports.specs.Cell.{given_of, gives_byte, is_page, settled, settled_from};
-ghost use Rattle.emv_ports.specs.Cell.{torn_over, all_torn_over};
+ghost use Rattle.emv_ports.specs.Cell.{sure_of, given_of, gives_byte, is_page};
+ghost use Rattle.emv_ports.specs.Cell.{settled, settled_from, torn_over, all_torn_over};
+ghost use Rattle.emv_ports.specs.Rough.{rough_byte, rough_page, rough_pages};
 ghost use Rattle.emv_ports.specs.declared.memory_pages.Cell.TheVariants.{Sure};
 
 use crate::{Cut, Gone, Pages, Tear, TearAt};
@@ -53,6 +54,17 @@ impl Cell {
         match self {
             Cell::Unsure { torn, .. } if in_turn => Cell::Unsure { torn, given: torn },
             _ => self,
+        }
+    }
+
+    /// The cell, which gives this byte if it is unsure.
+    fn roughened(self, byte: u8) -> Cell
+        ensures sure { sure_of result ≡ sure_of self }
+        ensures given { given_of result ≡ unwrap_or (sure_of self) byte }
+    {
+        match self {
+            Cell::Unsure { torn, .. } => Cell::Unsure { torn, given: byte },
+            Cell::Sure(_) => self,
         }
     }
 }
@@ -107,6 +119,34 @@ fn settle(pages: &mut [[Cell; 64]; 64], power_up: u8)
 {
     for page in 0..64 {
         pages[page] = settled_cells(&pages[page], power_up);
+    }
+}
+
+fn rough_byte(word: u32, power_up: u8, page: u8, cell: u8) -> u8
+    ensures { result ≡ rough_byte word power_up page cell }
+{
+    let sum = u64::from(word) + 31 * u64::from(power_up) + 7 * u64::from(page) + u64::from(cell);
+    (sum % 256) as u8
+}
+
+fn roughen_page(cells: &mut [Cell; 64], word: u32, power_up: u8, page: u8)
+    ensures sure { map sure_of cells.new ≡ map sure_of cells.old }
+    ensures given { map given_of cells.new
+        ≡ rough_page word power_up page 0 (map sure_of cells.old) }
+{
+    for i in 0..64u8 {
+        let cell = cells[i as usize];
+        cells[i as usize] = cell.roughened(rough_byte(word, power_up, page, i));
+    }
+}
+
+fn roughen_pages(pages: &mut [[Cell; 64]; 64], word: u32, power_up: u8)
+    ensures sure { map (map sure_of) pages.new ≡ map (map sure_of) pages.old }
+    ensures given { map (map given_of) pages.new
+        ≡ rough_pages word power_up 0 (map (map sure_of) pages.old) }
+{
+    for page in 0..64u8 {
+        roughen_page(&mut pages[page as usize], word, power_up, page);
     }
 }
 
@@ -169,6 +209,7 @@ impl Model for MemoryPages {
 
 impl MemoryPages {
     ghost use Rattle.emv_ports.specs.Memory.{IsBlank, blank_memory, gone, torn};
+    ghost use Rattle.emv_ports.specs.Rough.{rough_pages};
     ghost use Rattle.emv_ports.specs.Workings.{blank_workings, torn_workings};
 
     /// Pages that are off, every cell sure of 00, no tear planned and no loss.
@@ -202,6 +243,22 @@ impl MemoryPages {
         ensures { result ≡ self.now.workings.writes }
     {
         self.writes
+    }
+
+    /// The number of losses of power since the pages were made, up to the greatest `u64`.
+    pub fn losses(&self) -> u64
+        ensures { result ≡ self.now.memory.losses }
+    {
+        self.losses
+    }
+
+    /// Lets each unsure cell give its rough byte of this power-up.
+    pub(crate) fn roughen(&mut self, word: u32, power_up: u8)
+        ensures { self.new.memory ≡ record self.old.memory {
+          shown = rough_pages word power_up 0 self.old.memory.cells;
+        } }
+    {
+        roughen_pages(&mut self.cells, word, power_up);
     }
 
     fn tear(&mut self, page: u8, bytes: &[u8; 64])

@@ -1,4 +1,4 @@
-ghost use Rattle.std.specs.Prelude.{◌≡◌, ℕ, List, Some, [], ◌+◌, ◌-◌, ◌≤◌, ◌<◌, ◌++◌, ◌↔◌, ◌⊎◌, min, length, Contains, IsErr, IfOk, OnErr};
+ghost use Rattle.std.specs.Prelude.{◌≡◌, ℕ, List, Some, [], ◌+◌, ◌-◌, ◌^◌, ◌≤◌, ◌<◌, ◌++◌, ◌↔◌, ◌⊎◌, min, length, Contains, IsErr, IfOk, OnErr};
 ghost use Rattle.std.specs.declared.option.Option.{Option};
 ghost use Rattle.std.specs.Io.{WritesAtMost};
 ghost use Rattle.std.specs.Io.KnownBytes.{WriteAppends};
@@ -9,25 +9,27 @@ use crate::{Failed, Sink};
 use std::alloc::{AllocError, Global};
 use std::marker::Model;
 
-/// A sink over memory of a fixed room that fails at chosen calls.
+/// A sink over memory of a fixed room that fails at chosen calls, and takes at most so many bytes a
+/// call.
 #[derive(Drop)]
 pub struct MemorySink {
     bytes: Vec<u8>,
     room: usize,
+    most: usize,
     fails: Vec<u32>,
     calls: u64,
     faults: u64,
 }
 
 impl Model for MemorySink {
-    ghost use Rattle.std.specs.Prelude.{◌≤◌, vec_len, vec_capacity};
+    ghost use Rattle.std.specs.Prelude.{◌≤◌, ◌<◌, vec_len, vec_capacity};
     ghost use Rattle.emv_ports.specs.State.{SinkState};
 
     ghost Value = { SinkState };
 
-    ghost view = { λ s. record { held = s.bytes.items; room = s.room; fails = s.fails.items; calls = s.calls; faults = s.faults } };
+    ghost view = { λ s. record { held = s.bytes.items; room = s.room; most = s.most; fails = s.fails.items; calls = s.calls; faults = s.faults } };
 
-    ghost invariant = { λ s. (vec_len s.bytes ≤ s.room) × (s.room ≤ vec_capacity s.bytes) };
+    ghost invariant = { λ s. (vec_len s.bytes ≤ s.room) × (s.room ≤ vec_capacity s.bytes) × (0 < s.most) };
 }
 
 impl MemorySink {
@@ -36,6 +38,25 @@ impl MemorySink {
     pub fn new(alloc: Global, room: usize, fails: Vec<u32>) -> Result<MemorySink, AllocError>
         ensures held { IfOk result (λ s. s.held ≡ []) }
         ensures room { IfOk result (λ s. s.room ≡ room) }
+        ensures most { IfOk result (λ s. s.most ≡ 2 ^ 64 - 1) }
+        ensures fails { IfOk result (λ s. s.fails ≡ fails.items) }
+        ensures calls { IfOk result (λ s. s.calls ≡ 0) }
+        ensures faults { IfOk result (λ s. s.faults ≡ 0) }
+    {
+        MemorySink::slow(alloc, room, fails, usize::MAX)
+    }
+
+    /// As `new`, but a call takes at most `most` bytes.
+    pub fn slow(
+        alloc: Global,
+        room: usize,
+        fails: Vec<u32>,
+        most: usize,
+    ) -> Result<MemorySink, AllocError>
+        requires most { 0 < most }
+        ensures held { IfOk result (λ s. s.held ≡ []) }
+        ensures room { IfOk result (λ s. s.room ≡ room) }
+        ensures most { IfOk result (λ s. s.most ≡ most) }
         ensures fails { IfOk result (λ s. s.fails ≡ fails.items) }
         ensures calls { IfOk result (λ s. s.calls ≡ 0) }
         ensures faults { IfOk result (λ s. s.faults ≡ 0) }
@@ -43,6 +64,7 @@ impl MemorySink {
         Ok(MemorySink {
             bytes: Vec::with_capacity(alloc, room)?,
             room,
+            most,
             fails,
             calls: 0,
             faults: 0,
@@ -59,6 +81,7 @@ impl MemorySink {
     fn fail(&mut self) -> Failed
         ensures held { self.new.held ≡ self.old.held }
         ensures room { self.new.room ≡ self.old.room }
+        ensures most { self.new.most ≡ self.old.most }
         ensures fails { self.new.fails ≡ self.old.fails }
         ensures calls { self.new.calls ≡ self.old.calls }
         ensures faults { self.new.faults ≡ one_more self.old.faults }
@@ -73,23 +96,24 @@ impl Sink for MemorySink {
 
     ghost faults = { λ s. s.faults };
 
-    /// Takes as much as fits.
+    /// Takes as much as fits, up to the most of one call.
     fn write(&mut self, piece: &[u8]) -> Result<usize, Failed>
         ensures bound { WritesAtMost result piece.now }
         ensures bytes { WriteAppends (Some self.old.held) (Some self.new.held) result piece.now }
         ensures takes { 0 < length piece.now → IfOk result (λ n. 0 < n) }
         ensures cause { HasCause self.old.faults self.new.faults result }
         ensures exactly { IsErr result ↔ (Contains self.old.fails self.new.calls ⊎ ((0 < length piece.now) × (self.old.room ≤ length self.old.held))) }
-        ensures fits { IfOk result (λ n. n ≡ min (length piece.now) (self.old.room - length self.old.held)) }
+        ensures fits { IfOk result (λ n. n ≡ min self.old.most (min (length piece.now) (self.old.room - length self.old.held))) }
         ensures calls { self.new.calls ≡ one_more self.old.calls }
         ensures faults { OnErr result (self.new.faults ≡ one_more self.old.faults) }
-        ensures kept { (self.new.fails ≡ self.old.fails) × (self.new.room ≡ self.old.room) }
+        ensures kept { (self.new.fails ≡ self.old.fails) × (self.new.room ≡ self.old.room) × (self.new.most ≡ self.old.most) }
     {
         self.calls = self.calls.saturating_add(1);
         if is_numbered(&self.fails, self.calls) {
             return Err(self.fail());
         }
-        let count = piece.len().min(self.room - self.bytes.len());
+        let room = self.room - self.bytes.len();
+        let count = self.most.min(piece.len().min(room));
         if count == 0 && !piece.is_empty() {
             return Err(self.fail());
         }

@@ -1,4 +1,4 @@
-ghost use Rattle.std.specs.Prelude.{◌≡◌, ℕ, List, Some, [], ◌+◌, ◌≤◌, ◌<◌, ◌++◌, ◌↔◌, min, length, take, drop, Contains, IsTrue, IsErr, IfOk, OnErr};
+ghost use Rattle.std.specs.Prelude.{◌≡◌, ℕ, List, Some, ◌+◌, ◌-◌, ◌^◌, ◌≤◌, ◌<◌, ◌++◌, ◌↔◌, min, length, take, drop, Contains, IsTrue, IsErr, IfOk, OnErr};
 ghost use Rattle.std.specs.declared.option.Option.{Option};
 ghost use Rattle.std.specs.Io.{ReadsAtMost};
 ghost use Rattle.std.specs.Io.KnownBytes.{ReadConsumes};
@@ -7,32 +7,46 @@ ghost use Rattle.emv_ports.specs.Causes.{HasCause, one_more};
 use crate::{Failed, Source};
 use std::marker::Model;
 
-/// A source over memory that fails at chosen calls.
+/// A source over memory that fails at chosen calls, and gives at most so many bytes a call.
 #[derive(Drop)]
 pub struct MemorySource {
     bytes: Vec<u8>,
     given: usize,
+    most: usize,
     fails: Vec<u32>,
     calls: u64,
     faults: u64,
 }
 
 impl Model for MemorySource {
-    ghost use Rattle.std.specs.Prelude.{◌≤◌, drop, length};
+    ghost use Rattle.std.specs.Prelude.{◌≤◌, ◌<◌, drop, length};
     ghost use Rattle.emv_ports.specs.State.{SourceState};
 
     ghost Value = { SourceState };
 
-    ghost view = { λ s. record { left = drop s.given s.bytes.items; fails = s.fails.items; calls = s.calls; faults = s.faults } };
+    ghost view = { λ s. record { left = drop s.given s.bytes.items; most = s.most; fails = s.fails.items; calls = s.calls; faults = s.faults } };
 
-    ghost invariant = { λ s. s.given ≤ length s.bytes.items };
+    ghost invariant = { λ s. (s.given ≤ length s.bytes.items) × (0 < s.most) };
 }
 
 impl MemorySource {
-    /// A source with these bytes left. The calls of `read` with these numbers fail; the first
-    /// call is number 1.
+    /// A source with these bytes left, that gives as many a call as fit. The calls of `read` with
+    /// these numbers fail; the first call is number 1.
     pub fn new(bytes: Vec<u8>, fails: Vec<u32>) -> MemorySource
         ensures left { result.left ≡ bytes.items }
+        ensures most { result.most ≡ 2 ^ 64 - 1 }
+        ensures fails { result.fails ≡ fails.items }
+        ensures calls { result.calls ≡ 0 }
+        ensures faults { result.faults ≡ 0 }
+    {
+        MemorySource::slow(bytes, fails, usize::MAX)
+    }
+
+    /// As `new`, but a call gives at most `most` bytes.
+    pub fn slow(bytes: Vec<u8>, fails: Vec<u32>, most: usize) -> MemorySource
+        requires most { 0 < most }
+        ensures left { result.left ≡ bytes.items }
+        ensures most { result.most ≡ most }
         ensures fails { result.fails ≡ fails.items }
         ensures calls { result.calls ≡ 0 }
         ensures faults { result.faults ≡ 0 }
@@ -40,6 +54,7 @@ impl MemorySource {
         MemorySource {
             bytes,
             given: 0,
+            most,
             fails,
             calls: 0,
             faults: 0,
@@ -52,23 +67,25 @@ impl Source for MemorySource {
 
     ghost faults = { λ s. s.faults };
 
-    /// Gives as much as is left and fits.
+    /// Gives as much as is left and fits, up to the most of one call.
     fn read(&mut self, out: &mut [u8]) -> Result<usize, Failed>
         ensures bound { ReadsAtMost result out.new }
         ensures bytes { ReadConsumes (Some self.old.left) (Some self.new.left) result out.new }
         ensures cause { HasCause self.old.faults self.new.faults result }
         ensures exactly { IsErr result ↔ Contains self.old.fails self.new.calls }
-        ensures fits { IfOk result (λ n. n ≡ min (length self.old.left) (length out.old)) }
+        ensures fits { IfOk result (λ n. n ≡ min self.old.most (min (length self.old.left) (length out.old))) }
         ensures calls { self.new.calls ≡ one_more self.old.calls }
         ensures faults { OnErr result (self.new.faults ≡ one_more self.old.faults) }
-        ensures kept { self.new.fails ≡ self.old.fails }
+        ensures kept { (self.new.fails ≡ self.old.fails) × (self.new.most ≡ self.old.most) }
     {
         self.calls = self.calls.saturating_add(1);
         if is_numbered(&self.fails, self.calls) {
             self.faults = self.faults.saturating_add(1);
             return Err(Failed);
         }
-        let count = copy_from(&self.bytes, self.given, out);
+        let left = self.bytes.len() - self.given;
+        let count = self.most.min(left.min(out.len()));
+        copy_from(&self.bytes, self.given, count, out);
         self.given += count;
         Ok(count)
     }
@@ -81,16 +98,12 @@ pub(crate) fn is_numbered(fails: &[u32], call: u64) -> bool
     fails.iter().any(|number| u64::from(*number) == call)
 }
 
-/// Copies the bytes from a place on to the front of `out`, as many as fit.
-fn copy_from(bytes: &[u8], start: usize, out: &mut [u8]) -> usize
-    requires { start ≤ length bytes.now }
-    ensures bytes { drop start bytes.now ≡ take result out.new ++ drop (start + result) bytes.now }
-    ensures end { result ≡ 0 → 0 < length out.new → drop (start + result) bytes.now ≡ [] }
-    ensures within { start + result ≤ length bytes.now }
-    ensures fits { result ≤ length out.new }
-    ensures most { result ≡ min (length (drop start bytes.now)) (length out.old) }
+/// Copies so many bytes from a place on to the front of `out`.
+fn copy_from(bytes: &[u8], start: usize, count: usize, out: &mut [u8])
+    requires within { start + count ≤ length bytes.now }
+    requires fits { count ≤ length out.old }
+    ensures bytes { drop start bytes.now ≡ take count out.new ++ drop (start + count) bytes.now }
+    ensures long { length out.new ≡ length out.old }
 {
-    let count = (bytes.len() - start).min(out.len());
     out[..count].copy_from_slice(&bytes[start..start + count]);
-    count
 }

@@ -29,6 +29,46 @@ fn a_sink_takes_what_fits_and_fails_at_numbered_calls(rt: HostRuntime) -> Result
 }
 
 #[test]
+fn a_slow_source_gives_a_few_bytes_a_call(rt: HostRuntime) -> Result<(), Fail> {
+    let alloc = rt.alloc();
+    let mut source = MemorySource::slow([1, 2, 3, 4, 5].to_vec(alloc)?, Vec::new(alloc), 2);
+    let mut out = [0u8; 4];
+    for (count, front) in [
+        (2, [1, 2, 0, 0]),
+        (2, [3, 4, 0, 0]),
+        (1, [5, 4, 0, 0]),
+        (0, [5, 4, 0, 0]),
+    ] {
+        assert_eq!(rt; source.read(&mut out), Ok(count));
+        assert_eq!(rt; out, front);
+    }
+    let mut source = MemorySource::slow([1, 2, 3].to_vec(alloc)?, [2].to_vec(alloc)?, 2);
+    assert_eq!(rt; source.read(&mut out), Ok(2));
+    assert_eq!(rt; source.read(&mut out), Err(Failed));
+    assert_eq!(rt; source.read(&mut out[..1]), Ok(1));
+    assert_eq!(rt; out, [3, 2, 0, 0]);
+    assert_eq!(rt; source.read(&mut out), Ok(0));
+    Ok(())
+}
+
+#[test]
+fn a_slow_sink_takes_a_few_bytes_a_call(rt: HostRuntime) -> Result<(), Fail> {
+    let alloc = rt.alloc();
+    let mut sink = MemorySink::slow(alloc, 6, [2].to_vec(alloc)?, 2)?;
+    assert_eq!(rt; sink.write(&[1, 2, 3]), Ok(2));
+    assert_eq!(rt; sink.write(&[3]), Err(Failed));
+    assert_eq!(rt; sink.write(&[3]), Ok(1));
+    assert_eq!(rt; sink.write(&[4, 5, 6]), Ok(2));
+    assert_eq!(rt; sink.write(&[6, 7]), Ok(1));
+    assert_eq!(rt; sink.write(&[7]), Err(Failed));
+    assert_eq!(rt; sink.bytes(), [1, 2, 3, 4, 5, 6].as_slice());
+    let mut sink = MemorySink::slow(alloc, 5, Vec::new(alloc), 2)?;
+    assert_eq!(rt; write_all(&mut sink, b"abcde"), Ok(()));
+    assert_eq!(rt; sink.bytes(), b"abcde".as_slice());
+    Ok(())
+}
+
+#[test]
 fn a_source_is_read_to_its_end_or_to_a_limit(rt: HostRuntime) -> Result<(), Fail> {
     let alloc = rt.alloc();
     for (most, want) in [(0, 0), (9999, 9999), (10000, 10000), (20000, 10000)] {

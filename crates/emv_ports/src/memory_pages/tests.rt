@@ -32,7 +32,8 @@ fn a_torn_page_settles_in_turn(rt: HostRuntime) -> Result<(), Fail> {
     pages.mark();
     let torn = pages.write(7, &half_new());
     assert_eq!(rt; torn, Err(Gone));
-    assert_eq!(rt; (pages.marks(), pages.writes()), (2, 2));
+    let counts = (pages.marks(), pages.writes(), pages.losses());
+    assert_eq!(rt; counts, (2, 2, 1));
 
     // Power-up 3: odd cells give the torn write's byte, even ones what they gave last.
     pages.power_up();
