@@ -9,7 +9,7 @@ use Rattle.scenario.specs.Cards.{CardData}
 use Rattle.scenario.specs.Plan.{ScenarioData, IsScenario}
 use Rattle.txn_replay.specs.World.{World, card_at}
 use Rattle.txn_replay.proofs.Lists.{some_at}
-use Rattle.txn_replay.specs.Seen.{WorldSeen, BankStands, PagesStand}
+use Rattle.txn_replay.specs.Seen.{WorldSeen, BankStands, PagesAre}
 
 all_dropped : (n : ℕ) (xs : List Memory) → All IsBlank xs → All IsBlank (drop n xs)
 all_dropped n xs all k d within =
@@ -43,6 +43,6 @@ all_back s w bank spare are same stands = by (length s.cards) refl
     by zero none = omega (arith, left, none)
     by (suc n) is =
         let card : (x : CardData) × (slice_get s.cards n ≡ Some x) = some_at s.cards n (omega (arith, is)) in
-        let kept : (memory : Memory) × (slice_get bank n ≡ Some memory) × PagesStand memory card.0 (card_at w n) = stands n card.0 card.1 in
+        let kept : (memory : Memory) × (slice_get bank n ≡ Some memory) × PagesAre memory card.0 (card_at w n) card.0.canned = stands n card.0 card.1 in
         let within : n < length bank = slice_get_within bank n kept.0 kept.1 in
         omega (arith, left, few, within, is)

@@ -1,4 +1,4 @@
--- In every world of a run, what a purchase without a tear was told, and how those that have ended did.
+-- In every world of a run, what a purchase without a tear, of a card with applications, was told, and how those that have ended did.
 use Rattle.std.proofs.Common.{◌≡◌, ◌≢◌, ◌⊎◌, ℕ, ◌<◌, Bool, true, false, ◌&&◌, List, [], ◌∷◌, ◌++◌, length, take, get_or, slice_get, Option, Some, None, refl, sym, ap, ◌∙◌, subst, inl, inr, arith}
 use Rattle.std.proofs.lemmas.Bool.{cases_eq}
 use Rattle.std.proofs.lemmas.List.{length-take-le, get_or-set_same, get_or-set_other}
@@ -12,10 +12,11 @@ use Rattle.completeness.specs.Told.{Told, IsDecided}
 use Rattle.completeness.specs.WellFormed.{HaveProfiles, WellFormed}
 use Rattle.emv_dict.specs.Settings.{IsSettings}
 use Rattle.emv_ports.specs.Cut.{is_named}
-use Rattle.emv_top.specs.Decided.{Begun, begun_as, begun_unless, begun_on, begun_by, begun_in, begun, HasProfiles, IsDecidedAt, AreDecided, RunsAreDecided}
+use Rattle.emv_top.specs.Decided.{Begun, begun_as, begun_unless, begun_with, begun_on, begun_by, begun_in, begun, HasProfiles, IsDecidedAt, AreDecided, RunsAreDecided}
 use Rattle.emv_top.proofs.Fates.{now_of, IsWhole, Fate, still, goes, ends, fate}
 use Rattle.kernel.specs.Reply.{Reply}
 use Rattle.report_text.specs.declared.line.Line.{Line}
+use Rattle.scenario.specs.CardRules.{IsKind}
 use Rattle.scenario.specs.Cards.{CardData}
 use Rattle.scenario.specs.Plan.{ScenarioData, IsScenario}
 use Rattle.scenario_lanes.specs.Plan.{LaneData}
@@ -37,7 +38,7 @@ use Rattle.txn_replay.proofs.Waiting.{settle_lanes, audit_lanes, calm_over}
 
 -- the rules that a purchase's card, terminal and issuer keep
 record KeepsRules (p : Payment) : Type 0 where
-  image : IsImage p.card.image
+  image : p.card.canned ≡ None → IsImage p.card.image
   profiles : HaveProfiles p.card.image
   settings : IsSettings p.settings
 
@@ -51,9 +52,11 @@ payment_rules s l n p fits profiles is = by_lane (slice_get s.lanes l) refl is
     by_card lane planned (Some card) lane_there there is =
         subst (λ (q : Payment). KeepsRules q) (same_Some (payment_with s l lane planned card) p is)
         (record {
-          image =
-              subst (λ (x : CardData). IsImage x.image) (get_or_from_slice_get s.cards planned.card card card there)
-              (fits.tables.cards.each planned.card card (slice_get_within s.cards planned.card card there)).image;
+          image = λ apps.
+              (let kind : IsKind card.image card.canned =
+              subst (λ (x : CardData). IsKind x.image x.canned) (get_or_from_slice_get s.cards planned.card card card there)
+              (fits.tables.cards.each planned.card card (slice_get_within s.cards planned.card card there)).kind in
+              subst (λ (o : Option (List (List ℕ))). IsKind card.image o) apps kind);
           settings =
               subst (λ (x : LaneData). IsSettings x.settings) (get_or_from_slice_get s.lanes l lane lane lane_there)
               (fits.tables.lanes l lane (slice_get_within s.lanes l lane lane_there)).settings;
@@ -81,8 +84,8 @@ record Accounts (s : ScenarioData) (began : List Begun) (w : World) : Type 0 whe
   ended : AreDecided s began w
 
 longer_ended : (s : ScenarioData) (began more : List Begun) (l number : ℕ) (past : Past) → IsDecidedAt s began l number past → IsDecidedAt s (began ++ more) l number past
-longer_ended s began more l number past decided p is whole =
-    let one = decided p is whole in
+longer_ended s began more l number past decided p is tear apps =
+    let one = decided p is tear apps in
     (one.0, Contains-append_left began more (record { lane = l; number = number; found = one.0 }) one.1, one.2)
 
 longer : (s : ScenarioData) (began more : List Begun) (w : World) → Accounts s began w → Accounts s (began ++ more) w
@@ -171,7 +174,7 @@ module _ (s : ScenarioData) (began : List Begun) (w : World) (l : ℕ) (p : Paym
       let ended : (lane_at later l).ended ≡ (lane_at w l).ended = ap (λ (lane : LaneRow). lane.ended) lane_here ∙ same in
       let rs : replies ≡ others = same_Some replies others (sym ran ∙ ap (λ (lane : LaneRow). lane.running) (sym lane_here) ∙ ran_so) in
       let ps : p ≡ q = same_Some p q (sym is ∙ ap (λ (pasts : List Past). payment_in s l (length pasts)) (sym ended) ∙ next) in
-      let one = told (ap (λ (x : Payment). x.planned.tear) ps ∙ whole) in (
+      let one = told (subst IsWhole (sym ps) whole) in (
         one.0,
         subst (λ (pasts : List Past). Contains (began ++ more) (record { lane = l; number = length pasts; found = one.0 })) (sym ended) one.1,
         subst (λ (x : Payment). Told x.card.image (deal_for x) one.0 (now_of (card_at later x.planned.card)) others) ps
@@ -201,9 +204,9 @@ module _ (s : ScenarioData) (began : List Begun) (w : World) (l : ℕ) (p : Paym
       there_so = ap (λ (pasts : List Past). slice_get pasts number) (sym (ap (λ (lane : LaneRow). lane.ended) lane_here ∙ pushed)) ∙ there
 
       here : number ≡ length (lane_at w l).ended → new ≡ past → IsDecidedAt s (began ++ more) l number past
-      here place same q at whole =
+      here place same q at tear apps =
           let ps : p ≡ q = same_Some p q (sym is ∙ ap (λ k. payment_in s l k) (sym place) ∙ at) in
-          let one = decided (ap (λ (x : Payment). x.planned.tear) ps ∙ whole) in (
+          let one = decided (subst IsWhole (sym ps) (record { tear = tear; apps = apps })) in (
             one.0,
             subst (λ k. Contains (began ++ more) (record { lane = l; number = k; found = one.0 })) (sym place) one.1,
             λ formed. subst (λ (x : Past). IsDecided x.end.ending) same
@@ -251,12 +254,14 @@ module _ (law : PurchasesAreDecided) (hosts : HostsAreLinked) (s : ScenarioData)
       → Accounts s (began ++ begun_in s w l choice) (turned s w l choice).world
   turn_accounts began w l choice sound accounts = by_next (next_of s w l) refl
     where
-      found_here : (p : Payment) → (lane_at w l).running ≡ None → (card_at w p.planned.card).holder ≡ None → is_named p.planned.tear 0 ≡ false
+      found_here : (p : Payment) → (lane_at w l).running ≡ None → (card_at w p.planned.card).holder ≡ None → p.card.canned ≡ None
+          → is_named p.planned.tear 0 ≡ false
           → Contains (began ++ begun_by w l choice (Some p) (lane_at w l).running) (begun_as w l choice p)
-      found_here p rests free spared =
+      found_here p rests free apps spared =
           subst (λ (r : Option (List Reply)). Contains (began ++ begun_by w l choice (Some p) r) (begun_as w l choice p)) (sym rests)
           (subst (λ (h : Option Holder). Contains (began ++ begun_on w l choice p h) (begun_as w l choice p)) (sym free)
-          (subst (λ (b : Bool). Contains (began ++ begun_unless w l choice p b) (begun_as w l choice p)) (sym spared) (Contains-push began (begun_as w l choice p))))
+          (subst (λ (o : Option (List (List ℕ))). Contains (began ++ begun_with w l choice p o) (begun_as w l choice p)) (sym apps)
+          (subst (λ (b : Bool). Contains (began ++ begun_unless w l choice p b) (begun_as w l choice p)) (sym spared) (Contains-push began (begun_as w l choice p)))))
 
       by_outcome : (p : Payment) → next_of s w l ≡ Some p → (more : List Begun) (m : Moved) → Outcome p (part_of w l p.planned.card) m.part
           → Fate p (part_of w l p.planned.card) m.part (λ found. Contains (began ++ more) (next_begun w l found))

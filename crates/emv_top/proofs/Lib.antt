@@ -12,6 +12,7 @@ pub mod Answering
 pub mod Replays
 pub mod Closings
 pub mod ReadGoing
+pub mod Uncut
 pub mod Settled
 pub mod ReadSettled
 pub mod Fates

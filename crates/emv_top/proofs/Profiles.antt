@@ -1,5 +1,5 @@
 -- The application interchange profile of each application of an accepted scenario has two bytes.
-use Rattle.std.proofs.Common.{◌≡◌, ◌≢◌, ℕ, zero, suc, ◌+◌, ◌<◌, ◌≤◌, nat_le, ◌&&◌, ◌==◌, nat_lt, subst, Bool, true, false, List, [], ◌∷◌, ◌++◌, length, codes, slice_get, Option, Some, None, Result, Ok, Err, refl, sym, ap, ◌∙◌, arith}
+use Rattle.std.proofs.Common.{◌≡◌, ◌≢◌, ℕ, zero, suc, ◌+◌, ◌<◌, ◌≤◌, nat_le, ◌&&◌, ◌==◌, nat_lt, subst, Bool, true, false, not, if◌then◌else◌, List, [], ◌∷◌, ◌++◌, length, codes, slice_get, Option, Some, None, Result, Ok, Err, refl, sym, ap, ◌∙◌, arith}
 use Rattle.std.proofs.lemmas.Bool.Decides.{nat_tests}
 use Rattle.std.proofs.lemmas.Option.{same_Some}
 use Rattle.std.specs.Str.{IsUtf8}
@@ -15,7 +15,7 @@ use Rattle.issuer_host.specs.declared.keys.HostKeys.{HostKeys}
 use Rattle.card_files.specs.AppRules.{most_afl}
 use Rattle.card_files.specs.Lists.{cdol1_entries, cdol2_entries}
 use Rattle.scenario.specs.Accounts.{accounts_at}
-use Rattle.scenario.specs.Cards.{pdol_at, cdol_at, records_at, FilesData, new_name, files_of, holder_of, counters_of, access_of, app_keys, app_with, app_of, app_item, apps_from, apps_at, CardData, new_card_name, card_keys, card_of, card_item, cards_from, cards_at, card_names}
+use Rattle.scenario.specs.Cards.{pdol_at, cdol_at, records_at, FilesData, new_name, files_of, holder_of, counters_of, access_of, app_keys, app_with, app_of, app_item, apps_from, apps_at, canned_at, KindData, has_key, kind_at, CardData, new_card_name, card_keys, card_of, card_item, cards_from, cards_at, card_names}
 use Rattle.scenario.specs.Issuer.{issuer_at}
 use Rattle.scenario.specs.Plan.{ScenarioData}
 use Rattle.scenario.specs.Scenario.{top_keys, tables_of, names_known, scenario_of, of_document, IsReading}
@@ -23,12 +23,12 @@ use Rattle.scenario.specs.Schedule.{schedule_at}
 use Rattle.scenario.specs.declared.read.TheConstants.{MOST_BYTES}
 use Rattle.ber_tlv.proofs.ReadAgain.{both as both_true}
 use Rattle.scenario_fields.proofs.Steps.{then_ok, kept}
-use Rattle.scenario_fields.specs.Fault.{◌>>=◌}
+use Rattle.scenario_fields.specs.Fault.{◌>>=◌, keep_if}
 use Rattle.scenario_fields.specs.Fields.{number_or, optional_number, listed_or, text_at, bytes_at, array_at, only, required}
 use Rattle.scenario_fields.specs.Place.{item_path, at_top, in_card, in_app}
 use Rattle.scenario_fields.specs.Value.{hex_of, bytes_of, in_limits, table_of}
 use Rattle.scenario_fields.specs.declared.fault.ScenarioFault.{ScenarioFault}
-use Rattle.scenario_fields.specs.declared.fault.ScenarioFault.TheVariants.{OutOfLimit}
+use Rattle.scenario_fields.specs.declared.fault.ScenarioFault.TheVariants.{OutOfLimit, BadValue}
 use Rattle.scenario_fields.specs.declared.spot.Characters.TheVariants.{Printable}
 use Rattle.scenario_lanes.specs.Lanes.{lanes_at}
 use Rattle.scenario_lanes.specs.declared.plan.Planned.{Planned}
@@ -100,16 +100,39 @@ apps_profiles i j keys earlier (item d ds) apps is =
     subst HaveProfiles same
     (first_profile one.0 more.0 (app_profile i j keys earlier d one.0 one.1) (apps_profiles i (j + 1) keys (earlier ++ one.0 ∷ []) ds more.0 more.1))
 
+kind_profiles : (i : ℕ) (keys : HostKeys) (ms : Members) (kind : KindData) → kind_at i keys ms ≡ Ok kind → HaveProfiles kind.image
+unfolding kind_at apps_at
+kind_profiles i keys ms kind is = by (has_key (codes "canned") ms && not (has_key (codes "app") ms)) is
+  where
+    image_in : Result KindData ScenarioFault → List AppData
+    image_in (Ok k) = k.image
+    image_in (Err e) = []
+
+    by : (b : Bool)
+        → (if b then canned_at (in_card i) ms >>= (λ answers. Ok (record { image = []; canned = Some answers }))
+        else apps_at i keys ms >>= (λ apps. keep_if (not (has_key (codes "canned") ms)) (BadValue (in_card i (codes "canned"))) (record { image = apps; canned = None })))
+        ≡ Ok kind
+        → HaveProfiles kind.image
+    by true is =
+        let answers = then_ok (canned_at (in_card i) ms) _ kind is in
+        let none : [] ≡ kind.image = ap image_in answers.2 in
+        subst HaveProfiles none (λ k a at. cc)
+    by false is =
+        let apps = then_ok (apps_at i keys ms) _ kind is in
+        let items = then_ok (array_at (in_card i) (codes "app") 1 4 ms) _ apps.0 apps.1 in
+        let alone = kept (not (has_key (codes "canned") ms)) (BadValue (in_card i (codes "canned"))) (record { image = apps.0; canned = None }) kind apps.2 in
+        let same : apps.0 ≡ kind.image = ap (λ (k : KindData). k.image) alone.1 in
+        subst HaveProfiles same (apps_profiles i 0 keys [] items.0 apps.0 items.2)
+
 card_profiles : (i : ℕ) (keys : HostKeys) (earlier : List CardData) (d : Data) (card : CardData) → card_item i keys earlier d ≡ Ok card → HaveProfiles card.image
-unfolding card_item card_of apps_at
+unfolding card_item card_of
 card_profiles i keys earlier d card is =
     let table = then_ok (table_of (item_path (codes "card") i []) d) (card_of i keys earlier) card is in
     let name = then_ok (new_card_name i earlier table.0) _ card table.2 in
-    let apps = then_ok (apps_at i keys table.0) _ card name.2 in
-    let known = then_ok (only (in_card i) card_keys table.0) _ card apps.2 in
-    let items = then_ok (array_at (in_card i) (codes "app") 1 4 table.0) _ apps.0 apps.1 in
-    let same : apps.0 ≡ card.image = ap image_in known.2 in
-    subst HaveProfiles same (apps_profiles i 0 keys [] items.0 apps.0 items.2)
+    let kind = then_ok (kind_at i keys table.0) _ card name.2 in
+    let known = then_ok (only (in_card i) card_keys table.0) _ card kind.2 in
+    let same : kind.0.image ≡ card.image = ap image_in known.2 in
+    subst HaveProfiles same (kind_profiles i keys table.0 kind.0 kind.1)
   where
     image_in : Result CardData ScenarioFault → List AppData
     image_in (Ok c) = c.image

@@ -1,75 +1,20 @@
 -- In a reading no card has an open decision, since nothing cuts its power.
-use Rattle.std.proofs.Common.{◌≡◌, ℕ, ◌+◌, Bool, true, false, List, [], ◌∷◌, ◌++◌, length, slice_get, Option, Some, None, option_map, refl, sym, ap, ◌∙◌, subst}
+use Rattle.std.proofs.Common.{◌≡◌, ℕ, Bool, List, [], ◌∷◌, length, slice_get, Option, Some, None, option_map, refl, sym, ap, ◌∙◌, subst}
 use Rattle.std.specs.Prelude.{option_and_then}
-use Rattle.card_app.specs.Answering.{card_answer}
-use Rattle.card_pages.specs.Cuts.{Cut, cut_of, behind_one}
-use Rattle.card_pages.specs.Pages.{found_of}
-use Rattle.card_pages.specs.Replies.{CardAnswer}
-use Rattle.card_state.specs.Decisions.{Decided}
-use Rattle.emv_ports.specs.Cut.{is_named}
-use Rattle.emv_ports.specs.declared.tear.Tear.{Tear}
 use Rattle.emv_top.specs.Answers.{AreSettled}
 use Rattle.emv_top.proofs.ReadRuns.{none_past, none_ended}
-use Rattle.emv_top.proofs.Settled.{IsSettled}
-use Rattle.kernel.specs.Dialogue.{dialogue}
-use Rattle.kernel.specs.Ended.{EndData}
-use Rattle.kernel.specs.Reply.{Reply, CardSaid, Deed, ToCard, ToHost, Over}
+use Rattle.emv_top.proofs.Uncut.{IsSettled, piece_card}
 use Rattle.report_text.specs.declared.line.Line.{Line}
 use Rattle.scenario.specs.Cards.{CardData}
 use Rattle.scenario.specs.Plan.{ScenarioData}
 use Rattle.scenario_lanes.specs.Plan.{LaneData}
 use Rattle.scenario_lanes.specs.declared.plan.Planned.{Planned}
-use Rattle.txn_replay.specs.Changes.{powered, exchanged}
-use Rattle.txn_replay.specs.Lines.{answer_lines}
-use Rattle.txn_replay.specs.Part.{Part, settled_by, answered, asked, begun, begun_by, piece_by, piece}
-use Rattle.txn_replay.specs.Payment.{Payment, payment_with, payment_of, payment_on, payment_in, deal_for, end_at, next_of}
+use Rattle.txn_replay.specs.Part.{piece}
+use Rattle.txn_replay.specs.Payment.{Payment, payment_with, payment_of, payment_on, payment_in, next_of}
 use Rattle.txn_replay.specs.Reading.{ReadReached, start, turned, data_at, ending_at, to_read, untorn, first_untorn, lane_untorn}
 use Rattle.txn_replay.specs.Steps.{part_of, turned_by, first_of}
-use Rattle.txn_replay.specs.World.{Holder, Past, CardRow, World, new_card, card_at, lane_at}
+use Rattle.txn_replay.specs.World.{Past, CardRow, World, new_card, card_at, lane_at}
 use Rattle.txn_replay.proofs.Lists.{at_set, get_or-map_const}
-use Rattle.txn_replay.proofs.Moves.{this_one}
-
-none_cut : (made : ℕ) (ds : List Decided) → cut_of None made ds ≡ None
-unfolding cut_of
-none_cut made [] = refl
-none_cut made (d ∷ ds) = ap (λ (o : Option Cut). option_map (behind_one d) o) (none_cut (made + 1) ds)
-
-module _ (p : Payment) (part : Part) (no_tear : p.planned.tear ≡ None) (before : IsSettled part.card) where
-  settled_card : (replies : List Reply) (card : CardRow) (messages : List (List ℕ)) (lines : List Line) (e : Option EndData) → IsSettled card
-      → IsSettled (settled_by p replies (record { lane = part.lane; card = card; messages = messages }) lines e).part.card
-  settled_card replies card messages lines None here = here
-  settled_card replies card messages lines (Some end) here = here
-
-  answer_card : (replies : List Reply) (command : List ℕ) (said : CardAnswer) (cut : Option Cut) → cut ≡ None → IsSettled (answered p replies command part said cut).part.card
-  answer_card replies command said None none =
-      settled_card (replies ++ CardSaid said.answer part.lane.log ∷ []) (exchanged p.card.image part.card command said) part.messages
-      (answer_lines p.lane command said.answer) (end_at p (replies ++ CardSaid said.answer part.lane.log ∷ [])) before
-  answer_card replies command said (Some cut) none = absurd (cc)
-
-  ask_card : (replies : List Reply) (deed : Deed) → IsSettled (asked p replies part deed).part.card
-  ask_card replies (ToCard command) =
-      answer_card replies command (card_answer p.card.image part.card.kept part.card.session command)
-      (cut_of p.planned.tear part.card.made (card_answer p.card.image part.card.kept part.card.session command).new)
-      (ap (λ (tear : Option Tear). cut_of tear part.card.made (card_answer p.card.image part.card.kept part.card.session command).new) no_tear
-      ∙ none_cut part.card.made (card_answer p.card.image part.card.kept part.card.session command).new)
-  ask_card replies (ToHost message) = settled_card _ part.card _ _ _ before
-  ask_card replies (Over ending) = before
-
-  begin_card : (choice torn_there : Bool) → torn_there ≡ false → IsSettled (begun_by p part choice torn_there).part.card
-  begin_card choice true none = absurd (cc)
-  begin_card choice false none =
-      settled_card [] (powered part.card (found_of part.card.kept part.card.pending choice) (Some (this_one p part))) part.messages _ (end_at p []) refl
-
-  piece_card : (choice : Bool) → IsSettled (piece p part choice).part.card
-  piece_card choice = by_lane part.lane.running
-    where
-      begins : (o : Option Holder) → IsSettled (begun p part choice o).part.card
-      begins None = begin_card choice (is_named p.planned.tear 0) (ap (λ (tear : Option Tear). is_named tear 0) no_tear)
-      begins (Some h) = before
-
-      by_lane : (o : Option (List Reply)) → IsSettled (piece_by p part choice o).part.card
-      by_lane None = begins part.card.holder
-      by_lane (Some replies) = ask_card replies (dialogue (deal_for p) replies).deed
 
 -- the first purchase has no tear
 no_tear_in : (whole : ScenarioData) (p : Payment) → payment_in (to_read whole) 0 0 ≡ Some p → p.planned.tear ≡ None
@@ -101,7 +46,7 @@ module _ (whole : ScenarioData) where
   turn_settled w choice None none all = all
   turn_settled w choice (Some p) none all =
       at_set (λ (i : ℕ) (row : CardRow). IsSettled row) w.cards p.planned.card (piece p (part_of w 0 p.planned.card) choice).part.card new_card
-      (piece_card p (part_of w 0 p.planned.card) (none p refl) (all p.planned.card) choice) all
+      (piece_card p (part_of w 0 p.planned.card) (λ apps. none p refl) (all p.planned.card) choice) all
 
   pub all_settled : (n : ℕ) (cs : List Bool) (ls : List Line) (w : World) → ReadReached (to_read whole) n cs ls w → AllSettled w
   all_settled _ _ _ _ start i = subst IsSettled (sym (get_or-map_const whole.cards i new_card)) refl

@@ -1,20 +1,26 @@
--- Behind the audit no card has an open decision.
+-- Behind the audit no card has an open decision, and one of canned answers never has.
 use Rattle.std.proofs.Common.{◌≡◌, ◌⊎◌, ℕ, zero, suc, ◌+◌, ◌<◌, Bool, List, [], ◌∷◌, ◌++◌, length, get_or, set, slice_get, Option, Some, None, refl, sym, ap, ◌∙◌, subst, inl, inr, arith}
 use Rattle.std.specs.Prelude.{⊤}
+use Rattle.std.proofs.lemmas.Option.{same_Some}
 use Rattle.card_app.specs.Answering.{card_answer}
 use Rattle.card_pages.specs.Pages.{found_of}
 use Rattle.emv_top.specs.Answers.{AreSettled}
+use Rattle.emv_top.proofs.Uncut.{IsSettled, piece_card}
 use Rattle.report_text.specs.declared.line.Line.{Line}
 use Rattle.scenario.specs.Cards.{CardData}
 use Rattle.scenario.specs.Plan.{ScenarioData}
 use Rattle.txn_replay.specs.Changes.{powered, exchanged}
+use Rattle.txn_replay.specs.Part.{piece}
+use Rattle.txn_replay.specs.Payment.{Payment, next_of}
 use Rattle.txn_replay.specs.Run.{Place, Scheduled, Round, Settling, Auditing, Finished, Reached, start, scheduled, rounds, round, again, settlement, settling, audit, auditing, finished}
-use Rattle.txn_replay.specs.Steps.{Check, PowersUp, Asks, card_checks, checks_from, checks, audits, first_of}
-use Rattle.txn_replay.specs.World.{CardRow, World, new_card, card_at}
-use Rattle.txn_replay.proofs.Lists.{at_set}
-
-abbrev pub IsSettled : CardRow → Type 0
-IsSettled row = row.pending ≡ None
+use Rattle.txn_replay.specs.Steps.{Settlement, settlements, settles, Check, PowersUp, Asks, card_checks, checks_from, checks, audits, part_of, turned_by, happens, first_of}
+use Rattle.txn_replay.specs.World.{CardRow, World, new_card, first_world, card_at, lane_at}
+use Rattle.txn_replay.specs.declared.event.Event.{Event}
+use Rattle.txn_replay.specs.declared.event.Event.TheVariants.{Turn, Settle, Audit}
+use Rattle.txn_replay.proofs.Checks.{power_check}
+use Rattle.txn_replay.proofs.Folding.{reached_keeps}
+use Rattle.txn_replay.proofs.Lists.{at_set, get_or-map_const, append_first}
+use Rattle.txn_replay.proofs.Payments.{payment_facts}
 
 -- an element is the new one, or there is none
 set_here : {A : Type 0} (xs : List A) (i : ℕ) (a d : A) → (get_or (set xs i a) i d ≡ a) ⊎ (get_or (set xs i a) i d ≡ d)
@@ -100,20 +106,66 @@ behind [] ys j m x at is = (let same : j ≡ m = omega arith in subst (λ (n : �
 behind (y ∷ xs) ys j zero x at is = absurd (omega arith)
 behind (y ∷ xs) ys j (suc m) x at is = behind xs ys j m x (omega arith) is
 
--- each card is powered up in the audit
-powered_in : (from i k : ℕ) (cards : List CardData) (card : CardData) → k ≡ from + i → slice_get cards i ≡ Some card
+-- each card with applications is powered up in the audit
+powered_in : (from i k : ℕ) (cards : List CardData) (card : CardData) → k ≡ from + i → slice_get cards i ≡ Some card → card.canned ≡ None
     → (j : ℕ) × (slice_get (checks_from from cards) j ≡ Some (PowersUp k card))
 unfolding checks_from
-powered_in from i k [] card at is = absurd (cc)
-powered_in from zero k (first ∷ cards) card at is =
+powered_in from i k [] card at is apps = absurd (cc)
+powered_in from zero k (first ∷ cards) card at is apps =
     let same : first ≡ card = cc in
-    let place : from ≡ k = omega arith in
-    (0, ap (λ (x : CardData). Some (PowersUp from x)) same ∙ ap (λ (n : ℕ). Some (PowersUp n card)) place)
-powered_in from (suc i) k (first ∷ cards) card at is =
-    let later : (j : ℕ) × (slice_get (checks_from (from + 1) cards) j ≡ Some (PowersUp k card)) = powered_in (from + 1) i k cards card (omega arith) is in
+    let place : from ≡ k = omega arith in (
+      0,
+      append_first (card_checks from first) (checks_from (from + 1) cards) 0 (PowersUp from first) (power_check from first (ap (λ (x : CardData). x.canned) same ∙ apps))
+          ∙ ap (λ (x : CardData). Some (PowersUp from x)) same
+          ∙ ap (λ (n : ℕ). Some (PowersUp n card)) place,
+    )
+powered_in from (suc i) k (first ∷ cards) card at is apps =
+    let later : (j : ℕ) × (slice_get (checks_from (from + 1) cards) j ≡ Some (PowersUp k card)) = powered_in (from + 1) i k cards card (omega arith) is apps in
     (length (card_checks from first) + later.0, behind (card_checks from first) (checks_from (from + 1) cards) later.0 _ (PowersUp k card) refl later.1)
 
+-- a card of canned answers decides nothing
+abbrev pub CannedSettled : ScenarioData → World → Type 0
+CannedSettled s w =
+    (i : ℕ) (card : CardData) (answers : List (List ℕ)) → slice_get s.cards i ≡ Some card → card.canned ≡ Some answers → IsSettled (card_at w i)
+
+module _ (s : ScenarioData) where
+  turn_canned : (w : World) (l : ℕ) (choice : Bool) (o : Option Payment) → next_of s w l ≡ o → CannedSettled s w → CannedSettled s (turned_by w l choice o).world
+  turn_canned w l choice None is before = before
+  turn_canned w l choice (Some p) is before =
+      at_set (λ (i : ℕ) (row : CardRow). (card : CardData) (answers : List (List ℕ)) → slice_get s.cards i ≡ Some card → card.canned ≡ Some answers → IsSettled row)
+      w.cards p.planned.card (piece p (part_of w l p.planned.card) choice).part.card new_card here before
+    where
+      here : (card : CardData) (answers : List (List ℕ)) → slice_get s.cards p.planned.card ≡ Some card → card.canned ≡ Some answers
+          → IsSettled (piece p (part_of w l p.planned.card) choice).part.card
+      here card answers there canned =
+          let same : p.card ≡ card = same_Some p.card card (sym (payment_facts s l (length (lane_at w l).ended) p is).card ∙ there) in
+          let its : p.card.canned ≡ Some answers = ap (λ (x : CardData). x.canned) same ∙ canned in
+          piece_card p (part_of w l p.planned.card) (λ apps. absurd (not_both its apps)) (before p.planned.card card answers there canned) choice
+        where
+          not_both : p.card.canned ≡ Some answers → p.card.canned ≡ None → ⊥
+          not_both some none = cc
+
+  settle_canned : (w : World) (o : Option Settlement) → CannedSettled s w → CannedSettled s (settles s w o).world
+  settle_canned w None before = before
+  settle_canned w (Some at) before = before
+
+  event_canned : (w : World) (e : Event) (choice : Bool) → CannedSettled s w → CannedSettled s (happens s w e choice).world
+  event_canned w (Turn l) choice before = turn_canned w l choice (next_of s w l) refl before
+  event_canned w (Settle k) choice before = settle_canned w (slice_get (settlements s w) k) before
+  event_canned w (Audit k) choice before =
+      λ i card answers there canned. check_keeps w choice (slice_get (checks s) k) i (before i card answers there canned)
+
+  first_canned : CannedSettled s (first_world s)
+  first_canned i card answers there canned = subst IsSettled (sym (get_or-map_const s.cards i new_card)) refl
+
+  canned_settled : (place : Place) (n : ℕ) (cs : List Bool) (ls : List Line) (w : World) → Reached s place n cs ls w → CannedSettled s w
+  canned_settled = reached_keeps s (CannedSettled s) first_canned event_canned
+
 pub run_settled : (s : ScenarioData) (n : ℕ) (cs : List Bool) (ls : List Line) (w : World) → Reached s Finished n cs ls w → AreSettled s w
-run_settled s n cs ls w reached i card is =
-    let there : (j : ℕ) × (slice_get (checks s) j ≡ Some (PowersUp i card)) = powered_in 0 i i s.cards card (omega arith) is in
-    audited s Finished n cs ls w reached i card there.0 there.1
+run_settled s n cs ls w reached i card is = by_kind card.canned refl
+  where
+    by_kind : (o : Option (List (List ℕ))) → card.canned ≡ o → IsSettled (card_at w i)
+    by_kind None apps =
+        let there : (j : ℕ) × (slice_get (checks s) j ≡ Some (PowersUp i card)) = powered_in 0 i i s.cards card (omega arith) is apps in
+        audited s Finished n cs ls w reached i card there.0 there.1
+    by_kind (Some answers) canned = canned_settled s Finished n cs ls w reached i card answers is canned

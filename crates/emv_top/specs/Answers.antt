@@ -43,8 +43,8 @@ pub record AreSpare (cards : ℕ) (spare : List Memory) : Type 0 where
   pub count : length spare ≡ 64 - cards
   pub few : cards ≤ 64
 
--- what a run that has led to this world leaves: the pages of each card stand for its decisions, those beyond the cards
--- are blank, the tally counts the ended purchases, and the world keeps to the laws of runs
+-- what a run that has led to this world leaves: the pages of each card with applications stand for its decisions, all
+-- others are blank, the tally counts the ended purchases, and the world keeps to the laws of runs
 pub record Leaves (s : ScenarioData) (bank : List Memory) (tally : Counts) (w : World) : Type 0 where
   pub pages : length bank ≡ 64
   pub cards : BankStands s w bank

@@ -1,4 +1,5 @@
--- The purchases of a run that come to a decision: those that began with a well-formed card and have no tear.
+-- The purchases of a run that come to a decision: those that began with a well-formed card with applications and have no
+-- tear.
 use Rattle.std.specs.Prelude.{◌≡◌, ℕ, Bool, true, false, List, [], ◌∷◌, ◌++◌, length, slice_get, Contains, Option, Some, None}
 use Rattle.card_pages.specs.Pages.{found_of}
 use Rattle.card_state.specs.Decisions.{Decided}
@@ -14,7 +15,7 @@ use Rattle.txn_replay.specs.Run.{Place, Reached, start, scheduled, rounds, round
 use Rattle.txn_replay.specs.Steps.{first_of}
 use Rattle.txn_replay.specs.World.{Holder, Past, World, card_at, lane_at}
 
--- a purchase that began: its lane, its number there, and the decisions that the power-up of its card found
+-- a purchase that began, with a card with applications: its lane, its number there, and the decisions that the power-up of its card found
 pub record Begun : Type 0 where
   pub lane : ℕ
   pub number : ℕ
@@ -32,10 +33,15 @@ abbrev pub begun_unless : World → ℕ → Bool → Payment → Bool → List B
 begun_unless w l choice p true = []
 begun_unless w l choice p false = begun_as w l choice p ∷ []
 
+-- a card of canned answers has no decisions
+abbrev pub begun_with : World → ℕ → Bool → Payment → Option (List (List ℕ)) → List Begun
+begun_with w l choice p (Some answers) = []
+begun_with w l choice p None = begun_unless w l choice p (is_named p.planned.tear 0)
+
 -- a purchase begins where none has its card
 abbrev pub begun_on : World → ℕ → Bool → Payment → Option Holder → List Begun
 begun_on w l choice p (Some holder) = []
-begun_on w l choice p None = begun_unless w l choice p (is_named p.planned.tear 0)
+begun_on w l choice p None = begun_with w l choice p p.card.canned
 
 -- and none runs in its lane
 abbrev pub begun_by : World → ℕ → Bool → Option Payment → Option (List Reply) → List Begun
@@ -47,7 +53,7 @@ begun_by w l choice (Some p) None = begun_on w l choice p (card_at w p.planned.c
 abbrev pub begun_in : ScenarioData → World → ℕ → Bool → List Begun
 begun_in s w l choice = begun_by w l choice (next_of s w l) (lane_at w l).running
 
--- the purchases that began in a run, in their order
+-- the purchases that began in a run with cards with applications, in their order
 unfoldable pub begun : {s : ScenarioData} {place : Place} {n : ℕ} {choices : List Bool} {lines : List Line} {w : World}
     → Reached s place n choices lines w → List Begun
 begun start = []
@@ -61,11 +67,11 @@ begun (audit before none) = begun before
 begun (auditing before at step) = begun before
 begun (finished before none) = begun before
 
--- the purchase of this number in a lane ended so: if no tear was planned for it, it began, and where its card was
--- well-formed then, it is approved or declined
+-- the purchase of this number in a lane ended so: if no tear was planned for it and its card has applications, it began,
+-- and where its card was well-formed then, it is approved or declined
 abbrev pub IsDecidedAt : ScenarioData → List Begun → ℕ → ℕ → Past → Type 0
 IsDecidedAt s began l number past =
-    (p : Payment) → payment_in s l number ≡ Some p → p.planned.tear ≡ None
+    (p : Payment) → payment_in s l number ≡ Some p → p.planned.tear ≡ None → p.card.canned ≡ None
     → (found : List Decided) × Contains began (record { lane = l; number = number; found = found })
     × (WellFormed p.card.image (deal_for p) found → IsDecided past.end.ending)
 

@@ -318,7 +318,7 @@ pub fn run<P: Pages, S: Source, K: Sink>(
     // 0: the bytes read are a scenario's, and of one run of it the sink got the text of its lines, the pages
     // stand for its cards' decisions, and the tally is its count. No counter serves two purchases, power-ups
     // find prefixes, and no transaction is booked twice. In a whole run each purchase without a tear whose card
-    // was well-formed at its power-up is approved or declined.
+    // has applications and was well-formed at its power-up is approved or declined.
     ensures done { result.status ≡ 0 → (order : Order) × (order_of (map string_bytes words.now) ≡ Some order) × (bytes : List ℕ)
         × ReadsUpTo 4194305 (S.left source.old) (S.left source.new) bytes
         × IsAccepted order bytes (λ s. IsWhole order s (K.held sink.old) (K.held sink.new) (map P.memory result.bank.items) result.tally) }

@@ -1,7 +1,4 @@
-ghost use Rattle.std.specs.Prelude.{ℕ, List, Some, None};
-ghost use Rattle.std.specs.declared.option.Option.{Option};
-
-use emv_ports::{Failed, Held, MemoryPages, MemorySink, MemorySource, Sink, Source};
+use emv_ports::{Held, MemoryPages, MemorySink, MemorySource};
 use emv_top::{Finished, run};
 use kernel::Tally;
 use memory_bank::blank_bank;
@@ -13,47 +10,6 @@ mod faults;
 mod rows;
 
 use rows::{BASE, BASE_READ, BASE_REPORT};
-
-/// A source that gives one byte a call, and tells nothing.
-#[derive(Drop)]
-struct SlowSource<'a>(&'a [u8]);
-
-impl Source for SlowSource<'_> {
-    ghost left = { λ _. None };
-
-    ghost faults = { λ _. 0 };
-
-    fn read(&mut self, out: &mut [u8]) -> Result<usize, Failed> {
-        if out.is_empty() {
-            return Ok(0);
-        }
-        match self.0 {
-            [] => Ok(0),
-            [first, rest @ ..] => {
-                out[0] = *first;
-                self.0 = rest;
-                Ok(1)
-            }
-        }
-    }
-}
-
-/// A sink that takes one byte a call.
-#[derive(Drop)]
-struct SlowSink(MemorySink);
-
-impl Sink for SlowSink {
-    ghost held = { λ s. Some s.0.held };
-
-    ghost faults = { λ s. s.0.faults };
-
-    fn write(&mut self, piece: &[u8]) -> Result<usize, Failed> {
-        if piece.is_empty() {
-            return Ok(0);
-        }
-        self.0.write(&piece[..1])
-    }
-}
 
 fn words_of(alloc: Global, words: &[&str]) -> Result<Vec<String>, Fail> {
     let mut list = Vec::new(alloc);
@@ -162,17 +118,5 @@ fn other_words_give_the_usage_line(rt: HostRuntime) -> Result<(), Fail> {
         );
         assert_eq!(rt; ended.marks, 0);
     }
-    Ok(())
-}
-
-#[test]
-fn a_slow_source_and_sink_give_the_same_report(rt: HostRuntime) -> Result<(), Fail> {
-    let alloc = rt.alloc();
-    let words = words_of(alloc, &["replay"])?;
-    let bank = blank_bank(alloc)?;
-    let mut source = SlowSource(BASE.as_bytes());
-    let mut sink = SlowSink(sink_of(alloc, &[])?);
-    assert_eq!(rt; run(alloc, &words, bank, &mut source, &mut sink).status, 0);
-    assert_eq!(rt; sink.0.bytes(), BASE_REPORT.as_bytes());
     Ok(())
 }

@@ -8,7 +8,7 @@ use Rattle.emv_dict.specs.Flags.{tvr_bytes}
 use Rattle.report_text.specs.Pieces.{newline, hex_or_dash, digits_text, two_bytes}
 use Rattle.report_text.specs.Words.{ending_text}
 use Rattle.report_text.specs.declared.line.Line.{Line}
-use Rattle.report_text.specs.declared.line.Line.TheVariants.{Power, PowerTorn, ToCard, FromCard, Torn, ToHost, FromHost, NoReply, End, SettleCall, SettleReply, AuditPower, AuditAsk, AuditAnswer, Balance, Done, Object, ReadOk, ReadEnded}
+use Rattle.report_text.specs.declared.line.Line.TheVariants.{Power, PowerCanned, PowerTorn, ToCard, FromCard, Torn, Gone, ToHost, FromHost, NoReply, End, SettleCall, SettleReply, AuditPower, AuditAsk, AuditAnswer, Balance, Done, Object, ReadOk, ReadEnded}
 use Rattle.report_text.specs.declared.line.Shown.{Shown}
 use Rattle.report_text.specs.declared.line.EndParts.{EndParts}
 
@@ -40,10 +40,12 @@ parts_text parts = ending_text parts.ending ++ codes " tvr=" ++ encode_lower (tv
 
 unfoldable pub line_text : Line → List ℕ
 line_text (Power lane card apps) = codes "L" ++ decimal lane ++ codes " power " ++ card.items ++ all_shown apps.items ++ newline
+line_text (PowerCanned lane card) = codes "L" ++ decimal lane ++ codes " power " ++ card.items ++ codes " canned" ++ newline
 line_text (PowerTorn lane card) = codes "L" ++ decimal lane ++ codes " power " ++ card.items ++ codes " torn" ++ newline
 line_text (ToCard lane bytes) = codes "L" ++ decimal lane ++ codes " > " ++ hex_or_dash bytes.items ++ newline
 line_text (FromCard lane bytes) = codes "L" ++ decimal lane ++ codes " < " ++ hex_or_dash bytes.items ++ newline
 line_text (Torn lane) = codes "L" ++ decimal lane ++ codes " < torn" ++ newline
+line_text (Gone lane) = codes "L" ++ decimal lane ++ codes " < gone" ++ newline
 line_text (ToHost lane bytes) = codes "L" ++ decimal lane ++ codes " host > " ++ hex_or_dash bytes.items ++ newline
 line_text (FromHost lane bytes) = codes "L" ++ decimal lane ++ codes " host < " ++ hex_or_dash bytes.items ++ newline
 line_text (NoReply lane) = codes "L" ++ decimal lane ++ codes " host < none" ++ newline

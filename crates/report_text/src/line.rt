@@ -46,6 +46,11 @@ pub enum Line {
         card: ArrayVec<u8, 16>,
         apps: ArrayVec<Shown, 4>,
     },
+    /// A card of canned answers is powered up.
+    PowerCanned {
+        lane: u8,
+        card: ArrayVec<u8, 16>,
+    },
     /// The card was gone as it was powered up.
     PowerTorn {
         lane: u8,
@@ -61,8 +66,12 @@ pub enum Line {
         lane: u8,
         bytes: ArrayVec<u8, 258>,
     },
-    /// The card was gone in place of a response.
+    /// The power was cut in place of a response.
     Torn {
+        lane: u8,
+    },
+    /// A card of canned answers had none left.
+    Gone {
         lane: u8,
     },
     /// A message to the issuer's host.

@@ -55,11 +55,16 @@ fn power_lines(rt: HostRuntime) {
         lane: 0,
         card: some(b"c1"),
     };
+    let canned = Line::PowerCanned {
+        lane: 1,
+        card: some(b"x"),
+    };
     let four = [opened(), greatest(), opened(), greatest()];
     for (line, want) in [
         (power(0, b"c1", &[opened()]), "L0 power c1 10,9,0,0,3,0\n"),
         (power(15, b"abcdefghijklmnop", &four), FOUR_APPLICATIONS),
         (torn, "L0 power c1 torn\n"),
+        (canned, "L1 power x canned\n"),
     ] {
         assert!(rt; same_text(&line, want), "{want}");
     }
@@ -92,6 +97,7 @@ fn lines_of_a_card(rt: HostRuntime) {
         (from_card(3, &[0x6a, 0x82]), "L3 < 6a82\n"),
         (from_card(0, &[]), "L0 < -\n"),
         (Line::Torn { lane: 0 }, "L0 < torn\n"),
+        (Line::Gone { lane: 2 }, "L2 < gone\n"),
     ] {
         assert!(rt; same_text(&line, want), "{want}");
     }

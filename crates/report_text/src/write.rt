@@ -25,10 +25,12 @@ pub fn write_line(line: &Line, out: &mut Text)
 {
     match line {
         Line::Power { lane, card, apps } => power(out, *lane, card.as_slice(), apps.as_slice()),
-        Line::PowerTorn { lane, card } => power_torn(out, *lane, card.as_slice()),
+        Line::PowerCanned { lane, card } => power_word(out, *lane, card.as_slice(), b" canned"),
+        Line::PowerTorn { lane, card } => power_word(out, *lane, card.as_slice(), b" torn"),
         Line::ToCard { lane, bytes } => exchange(out, b"L", *lane, b" > ", bytes.as_slice()),
         Line::FromCard { lane, bytes } => exchange(out, b"L", *lane, b" < ", bytes.as_slice()),
         Line::Torn { lane } => event(out, *lane, b" < torn"),
+        Line::Gone { lane } => event(out, *lane, b" < gone"),
         Line::ToHost { lane, bytes } => exchange(out, b"L", *lane, b" host > ", bytes.as_slice()),
         Line::FromHost { lane, bytes } => exchange(out, b"L", *lane, b" host < ", bytes.as_slice()),
         Line::NoReply { lane } => event(out, *lane, b" host < none"),
@@ -64,16 +66,18 @@ fn power(out: &mut Text, lane: u8, card: &[u8], apps: &[Shown])
     append(out, b"\n");
 }
 
-fn power_torn(out: &mut Text, lane: u8, card: &[u8])
-    requires { length card.now ≤ 16 }
-    ensures { out.new.items ≡ codes "L" ++ decimal lane ++ codes " power " ++ card.now ++ codes " torn" ++ newline }
+/// A power-up's line with a word in place of counters.
+fn power_word(out: &mut Text, lane: u8, card: &[u8], word: &[u8])
+    requires name { length card.now ≤ 16 }
+    requires word { length word.now ≤ 20 }
+    ensures { out.new.items ≡ codes "L" ++ decimal lane ++ codes " power " ++ card.now ++ word.now ++ newline }
 {
     out.clear();
     append(out, b"L");
     number(out, u64::from(lane));
     append(out, b" power ");
     append(out, card);
-    append(out, b" torn");
+    append(out, word);
     append(out, b"\n");
 }
 

@@ -17,7 +17,7 @@ use Rattle.emv_dict.specs.Settings.{most_amount}
 use Rattle.scenario_fields.specs.Fields.{number_at, flag_or, text_at, digits_at, optional_digits, code_at, array_at, table_item, only}
 use Rattle.scenario_fields.specs.Place.{at_top, in_account, in_card, item_path}
 use Rattle.scenario.specs.Accounts.{has_pan, new_pan, scripts_at, account_keys, account_of, account_item, accounts_from}
-use Rattle.scenario.specs.Cards.{CardData, is_named, new_card_name, card_of, card_keys, card_item, cards_from, cards_at, apps_at}
+use Rattle.scenario.specs.Cards.{CardData, is_named, new_card_name, card_of, card_keys, card_item, cards_from, cards_at, kind_at}
 use Rattle.scenario.specs.Plan.{HasPlainName, HaveOwnPans}
 
 not_true : (b : Bool) → not b ≡ true → b ≡ false
@@ -99,8 +99,8 @@ unfolding card_item card_of
 plainly_named i keys earlier d card is =
     let table = then_ok (table_of (item_path (codes "card") i []) d) _ card is in
     let name = then_ok (new_card_name i earlier table.0) _ card table.2 in
-    let apps = then_ok (apps_at i keys table.0) _ card name.2 in
-    let known = then_ok (only (in_card i) card_keys table.0) _ card apps.2 in
+    let kind = then_ok (kind_at i keys table.0) _ card name.2 in
+    let known = then_ok (only (in_card i) card_keys table.0) _ card kind.2 in
     rw (← ok_is _ card known.2) (plain_name i earlier table.0 name.0 name.1)
 
 cards_named : (i : ℕ) (keys : HostKeys) (earlier : List CardData) (ds : Items) (found : List CardData) → cards_from i keys earlier ds ≡ Ok found → All HasPlainName found

@@ -1,10 +1,10 @@
--- One more record, application or card behind those that keep to their rules.
-use Rattle.std.proofs.Common.{◌≡◌, ◌≢◌, ◌≤◌, ℕ, false, List, [], ◌∷◌, ◌++◌, length, refl, sym, subst}
+-- Canned answers, and one more record, application or card behind those that keep to their rules.
+use Rattle.std.proofs.Common.{◌≡◌, ◌≢◌, ◌≤◌, ℕ, false, List, [], ◌∷◌, ◌++◌, length, map, Vec, Global, refl, sym, subst}
 use Rattle.std.specs.Prelude.{IsTrue, nat_le}
 use Rattle.std.specs.List.{All, AllPairs, list_all}
 use Rattle.std.proofs.lemmas.Bool.{and_from, le-leb, eq-eqb}
-use Rattle.std.proofs.lemmas.List.{map-append}
-use Rattle.std.proofs.lemmas.List.Elements.{All-push}
+use Rattle.std.proofs.lemmas.List.{length-map, map-append}
+use Rattle.std.proofs.lemmas.List.Elements.{All-map, All-push}
 use Rattle.std.proofs.lemmas.List.Quantifiers.{all_pairs_push}
 use Rattle.std.proofs.lemmas.List.Sums.{list_all-from_AllPass}
 use Rattle.card_files.proofs.OwnNames.{not_taken}
@@ -16,10 +16,10 @@ use Rattle.card_files.specs.Views.{RecordData}
 use Rattle.issuer_host.specs.declared.keys.HostKeys.{HostKeys}
 use Rattle.scenario_fields.specs.Value.{is_one_of}
 use Rattle.scenario_fields.specs.declared.spot.Characters.TheVariants.{Printable}
-use Rattle.scenario.specs.CardRules.{KeepsFiles, KeepsHolder, KeepsCounters, KeepsAccess, IsNewRecord, IsNewApp, IsCard, IsNewCard}
+use Rattle.scenario.specs.CardRules.{KeepsFiles, KeepsHolder, KeepsCounters, KeepsAccess, AreAnswers, IsNewRecord, IsNewApp, IsCard, IsNewCard}
 use Rattle.scenario.specs.Cards.{FilesData, HolderData, CountersData, AccessData, app_with, opening_of, has_name, is_named}
 use Rattle.scenario.specs.Seen.{seen_card, seen_cards}
-use Rattle.scenario.specs.declared.plan.NamedImage.{NamedImage}
+use Rattle.scenario.specs.declared.plan.NamedCard.{NamedCard}
 
 pub records_apart : (old new : List RecordData) (r : RecordData) → new ≡ old ++ r ∷ [] → IsTrue (are_apart old)
     → IsNewRecord old r → IsTrue (are_apart new)
@@ -75,11 +75,18 @@ app_names_differ old new app pushed differ is =
     rw pushed
     (all_pairs_push (λ a b. a.name ≢ b.name) old app differ (not_taken (λ a. a.name) app.name old is.first))
 
-pub cards_keep : (old new : List NamedImage) (card : NamedImage) → new ≡ old ++ card ∷ [] → All IsCard (seen_cards old)
+pub are_answers : (answers : List (Vec ℕ Global)) → length answers ≤ 300 → All (λ answer. length answer.items ≤ 258) answers
+    → AreAnswers (map (λ answer. answer.items) answers)
+are_answers answers few short = record {
+  few = rw (length-map answers (λ answer. answer.items)) few;
+  short = All-map (λ answer. length answer ≤ 258) (λ answer. answer.items) answers short;
+}
+
+pub cards_keep : (old new : List NamedCard) (card : NamedCard) → new ≡ old ++ card ∷ [] → All IsCard (seen_cards old)
     → IsNewCard (seen_cards old) (seen_card card) → All IsCard (seen_cards new)
 cards_keep old new card pushed keep is = rw (pushed, map-append) (All-push IsCard (seen_cards old) (seen_card card) keep is.rules)
 
-pub card_names_differ : (old new : List NamedImage) (card : NamedImage) → new ≡ old ++ card ∷ [] → AllPairs (λ a b. a.name ≢ b.name) (seen_cards old)
+pub card_names_differ : (old new : List NamedCard) (card : NamedCard) → new ≡ old ++ card ∷ [] → AllPairs (λ a b. a.name ≢ b.name) (seen_cards old)
     → IsNewCard (seen_cards old) (seen_card card) → AllPairs (λ a b. a.name ≢ b.name) (seen_cards new)
 unfolding is_named
 card_names_differ old new card pushed differ is =

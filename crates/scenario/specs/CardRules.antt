@@ -1,5 +1,5 @@
 -- What the readers of a card's keys make sure of: the rules of its image, part by part.
-use Rattle.std.specs.Prelude.{◌≡◌, ◌≢◌, ◌≤◌, false, List, length, IsTrue}
+use Rattle.std.specs.Prelude.{◌≡◌, ◌≢◌, ℕ, ◌≤◌, false, List, [], length, Option, Some, None, IsTrue}
 use Rattle.std.specs.List.{All, AllPairs, list_any}
 use Rattle.card_files.specs.AppRules.{is_name, is_label, is_afl, is_format, is_record, is_pair, are_records, is_reference_pin, is_sum_limit, is_tries}
 use Rattle.card_files.specs.Kept.{KeepsRules, IsImage}
@@ -43,11 +43,22 @@ pub record IsNewApp (earlier : List AppData) (app : AppData) : Type 0 where
   pub rules : KeepsRules app
   pub first : has_name app.name earlier ≡ false
 
--- a card of a scenario by itself: its name has 1 to 16 characters, and its applications are an image
+-- at most 300 answers, each of at most 258 bytes
+pub record AreAnswers (answers : List (List ℕ)) : Type 0 where
+  pub few : length answers ≤ 300
+  pub short : All (λ answer. length answer ≤ 258) answers
+
+-- applications that are an image, or none beside canned answers
+abbrev pub IsKind : List AppData → Option (List (List ℕ)) → Type 0
+IsKind image None = IsImage image
+IsKind image (Some answers) = (image ≡ []) × AreAnswers answers
+
+-- a card of a scenario by itself: its name has 1 to 16 characters, and its applications are an image or it has canned
+-- answers
 pub record IsCard (card : CardData) : Type 0 where
   pub some_name : 1 ≤ length card.name
   pub short_name : length card.name ≤ 16
-  pub image : IsImage card.image
+  pub kind : IsKind card.image card.canned
 
 -- such a card, of a name that no earlier one has
 pub record IsNewCard (earlier : List CardData) (card : CardData) : Type 0 where

@@ -1,5 +1,5 @@
 -- The tables of a card, of its applications and of their records.
-use Rattle.std.specs.Prelude.{ℕ, ◌+◌, List, [], ◌∷◌, ◌++◌, map, codes, Bool, false, not, nat_le, Option, Some, None, Result, Ok, Err, if◌then◌else◌}
+use Rattle.std.specs.Prelude.{ℕ, ◌+◌, List, [], ◌∷◌, ◌++◌, map, codes, Bool, false, ◌&&◌, not, nat_le, Option, Some, None, is_some, Result, Ok, Err, if◌then◌else◌}
 use Rattle.std.specs.List.{list_any}
 use Rattle.std.specs.Str.{bytes_eq}
 use Rattle.card_files.specs.AppRules.{is_pair, most_afl, most_records, reference_pin}
@@ -12,11 +12,11 @@ use Rattle.emv_dict.specs.Settings.{most_amount}
 use Rattle.issuer_host.specs.declared.keys.HostKeys.{HostKeys}
 use Rattle.object_lists.specs.DolEntries.{DolEntry, dol_of, total_of}
 use Rattle.object_lists.specs.declared.dol.DolFault.{DolFault}
-use Rattle.toml.specs.Data.{Data, Items, no_items, item, Members}
+use Rattle.toml.specs.Data.{Data, Items, no_items, item, Members, get_member}
 use Rattle.scenario_fields.specs.Fault.{◌>>=◌, keep_if}
-use Rattle.scenario_fields.specs.Fields.{number_at, number_or, optional_number, listed_or, flag_or, text_at, digits_at, optional_digits, code_at, bytes_at, optional_bytes, array_at, only}
+use Rattle.scenario_fields.specs.Fields.{number_at, number_or, optional_number, listed_or, flag_or, text_at, digits_at, optional_digits, code_at, bytes_at, optional_bytes, array_at, each, only}
 use Rattle.scenario_fields.specs.Place.{item_path, at_top, in_card, in_app, in_record}
-use Rattle.scenario_fields.specs.Value.{table_of}
+use Rattle.scenario_fields.specs.Value.{bytes_of, table_of}
 use Rattle.scenario_fields.specs.declared.fault.ScenarioFault.{ScenarioFault}
 use Rattle.scenario_fields.specs.declared.fault.ScenarioFault.TheVariants.{BadValue, OutOfLimit}
 use Rattle.scenario_fields.specs.declared.spot.Characters.TheVariants.{LowercaseOrDigit, Printable}
@@ -246,10 +246,36 @@ apps_at i keys ms = do
   items ← array_at (in_card i) (codes "app") 1 4 ms
   apps_from i 0 keys [] items
 
--- a card by its name
+-- an answer of a card of canned answers
+unfoldable pub canned_item : (List ℕ → List ℕ) → ℕ → Data → Result (List ℕ) ScenarioFault
+canned_item path j d = bytes_of (path (item_path (codes "canned") j [])) 0 258 d
+
+unfoldable pub canned_at : (List ℕ → List ℕ) → Members → Result (List (List ℕ)) ScenarioFault
+canned_at path ms = do
+  items ← array_at path (codes "canned") 0 300 ms
+  each (canned_item path) 0 items
+
+-- what a card answers by: its applications; or none, and canned answers
+pub record KindData : Type 0 where
+  pub image : List AppData
+  pub canned : Option (List (List ℕ))
+
+abbrev pub has_key : List ℕ → Members → Bool
+has_key key ms = is_some (get_member key ms)
+
+-- canned answers stand in place of applications, never beside them
+unfoldable pub kind_at : ℕ → HostKeys → Members → Result KindData ScenarioFault
+kind_at i keys ms =
+    if has_key (codes "canned") ms && not (has_key (codes "app") ms) then canned_at (in_card i) ms >>= (λ answers. Ok (record { image = []; canned = Some answers }))
+    else (do
+      apps ← apps_at i keys ms
+      keep_if (not (has_key (codes "canned") ms)) (BadValue (in_card i (codes "canned"))) (record { image = apps; canned = None }))
+
+-- a card by its name: its applications; or none, and the answers that it gives to its commands, whatever they are
 pub record CardData : Type 0 where
   pub name : List ℕ
   pub image : List AppData
+  pub canned : Option (List (List ℕ))
 
 unfoldable pub is_named : List ℕ → List CardData → Bool
 is_named name cards = list_any (λ c. bytes_eq c.name name) cards
@@ -261,15 +287,15 @@ new_card_name i earlier ms = do
   keep_if (not (is_named name earlier)) (BadValue (in_card i (codes "name"))) name
 
 unfoldable pub card_keys : List (List ℕ)
-card_keys = codes "name" ∷ codes "app" ∷ []
+card_keys = codes "name" ∷ codes "app" ∷ codes "canned" ∷ []
 
 -- a card behind these
 unfoldable pub card_of : ℕ → HostKeys → List CardData → Members → Result CardData ScenarioFault
 card_of i keys earlier ms = do
   name ← new_card_name i earlier ms
-  apps ← apps_at i keys ms
+  kind ← kind_at i keys ms
   _ ← only (in_card i) card_keys ms
-  Ok (record { name = name; image = apps })
+  Ok (record { name = name; image = kind.image; canned = kind.canned })
 
 unfoldable pub card_item : ℕ → HostKeys → List CardData → Data → Result CardData ScenarioFault
 card_item i keys earlier d = table_of (item_path (codes "card") i []) d >>= card_of i keys earlier

@@ -1,10 +1,29 @@
 -- A scenario's cards as a contract sees them.
-use Rattle.std.specs.Prelude.{List, map}
-use Rattle.scenario.specs.Cards.{CardData}
-use Rattle.scenario.specs.declared.plan.NamedImage.{NamedImage}
+use Rattle.std.specs.Prelude.{ℕ, List, [], map, Option, Some, None}
+use Rattle.card_files.specs.Views.{AppData}
+use Rattle.scenario.specs.Cards.{KindData, CardData}
+use Rattle.scenario.specs.declared.plan.CardKind.{CardKind}
+use Rattle.scenario.specs.declared.plan.CardKind.TheVariants.{App, Canned}
+use Rattle.scenario.specs.declared.plan.NamedCard.{NamedCard}
 
-unfoldable pub seen_card : NamedImage → CardData
-seen_card c = record { name = c.name.items; image = c.image }
+abbrev pub image_of : CardKind → List AppData
+image_of (App image) = image
+image_of (Canned answers) = []
 
-abbrev pub seen_cards : List NamedImage → List CardData
+abbrev pub canned_of : CardKind → Option (List (List ℕ))
+canned_of (App image) = None
+canned_of (Canned answers) = Some (map (λ answer. answer.items) answers.items)
+
+-- its image, where it has one
+abbrev pub image_there : CardKind → Option (List AppData)
+image_there (App image) = Some image
+image_there (Canned answers) = None
+
+abbrev pub seen_kind : CardKind → KindData
+seen_kind kind = record { image = image_of kind; canned = canned_of kind }
+
+unfoldable pub seen_card : NamedCard → CardData
+seen_card c = record { name = c.name.items; image = image_of c.kind; canned = canned_of c.kind }
+
+abbrev pub seen_cards : List NamedCard → List CardData
 seen_cards cs = map seen_card cs

@@ -7,27 +7,28 @@ ghost use Rattle.toml.specs.View.{view, table_view, items_view};
 ghost use Rattle.scenario_fields.specs.Fault.{Gives};
 ghost use Rattle.scenario_fields.specs.Fields.{only};
 ghost use Rattle.scenario_fields.specs.Place.{path};
-ghost use Rattle.scenario.specs.CardRules.{IsCard, IsNewCard, AreCards};
+ghost use Rattle.scenario.specs.CardRules.{IsKind, IsCard, IsNewCard, AreCards};
 ghost use Rattle.scenario.specs.Cards as spec;
-ghost use Rattle.scenario.specs.Cards.{card_keys, card_of, card_item as item_of, cards_from, apps_from, apps_at as apps_found, cards_at as cards_found};
-ghost use Rattle.scenario.specs.Seen.{seen_card, seen_cards};
+ghost use Rattle.scenario.specs.Cards.{card_keys, card_of, card_item as item_of, cards_from, apps_from, apps_at as apps_found, kind_at as kind_found, cards_at as cards_found};
+ghost use Rattle.scenario.specs.Seen.{image_of, canned_of, seen_kind, seen_card, seen_cards};
 
 use crate::app::app_item;
-use crate::plan::NamedImage;
+use crate::canned::canned_at;
+use crate::plan::{CardKind, NamedCard};
 use card_files::{AppImage, Image};
 use issuer_host::HostKeys;
 use scenario_fields::{Characters, Fields, Place, ScenarioFault, Spot};
 use std::alloc::Global;
 use toml::{Table, Value};
 
-fn any_named(name: &[u8], cards: &[NamedImage]) -> bool
+fn any_named(name: &[u8], cards: &[NamedCard]) -> bool
     ensures { result ≡ list_any (λ c. bytes_eq c.name.items name.now) cards.now }
 {
     cards.iter().any(|card| card.name.as_slice() == name)
 }
 
 /// Whether a card has this name.
-fn is_named(name: &[u8], cards: &[NamedImage]) -> bool
+fn is_named(name: &[u8], cards: &[NamedCard]) -> bool
     ensures { result ≡ spec.is_named name.now (seen_cards cards.now) }
 {
     any_named(name, cards)
@@ -38,7 +39,7 @@ fn is_named(name: &[u8], cards: &[NamedImage]) -> bool
 fn new_card_name(
     alloc: Global,
     index: usize,
-    earlier: &[NamedImage],
+    earlier: &[NamedCard],
     table: &Table,
 ) -> Result<Vec<u8>, ScenarioFault>
     ensures exact { Gives (λ name. name.items) result (spec.new_card_name index (seen_cards earlier.now) (table_view table.now)) }
@@ -101,7 +102,37 @@ fn apps_at(
 fn only_card_keys(fields: &Fields) -> Result<(), ScenarioFault>
     ensures { Gives (λ u. u) result (only (path fields.now.place) card_keys (table_view fields.now.table.now)) }
 {
-    fields.only(&["name", "app"])
+    fields.only(&["name", "app", "canned"])
+}
+
+/// What a card answers by: its applications, or in place of them its canned answers.
+#[tactic(auto, unfolding(crate::specs::Cards::kind_at))]
+fn kind_at(
+    alloc: Global,
+    index: usize,
+    keys: &HostKeys,
+    table: &Table,
+) -> Result<CardKind, ScenarioFault>
+    ensures exact { Gives seen_kind result (kind_found index keys.now (table_view table.now)) }
+    ensures rules { IfOk result (λ kind. IsKind (image_of kind) (canned_of kind)) }
+{
+    let fields = Fields {
+        alloc,
+        place: Place::Card(index),
+        table,
+    };
+    let has_canned = fields.optional("canned").is_some();
+    if has_canned && fields.optional("app").is_none() {
+        return Ok(CardKind::Canned(canned_at(&fields)?));
+    }
+    let apps = apps_at(alloc, index, keys, table)?;
+    if has_canned {
+        return Err(fields.spot("canned").bad());
+    }
+    match Image::new(apps) {
+        Ok(image) => Ok(CardKind::App(image)),
+        Err(_) => unreachable!(),
+    }
 }
 
 /// A card behind earlier ones.
@@ -110,9 +141,9 @@ fn read_card(
     alloc: Global,
     index: usize,
     keys: &HostKeys,
-    earlier: &[NamedImage],
+    earlier: &[NamedCard],
     table: &Table,
-) -> Result<NamedImage, ScenarioFault>
+) -> Result<NamedCard, ScenarioFault>
     ensures exact { Gives seen_card result (card_of index keys.now (seen_cards earlier.now) (table_view table.now)) }
     ensures new { IfOk result (λ card. IsNewCard (seen_cards earlier.now) (seen_card card)) }
 {
@@ -122,12 +153,9 @@ fn read_card(
         table,
     };
     let name = new_card_name(alloc, index, earlier, table)?;
-    let apps = apps_at(alloc, index, keys, table)?;
+    let kind = kind_at(alloc, index, keys, table)?;
     only_card_keys(&fields)?;
-    match Image::new(apps) {
-        Ok(image) => Ok(NamedImage { name, image }),
-        Err(_) => unreachable!(),
-    }
+    Ok(NamedCard { name, kind })
 }
 
 /// A card among those of the document.
@@ -136,9 +164,9 @@ fn card_item(
     alloc: Global,
     index: usize,
     keys: &HostKeys,
-    earlier: &[NamedImage],
+    earlier: &[NamedCard],
     value: &Value,
-) -> Result<NamedImage, ScenarioFault>
+) -> Result<NamedCard, ScenarioFault>
     ensures exact { Gives seen_card result (item_of index keys.now (seen_cards earlier.now) (view value.now)) }
     ensures new { IfOk result (λ card. IsNewCard (seen_cards earlier.now) (seen_card card)) }
 {
@@ -157,13 +185,13 @@ fn read_cards(
     alloc: Global,
     keys: &HostKeys,
     values: &[Value],
-) -> Result<Vec<NamedImage>, ScenarioFault>
+) -> Result<Vec<NamedCard>, ScenarioFault>
     ensures exact { Gives (λ cards. seen_cards cards.items) result (cards_from 0 keys.now [] (items_view values.now)) }
     ensures count { IfOk result (λ cards. vec_len cards ≡ length values.now) }
     ensures cards { IfOk result (λ cards. All IsCard (seen_cards cards.items)) }
     ensures names { IfOk result (λ cards. AllPairs (λ a b. a.name ≢ b.name) (seen_cards cards.items)) }
 {
-    let mut cards: Vec<NamedImage> = Vec::new(alloc);
+    let mut cards: Vec<NamedCard> = Vec::new(alloc);
     for value in values {
         let card = card_item(alloc, cards.len(), keys, cards.as_slice(), value)?;
         cards.push(card)?;
@@ -178,7 +206,7 @@ pub fn cards_at(
     alloc: Global,
     keys: &HostKeys,
     document: &Table,
-) -> Result<Vec<NamedImage>, ScenarioFault>
+) -> Result<Vec<NamedCard>, ScenarioFault>
     ensures exact { Gives (λ cards. seen_cards cards.items) result (cards_found keys.now (table_view document.now)) }
     ensures some { IfOk result (λ cards. 1 ≤ vec_len cards) }
     ensures few { IfOk result (λ cards. vec_len cards ≤ 64) }

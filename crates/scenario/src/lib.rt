@@ -4,6 +4,7 @@
 
 pub mod account;
 pub mod app;
+pub mod canned;
 pub mod card;
 pub mod issuer;
 pub mod plan;
@@ -12,7 +13,7 @@ pub mod record;
 pub mod schedule;
 pub mod script;
 
-pub use plan::{NamedImage, Scenario};
+pub use plan::{CardKind, NamedCard, Scenario};
 pub use read::{MOST_BYTES, read_scenario};
 pub use scenario_fields::{Path, ScenarioFault};
 pub use scenario_lanes::{Lane, Link, Planned};

@@ -1,15 +1,50 @@
+ghost use Rattle.std.specs.Prelude.{◌≡◌, map, option_map};
+ghost use Rattle.scenario.specs.Seen.{canned_of, image_there};
+
 use card_files::Image;
 use issuer_host::{Account, HostKeys};
 use scenario_lanes::Lane;
 use std::marker::Model;
 
+/// What a card of a scenario answers by.
+#[derive(Drop)]
+pub enum CardKind {
+    /// Its applications.
+    App(Image),
+    /// At most 300 answers of at most 258 bytes: the first command behind a power-up gets the first of
+    /// them, whatever it is, and behind the last one the card is gone.
+    Canned(Vec<Vec<u8>>),
+}
+
+impl CardKind {
+    /// The applications of a card that has some.
+    pub fn image(&self) -> Option<&Image>
+        ensures { option_map (λ image. image.now) result ≡ image_there self.now }
+    {
+        match self {
+            CardKind::App(image) => Some(image),
+            CardKind::Canned(_) => None,
+        }
+    }
+
+    /// The answers of a card of canned answers.
+    pub fn canned(&self) -> Option<&[Vec<u8>]>
+        ensures { option_map (λ answers. map (λ answer. answer.items) answers.now) result ≡ canned_of self.now }
+    {
+        match self {
+            CardKind::App(_) => None,
+            CardKind::Canned(answers) => Some(answers.as_slice()),
+        }
+    }
+}
+
 /// A card of a scenario.
 #[derive(Drop)]
-pub struct NamedImage {
+pub struct NamedCard {
     /// Its name, from 1 to 16 characters of a to z and 0 to 9.
     pub name: Vec<u8>,
-    /// Its applications.
-    pub image: Image,
+    /// What it answers by.
+    pub kind: CardKind,
 }
 
 /// An issuer with its accounts, cards, and lanes with their purchases. Contracts see lists in place of
@@ -21,7 +56,7 @@ pub struct Scenario {
     /// At most 1,000 accounts, no two of one PAN.
     pub accounts: Vec<Account>,
     /// From 1 to 64 cards, no two of one name.
-    pub cards: Vec<NamedImage>,
+    pub cards: Vec<NamedCard>,
     /// From 1 to 16 lanes, with at most 10,000 purchases together.
     pub lanes: Vec<Lane>,
     /// At most 200,000 indices of lanes: whose exchange comes next.

@@ -16,7 +16,7 @@ ghost use Rattle.scenario.specs.Seen.{seen_cards};
 use crate::account::accounts_at;
 use crate::card::cards_at;
 use crate::issuer::issuer_at;
-use crate::plan::{NamedImage, Scenario};
+use crate::plan::{NamedCard, Scenario};
 use crate::schedule::{known_lanes, schedule_at};
 use scenario_fields::{Fields, Place, ScenarioFault, Spot};
 use scenario_lanes::{Lane, known_cards, lanes_at};
@@ -35,7 +35,7 @@ fn only_top_keys(fields: &Fields) -> Result<(), ScenarioFault>
 
 /// The names of cards.
 #[tactic(auto, using(crate::proofs::CardNames::card_names_seen))]
-fn card_names(alloc: Global, cards: &[NamedImage]) -> Result<Vec<&[u8]>, AllocError>
+fn card_names(alloc: Global, cards: &[NamedCard]) -> Result<Vec<&[u8]>, AllocError>
     ensures { IfOk result (λ names. map (λ name. name.now) names.items ≡ names_of (seen_cards cards.now)) }
 {
     let mut names = Vec::new(alloc);
@@ -48,7 +48,7 @@ fn card_names(alloc: Global, cards: &[NamedImage]) -> Result<Vec<&[u8]>, AllocEr
 /// The lanes at their key in the document, whose purchases name one of these cards.
 fn lanes_with(
     document: &Fields,
-    cards: &[NamedImage],
+    cards: &[NamedCard],
     pin_key: [u8; 16],
 ) -> Result<Vec<Lane>, ScenarioFault>
     ensures exact { Gives (λ lanes. lanes.items) result (lanes_found (path document.now.place) (names_of (seen_cards cards.now)) pin_key (table_view document.now.table.now)) }

@@ -1,5 +1,5 @@
 -- The steps of an audit: each is of one of the scenario's cards, and its commands decide nothing.
-use Rattle.std.proofs.Common.{◌≡◌, ℕ, zero, suc, ◌+◌, List, [], ◌∷◌, slice_get, Some, refl, subst, inl, inr, arith}
+use Rattle.std.proofs.Common.{◌≡◌, ℕ, zero, suc, ◌+◌, List, [], ◌∷◌, slice_get, Option, Some, None, refl, subst, inl, inr, arith}
 use Rattle.std.specs.List.{flat_map}
 use Rattle.std.proofs.lemmas.Option.{same_Some}
 use Rattle.app_select.specs.Said.{select_command}
@@ -7,7 +7,7 @@ use Rattle.card_files.specs.Views.{AppData}
 use Rattle.risk_mgmt.specs.Counters.{counter_tag, last_online_tag, get_data}
 use Rattle.scenario.specs.Cards.{CardData}
 use Rattle.scenario.specs.Plan.{ScenarioData}
-use Rattle.txn_replay.specs.Steps.{Check, PowersUp, Asks, app_checks, card_checks, checks_from, checks}
+use Rattle.txn_replay.specs.Steps.{Check, PowersUp, Asks, app_checks, checks_for, card_checks, checks_from, checks}
 use Rattle.txn_replay.proofs.Lists.{append_at}
 use Rattle.txn_replay.proofs.Deciding.{Idles, select_idles, data_idles}
 
@@ -34,8 +34,12 @@ asked_of i card (app ∷ apps) (suc (suc zero)) check here =
 asked_of i card (app ∷ apps) (suc (suc (suc k))) check here = asked_of i card apps k check here
 
 pub card_check_of : (i : ℕ) (card : CardData) (k : ℕ) (check : Check) → slice_get (card_checks i card) k ≡ Some check → IsCheckOf i card check
-card_check_of i card zero check here = subst (λ (c : Check). IsCheckOf i card c) (same_Some (PowersUp i card) check here) (refl, refl)
-card_check_of i card (suc k) check here = asked_of i card card.image k check here
+card_check_of i card k check here = by_kind card.canned k here
+  where
+    by_kind : (o : Option (List (List ℕ))) (k : ℕ) → slice_get (checks_for i card o) k ≡ Some check → IsCheckOf i card check
+    by_kind None zero here = subst (λ (c : Check). IsCheckOf i card c) (same_Some (PowersUp i card) check here) (refl, refl)
+    by_kind None (suc k) here = asked_of i card card.image k check here
+    by_kind (Some answers) k here = cc
 
 checked_from : (cards : List CardData) (n k : ℕ) (check : Check) → slice_get (checks_from n cards) k ≡ Some check → IsChecked cards n check
 unfolding checks_from

@@ -5,51 +5,51 @@ use Rattle.std.proofs.lemmas.Bool.{cases_eq}
 use Rattle.std.proofs.lemmas.List.{drop-map}
 use Rattle.std.proofs.lemmas.List.Elements.{All-drop}
 use Rattle.std.proofs.lemmas.Option.{same_Some, slice_get_within}
-use Rattle.card_app.specs.SeenChip.{ChipSeen}
-use Rattle.card_files.specs.Views.{AppData}
 use Rattle.emv_ports.specs.Memory.{Memory, IsBlank}
-use Rattle.txn_replay.specs.Banked.{IsNew, AreNew, IsGiven, AreGiven}
+use Rattle.scenario.specs.Cards.{CardData}
+use Rattle.txn_replay.specs.Banked.{IsNew, AreNew, IsLeft, AreGiven}
+use Rattle.txn_replay.specs.Slot.{SlotSeen}
 
 -- one card more
-pub one_new : (images : List (List AppData)) (chips : List ChipSeen) (image : List AppData) (chip : ChipSeen) → AreNew images chips
-    → slice_get images (length chips) ≡ Some image → IsNew image chip → AreNew images (chips ++ chip ∷ [])
-one_new images chips image chip before here new = λ i other found wanted there.
-    elim (cases_eq i (length chips)) [
+pub one_new : (cards : List CardData) (slots : List SlotSeen) (card : CardData) (slot : SlotSeen) → AreNew cards slots
+    → slice_get cards (length slots) ≡ Some card → IsNew card slot → AreNew cards (slots ++ slot ∷ [])
+one_new cards slots card slot before here new = λ i other found wanted there.
+    elim (cases_eq i (length slots)) [
       | inl same ↦
-          let its : image ≡ other = same_Some image other (sym here ∙ ap (λ n. slice_get images n) (sym same) ∙ wanted) in
-          let chip_is : chip ≡ found = at_end chips chip found (ap (λ n. slice_get (chips ++ chip ∷ []) n) (sym same) ∙ there) in
-          subst (λ (x : List AppData). IsNew x found) its (subst (λ (x : ChipSeen). IsNew image x) chip_is new)
-      | inr differs ↦ before i other found wanted (in_front chips chip found i differs there)
+          let its : card ≡ other = same_Some card other (sym here ∙ ap (λ n. slice_get cards n) (sym same) ∙ wanted) in
+          let slot_is : slot ≡ found = at_end slots slot found (ap (λ n. slice_get (slots ++ slot ∷ []) n) (sym same) ∙ there) in
+          subst (λ (x : CardData). IsNew x found) its (subst (λ (x : SlotSeen). IsNew card x) slot_is new)
+      | inr differs ↦ before i other found wanted (in_front slots slot found i differs there)
     ]
   where
-    at_end : (xs : List ChipSeen) (x y : ChipSeen) → slice_get (xs ++ x ∷ []) (length xs) ≡ Some y → x ≡ y
+    at_end : (xs : List SlotSeen) (x y : SlotSeen) → slice_get (xs ++ x ∷ []) (length xs) ≡ Some y → x ≡ y
     at_end [] x y at = same_Some x y at
     at_end (z ∷ zs) x y at = at_end zs x y at
 
-    in_front : (xs : List ChipSeen) (x y : ChipSeen) (i : ℕ) → (i ≡ length xs → ⊥) → slice_get (xs ++ x ∷ []) i ≡ Some y → slice_get xs i ≡ Some y
+    in_front : (xs : List SlotSeen) (x y : SlotSeen) (i : ℕ) → (i ≡ length xs → ⊥) → slice_get (xs ++ x ∷ []) i ≡ Some y → slice_get xs i ≡ Some y
     in_front [] x y zero other at = absurd (other refl)
     in_front [] x y (suc i) other at = cc
     in_front (z ∷ zs) x y zero other at = at
     in_front (z ∷ zs) x y (suc i) other at = in_front zs x y i (λ same. other (ap (λ n. suc n) same)) at
 
 -- the last of the cards has left its pages
-pub one_given : (chips : List ChipSeen) (n : ℕ) (bank : List Memory) (chip : ChipSeen) (memory : Memory) → slice_get chips n ≡ Some chip → IsGiven chip memory
-    → AreGiven chips (n + 1) bank → AreGiven chips n (memory ∷ bank)
-one_given chips n bank chip memory here given before = λ i found from there.
+pub one_given : (slots : List SlotSeen) (n : ℕ) (bank : List Memory) (slot : SlotSeen) (memory : Memory) → slice_get slots n ≡ Some slot → IsLeft slot memory
+    → AreGiven slots (n + 1) bank → AreGiven slots n (memory ∷ bank)
+one_given slots n bank slot memory here given before = λ i found from there.
     elim (cases_eq i n) [
       | inl same ↦
-          let its : chip ≡ found = same_Some chip found (sym here ∙ ap (λ k. slice_get chips k) (sym same) ∙ there) in
+          let its : slot ≡ found = same_Some slot found (sym here ∙ ap (λ k. slice_get slots k) (sym same) ∙ there) in
           let first : i - n ≡ 0 = omega arith in
-          (memory, ap (λ k. slice_get (memory ∷ bank) k) first, subst (λ (x : ChipSeen). IsGiven x memory) its given)
+          (memory, ap (λ k. slice_get (memory ∷ bank) k) first, subst (λ (x : SlotSeen). IsLeft x memory) its given)
       | inr differs ↦
           let later = before i found (omega arith) there in
           let place : i - n ≡ suc (i - (n + 1)) = omega arith in
           (later.0, ap (λ k. slice_get (memory ∷ bank) k) place ∙ later.1, later.2)
     ]
 
-pub none_given : (chips : List ChipSeen) (bank : List Memory) → AreGiven chips (length chips) bank
-none_given chips bank = λ i chip from there.
-    let within : i < length chips = slice_get_within chips i chip there in absurd (omega arith)
+pub none_given : (slots : List SlotSeen) (bank : List Memory) → AreGiven slots (length slots) bank
+none_given slots bank = λ i slot from there.
+    let within : i < length slots = slice_get_within slots i slot there in absurd (omega arith)
 
 -- the first pages of blank ones, and the rest of them
 pub first_blank : {A : Type 0} (f : A → Memory) (xs : List A) (x : A) → 0 < length xs → x ≡ get_or xs 0 x → All IsBlank (map f xs) → IsBlank (f x)

@@ -4,23 +4,22 @@ use Rattle.std.specs.Prelude.{IfSome}
 use Rattle.std.proofs.lemmas.Bool.{cases_eq}
 use Rattle.std.proofs.lemmas.List.{get_or-set_same, get_or-set_other}
 use Rattle.std.proofs.lemmas.Option.{same_Some, slice_get_within, get_or_from_slice_get}
-use Rattle.card_app.specs.SeenChip.{ChipSeen, ChipOn, is_on, losses_of}
 use Rattle.report_text.specs.declared.line.Line.{Line}
 use Rattle.scenario.specs.CardRules.{IsCard}
 use Rattle.scenario.specs.Cards.{CardData}
 use Rattle.scenario.specs.Plan.{ScenarioData, IsScenario}
 use Rattle.txn_replay.specs.Audited.{question_command, check_by, checked_row, IsChecked, RowRests}
-use Rattle.txn_replay.specs.Counting.{capped}
 use Rattle.txn_replay.specs.Run.{lane_over, all_over}
-use Rattle.txn_replay.specs.Seen.{WorldSeen, ChipStands, WorldStands, Goes, IsNext, plan_for}
+use Rattle.txn_replay.specs.Seen.{WorldSeen, SlotStands, WorldStands, Goes, IsNext, plan_for}
+use Rattle.txn_replay.specs.Slot.{SlotSeen, SlotOn, IsSlotOf, HasLost, is_on}
 use Rattle.txn_replay.specs.Sound.{HeldBy}
 use Rattle.txn_replay.specs.Standing.{PlaceStands}
-use Rattle.txn_replay.specs.Steps.{After, Check, PowersUp, Asks, checks, checks_from, with_card, nothing, audits, happens}
+use Rattle.txn_replay.specs.Steps.{After, Check, PowersUp, checks, with_card, nothing, audits, happens}
 use Rattle.txn_replay.specs.World.{Holder, CardRow, World, new_card, card_at}
 use Rattle.txn_replay.specs.declared.audit.Question.{Question}
 use Rattle.txn_replay.specs.declared.event.Event.TheVariants.{Audit}
 use Rattle.txn_replay.proofs.Few.{checks_few}
-use Rattle.txn_replay.proofs.Following.{index_of, asks_follow}
+use Rattle.txn_replay.proofs.Following.{index_of, first_powers, asks_follow}
 use Rattle.txn_replay.proofs.Lists.{set_other, set_here}
 use Rattle.txn_replay.proofs.Payments.{payment_facts}
 use Rattle.txn_replay.proofs.Sounding.{card_sound}
@@ -39,28 +38,28 @@ none_held s w i h by over =
 
 module _ (v : WorldSeen) (w : World) (stands : WorldStands v w) (over : all_over v.scenario w ≡ true) where
   -- each card rests
-  pub record Rests (i : ℕ) (chip : ChipSeen) (card : CardData) : Type 0 where
-    pub rests : RowRests chip (card_at w i)
+  pub record Rests (i : ℕ) (slot : SlotSeen) (card : CardData) : Type 0 where
+    pub rests : RowRests slot (card_at w i)
     pub free : (card_at w i).holder ≡ None
-    pub image : chip.image ≡ card.image
-    pub losses : losses_of chip ≡ capped (card_at w i).losses
+    pub is : IsSlotOf slot card
+    pub losses : HasLost slot (card_at w i).losses
 
-  pub card_rests : (i : ℕ) (chip : ChipSeen) (card : CardData) → slice_get v.chips i ≡ Some chip → slice_get v.scenario.cards i ≡ Some card → Rests i chip card
-  card_rests i chip card there is =
-      elim (stands.chips i chip card there is) [
-        | inl here ↦ placed (card_at w i).holder refl here.image here.losses here.stands
+  pub card_rests : (i : ℕ) (slot : SlotSeen) (card : CardData) → slice_get v.slots i ≡ Some slot → slice_get v.scenario.cards i ≡ Some card → Rests i slot card
+  card_rests i slot card there is =
+      elim (stands.slots i slot card there is) [
+        | inl here ↦ placed (card_at w i).holder refl here.is here.losses here.stands
         | inr audited ↦ record {
-          rests = inr (audited.on, audited.none);
+          rests = inr audited.on;
           free = audited.free;
-          image = audited.image;
+          is = audited.is;
           losses = audited.losses;
         }
       ]
     where
-      placed : (holder : Option Holder) → (card_at w i).holder ≡ holder → chip.image ≡ card.image → losses_of chip ≡ capped (card_at w i).losses
-          → PlaceStands chip (plan_for v.scenario holder) (card_at w i) holder → Rests i chip card
-      placed None held image losses off = record { rests = inl off; free = held; image = image; losses = losses }
-      placed (Some h) held image losses on = absurd (none_held v.scenario w i h (stands.sound.held i h held) over)
+      placed : (holder : Option Holder) → (card_at w i).holder ≡ holder → IsSlotOf slot card → HasLost slot (card_at w i).losses
+          → PlaceStands slot (plan_for v.scenario holder) (card_at w i) holder → Rests i slot card
+      placed None held is_of losses off = record { rests = inl off; free = held; is = is_of; losses = losses }
+      placed (Some h) held is_of losses on = absurd (none_held v.scenario w i h (stands.sound.held i h held) over)
 
   -- no event where none is left
   pub none_checks : (k : ℕ) → slice_get (checks v.scenario) k ≡ None → Goes v w (Audit k) []
@@ -73,13 +72,13 @@ module _ (v : WorldSeen) (w : World) (stands : WorldStands v w) (over : all_over
         stands = stands;
       }
 
-  module _ (i : ℕ) (chip next : ChipSeen) (card : CardData) (there : slice_get v.chips i ≡ Some chip) (is : slice_get v.scenario.cards i ≡ Some card)
-      (image : next.image ≡ chip.image) (losses : losses_of next ≡ losses_of chip) where
+  module _ (i : ℕ) (slot next : SlotSeen) (card : CardData) (there : slice_get v.slots i ≡ Some slot) (is : slice_get v.scenario.cards i ≡ Some card)
+      (is_of : IsSlotOf next card) (losses : HasLost next (card_at w i).losses) where
     abbrev value : WorldSeen
-    value = record v { chips = set v.chips i next }
+    value = record v { slots = set v.slots i next }
 
     module _ (row : CardRow) (holder : row.holder ≡ (card_at w i).holder) (count : row.losses ≡ (card_at w i).losses)
-        (on : ChipOn next row.session row.kept None row.made) (none : row.pending ≡ None) where
+        (on : SlotOn next row None) where
       abbrev after : World
       after = with_card w i row
 
@@ -90,38 +89,36 @@ module _ (v : WorldSeen) (w : World) (stands : WorldStands v w) (over : all_over
           let b : length w.cards ≡ length v.scenario.cards = stands.sound.card_count in omega arith) in
           get_or-set_same w.cards i row new_card within
 
-      chips_after : (j : ℕ) (other : ChipSeen) (its : CardData) → slice_get value.chips j ≡ Some other → slice_get v.scenario.cards j ≡ Some its
-          → ChipStands v.scenario after other its (card_at after j)
-      chips_after j other its at its_is =
+      slots_after : (j : ℕ) (other : SlotSeen) (its : CardData) → slice_get value.slots j ≡ Some other → slice_get v.scenario.cards j ≡ Some its
+          → SlotStands v.scenario after other its (card_at after j)
+      slots_after j other its at its_is =
           elim (cases_eq j i) [
             | inl same ↦
-                let rests : Rests i chip card = card_rests i chip card there is in
-                let chip_is : next ≡ other = set_here v.chips i next other (ap (λ k. slice_get (set v.chips i next) k) (sym same) ∙ at) in
+                let rests : Rests i slot card = card_rests i slot card there is in
+                let slot_is : next ≡ other = set_here v.slots i next other (ap (λ k. slice_get (set v.slots i next) k) (sym same) ∙ at) in
                 let card_is : card ≡ its = same_Some card its (sym is ∙ ap (λ k. slice_get v.scenario.cards k) (sym same) ∙ its_is) in
-                subst (λ k. ChipStands v.scenario after other its (card_at after k)) (sym same)
-                (subst (λ (r : CardRow). ChipStands v.scenario after other its r) (sym here)
-                (subst (λ (c : CardData). ChipStands v.scenario after other c row) card_is
-                (subst (λ (x : ChipSeen). ChipStands v.scenario after x card row) chip_is
+                subst (λ k. SlotStands v.scenario after other its (card_at after k)) (sym same)
+                (subst (λ (r : CardRow). SlotStands v.scenario after other its r) (sym here)
+                (subst (λ (c : CardData). SlotStands v.scenario after other c row) card_is
+                (subst (λ (x : SlotSeen). SlotStands v.scenario after x card row) slot_is
                 (inr (record {
                   over = stays_over v.scenario w after refl over;
-                  image = image ∙ rests.image;
-                  losses = losses ∙ rests.losses ∙ ap capped (sym count);
+                  is = is_of;
+                  losses = subst (λ n. HasLost next n) (sym count) losses;
                   free = holder ∙ rests.free;
                   on = on;
-                  none = none;
                 })))))
             | inr differs ↦
                 let same : card_at after j ≡ card_at w j = get_or-set_other w.cards i j row new_card differs in
-                subst (λ (r : CardRow). ChipStands v.scenario after other its r) (sym same)
-                (elim (stands.chips j other its (sym (set_other v.chips i j next differs) ∙ at) its_is) [
+                subst (λ (r : CardRow). SlotStands v.scenario after other its r) (sym same)
+                (elim (stands.slots j other its (sym (set_other v.slots i j next differs) ∙ at) its_is) [
                   | inl stood ↦ inl stood
                   | inr audited ↦ inr (record {
                     over = stays_over v.scenario w after refl audited.over;
-                    image = audited.image;
+                    is = audited.is;
                     losses = audited.losses;
                     free = audited.free;
                     on = audited.on;
-                    none = audited.none;
                   })
                 ])
           ]
@@ -130,7 +127,7 @@ module _ (v : WorldSeen) (w : World) (stands : WorldStands v w) (over : all_over
       checked_stands = record {
         sound = card_sound v.scenario w i row holder stands.sound;
         few = stands.few;
-        chips = chips_after;
+        slots = slots_after;
         lanes = stands.lanes;
         messages = record { books = stands.messages.books };
         tally = stands.tally;
@@ -149,7 +146,7 @@ module _ (v : WorldSeen) (w : World) (stands : WorldStands v w) (over : all_over
               made = checked.lines_are ∙ ap (λ (x : After). x.lines) (sym is_so);
               leads = ap (λ (x : After). x.world) (sym is_so);
             };
-            stands = checked_stands (checked_row card (card_at w i) None choice) refl refl checked.on checked.none;
+            stands = checked_stands (checked_row card (card_at w i) None choice) refl refl checked.on;
           }
       one_checks (Some question) choice at checked =
           let is_so : happens v.scenario w (Audit k) false ≡ audits w false (Some (check_by i card (Some question))) = ap (λ (o : Option Check). audits w false o) at in
@@ -161,14 +158,14 @@ module _ (v : WorldSeen) (w : World) (stands : WorldStands v w) (over : all_over
               made = checked.lines_are ∙ ap (λ (x : After). x.lines) (sym is_so);
               leads = ap (λ (x : After). x.world) (sym is_so);
             };
-            stands = checked_stands (checked_row card (card_at w i) (Some question) choice) refl refl checked.on checked.none;
+            stands = checked_stands (checked_row card (card_at w i) (Some question) choice) refl refl checked.on;
           }
 
       pub next_checks : (question : Option Question) → slice_get (checks v.scenario) k ≡ Some (check_by i card question) → is_on next ≡ true → IsNext value (k + 1)
       next_checks question at on = λ j other command found follows found_at.
           let same : i ≡ j = sym (index_is i card question) ∙ asks_follow 0 v.scenario.cards k (check_by i card question) j other command at follows in
-          let chip_is : next ≡ found = set_here v.chips i next found (ap (λ n. slice_get (set v.chips i next) n) same ∙ found_at) in
-          ap is_on (sym chip_is) ∙ on
+          let slot_is : next ≡ found = set_here v.slots i next found (ap (λ n. slice_get (set v.slots i next) n) same ∙ found_at) in
+          ap is_on (sym slot_is) ∙ on
 
 pub checked_few : (s : ScenarioData) → IsScenario s → (k : ℕ) (check : Check) → slice_get (checks s) k ≡ Some check → k < 832
 checked_few s fits k check at =
@@ -178,18 +175,13 @@ checked_few s fits k check at =
 
 -- nothing was asked before the first step
 pub first_next : (v : WorldSeen) → IsNext v 0
-unfolding checks_from
-first_next v = λ i card command chip at there. absurd (by v.scenario.cards i card command at)
-  where
-    by : (cards : List CardData) (i : ℕ) (card : CardData) (command : List ℕ) → slice_get (checks_from 0 cards) 0 ≡ Some (Asks i card command) → ⊥
-    by [] i card command at = cc
-    by (c ∷ cards) i card command at = cc
+first_next v = λ i card command slot at there. absurd (first_powers 0 v.scenario.cards i card command at)
 
 -- a card that is asked is on
-pub asks_on : (v : WorldSeen) (k i : ℕ) (card : CardData) (question : Option Question) (chip : ChipSeen) → IsNext v k
-    → slice_get (checks v.scenario) k ≡ Some (check_by i card question) → slice_get v.chips i ≡ Some chip → IfSome question (λ q. is_on chip ≡ true)
-asks_on v k i card None chip next at there = tt
-asks_on v k i card (Some question) chip next at there = next i card (question_command question) chip at there
+pub asks_on : (v : WorldSeen) (k i : ℕ) (card : CardData) (question : Option Question) (slot : SlotSeen) → IsNext v k
+    → slice_get (checks v.scenario) k ≡ Some (check_by i card question) → slice_get v.slots i ≡ Some slot → IfSome question (λ q. is_on slot ≡ true)
+asks_on v k i card None slot next at there = tt
+asks_on v k i card (Some question) slot next at there = next i card (question_command question) slot at there
 
 pub short_name : (s : ScenarioData) → IsScenario s → (i : ℕ) (card : CardData) → slice_get s.cards i ≡ Some card → length card.name ≤ 16
 short_name s fits i card there =

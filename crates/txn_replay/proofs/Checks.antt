@@ -1,14 +1,14 @@
 -- The step of an audit of a number.
-use Rattle.std.proofs.Common.{◌≡◌, ℕ, zero, suc, ◌+◌, ◌-◌, ◌*◌, ◌/◌, ◌%◌, ◌≤◌, List, [], ◌∷◌, ◌++◌, length, drop, slice_get, Some, None, refl, sym, ap, ◌∙◌, arith}
+use Rattle.std.proofs.Common.{◌≡◌, ℕ, zero, suc, ◌+◌, ◌-◌, ◌*◌, ◌/◌, ◌%◌, ◌≤◌, List, [], ◌∷◌, ◌++◌, length, drop, slice_get, Option, Some, None, refl, sym, ap, ◌∙◌, arith}
 use Rattle.std.specs.List.{flat_map}
 use Rattle.std.specs.Prelude.{option_map}
 use Rattle.std.proofs.lemmas.Option.{slice_get-map}
 use Rattle.card_files.specs.Views.{AppData}
 use Rattle.scenario.specs.Cards.{CardData}
-use Rattle.scenario.specs.Seen.{seen_card, seen_cards}
-use Rattle.scenario.specs.declared.plan.NamedImage.{NamedImage}
+use Rattle.scenario.specs.Seen.{image_of, canned_of, seen_card, seen_cards}
+use Rattle.scenario.specs.declared.plan.NamedCard.{NamedCard}
 use Rattle.txn_replay.specs.Audited.{asked_by}
-use Rattle.txn_replay.specs.Steps.{Check, app_checks, card_checks, checks_from}
+use Rattle.txn_replay.specs.Steps.{Check, PowersUp, app_checks, checks_for, card_checks, checks_from}
 use Rattle.txn_replay.proofs.Few.{asks_length}
 use Rattle.txn_replay.proofs.Lists.{append_first, append_second, drop_at, drop_past}
 
@@ -38,28 +38,53 @@ own_check cards i card k check here own =
     ap (λ (cs : List Check). slice_get cs k) (next_card cards i card here)
     ∙ append_first (card_checks i card) (checks_from (i + 1) (drop (i + 1) cards)) k check own
 
-pub asked_check : (i : ℕ) (card : CardData) (k : ℕ) (check : Check) → 1 ≤ k → slice_get (flat_map (app_checks i card) card.image) (k - 1) ≡ Some check
-    → slice_get (card_checks i card) k ≡ Some check
-asked_check i card k check some own = let e : k ≡ suc (k - 1) = omega arith in ap (λ n. slice_get (card_checks i card) n) e ∙ own
+-- those of a card with applications
+of_apps : (i : ℕ) (card : CardData) → card.canned ≡ None → card_checks i card ≡ PowersUp i card ∷ flat_map (app_checks i card) card.image
+of_apps i card apps = ap (λ (o : Option (List (List ℕ))). checks_for i card o) apps
+
+pub power_check : (i : ℕ) (card : CardData) → card.canned ≡ None → slice_get (card_checks i card) 0 ≡ Some (PowersUp i card)
+power_check i card apps = ap (λ (cs : List Check). slice_get cs 0) (of_apps i card apps)
+
+pub asked_check : (i : ℕ) (card : CardData) (k : ℕ) (check : Check) → card.canned ≡ None → 1 ≤ k
+    → slice_get (flat_map (app_checks i card) card.image) (k - 1) ≡ Some check → slice_get (card_checks i card) k ≡ Some check
+asked_check i card k check apps some own =
+    let e : k ≡ suc (k - 1) = omega arith in
+    ap (λ (cs : List Check). slice_get cs k) (of_apps i card apps)
+    ∙ ap (λ n. slice_get (PowersUp i card ∷ flat_map (app_checks i card) card.image) n) e
+    ∙ own
 
 -- and one of those behind it
-pub later_check : (cards : List CardData) (i : ℕ) (card : CardData) (k : ℕ) → slice_get cards i ≡ Some card → 1 + 3 * length card.image ≤ k
+pub later_check : (cards : List CardData) (i : ℕ) (card : CardData) (k : ℕ) → slice_get cards i ≡ Some card → card.canned ≡ None
+    → 1 + 3 * length card.image ≤ k
     → slice_get (checks_from i (drop i cards)) k ≡ slice_get (checks_from (i + 1) (drop (i + 1) cards)) (k - (1 + 3 * length card.image))
-later_check cards i card k here past =
+later_check cards i card k here apps past =
     let asks : length (flat_map (app_checks i card) card.image) ≡ 3 * length card.image = asks_length i card card.image in
+    let count : length (card_checks i card) ≡ length (PowersUp i card ∷ flat_map (app_checks i card) card.image) =
+    ap (λ (cs : List Check). length cs) (of_apps i card apps) in
     let place : k ≡ length (card_checks i card) + (k - (1 + 3 * length card.image)) = omega arith in
     ap (λ (cs : List Check). slice_get cs k) (next_card cards i card here)
     ∙ ap (λ n. slice_get (card_checks i card ++ checks_from (i + 1) (drop (i + 1) cards)) n) place
     ∙ append_second (card_checks i card) (checks_from (i + 1) (drop (i + 1) cards)) (k - (1 + 3 * length card.image))
+
+-- a card of canned answers is passed over
+pub passed_check : (cards : List CardData) (i : ℕ) (card : CardData) (answers : List (List ℕ)) (k : ℕ) → slice_get cards i ≡ Some card
+    → card.canned ≡ Some answers → slice_get (checks_from i (drop i cards)) k ≡ slice_get (checks_from (i + 1) (drop (i + 1) cards)) k
+passed_check cards i card answers k here canned =
+    ap (λ (cs : List Check). slice_get cs k) (next_card cards i card here)
+    ∙ ap (λ (o : Option (List (List ℕ))). slice_get (checks_for i card o ++ checks_from (i + 1) (drop (i + 1) cards)) k) canned
 
 pub no_check : (cards : List CardData) (i k : ℕ) → length cards ≤ i → slice_get (checks_from i (drop i cards)) k ≡ None
 unfolding checks_from
 no_check cards i k past = ap (λ (cs : List CardData). slice_get (checks_from i cs) k) (drop_past cards i past)
 
 -- the card of an index, as the definitions see it
-pub seen_at : (cards : List NamedImage) (i : ℕ) (card : NamedImage) → slice_get cards i ≡ Some card → slice_get (seen_cards cards) i ≡ Some (seen_card card)
+pub seen_at : (cards : List NamedCard) (i : ℕ) (card : NamedCard) → slice_get cards i ≡ Some card → slice_get (seen_cards cards) i ≡ Some (seen_card card)
 seen_at cards i card here = slice_get-map seen_card cards i ∙ ap (option_map seen_card) here
 
-pub seen_image : (card : NamedImage) → (seen_card card).image ≡ card.image
+pub seen_image : (card : NamedCard) → (seen_card card).image ≡ image_of card.kind
 unfolding seen_card
 seen_image card = refl
+
+pub seen_canned : (card : NamedCard) → (seen_card card).canned ≡ canned_of card.kind
+unfolding seen_card
+seen_canned card = refl

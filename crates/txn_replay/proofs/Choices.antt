@@ -1,7 +1,8 @@
 -- An exchange takes a truth value at a power-up that is completed, and nowhere else.
-use Rattle.std.proofs.Common.{◌≡◌, ℕ, Bool, true, false, List, [], ◌∷◌, ◌++◌, length, Option, Some, None, refl, sym}
+use Rattle.std.proofs.Common.{◌≡◌, ℕ, Bool, true, false, List, [], ◌∷◌, ◌++◌, length, slice_get, Option, Some, None, refl, sym}
 use Rattle.card_app.specs.Answering.{card_answer}
 use Rattle.card_pages.specs.Cuts.{Cut, cut_of}
+use Rattle.card_pages.specs.Pages.{found_of}
 use Rattle.card_pages.specs.Replies.{CardAnswer}
 use Rattle.emv_ports.specs.Cut.{is_named}
 use Rattle.issuer_host.specs.History.{host_reply}
@@ -9,9 +10,9 @@ use Rattle.kernel.specs.Dialogue.{dialogue}
 use Rattle.kernel.specs.Ended.{EndData}
 use Rattle.kernel.specs.Reply.{Reply, CardSaid, CardGone, from_host, Deed, ToCard, ToHost, Over}
 use Rattle.report_text.specs.declared.line.Line.{Line}
-use Rattle.txn_replay.specs.Changes.{exchanged, torn, lost}
-use Rattle.txn_replay.specs.Lines.{answer_lines, torn_lines, host_lines, power_torn_line}
-use Rattle.txn_replay.specs.Part.{Part, Moved, delivered, heard, settled_by, cut_ends, answered, asked, begun, begun_by, piece_by, piece}
+use Rattle.txn_replay.specs.Changes.{powered, exchanged, told_once, torn, lost}
+use Rattle.txn_replay.specs.Lines.{answer_lines, torn_lines, gone_lines, host_lines, power_canned_line, power_torn_line}
+use Rattle.txn_replay.specs.Part.{Part, Moved, delivered, heard, settled_by, cut_ends, answered, canned_by, asked_by, asked, begun, begun_by, begun_with, piece_by, piece}
 use Rattle.txn_replay.specs.Payment.{Payment, deal_for, end_at}
 use Rattle.txn_replay.specs.Steps.{first_of}
 use Rattle.txn_replay.specs.World.{Holder}
@@ -43,10 +44,21 @@ none_answered p replies command part said (Some cut) =
     none_cut p (replies ++ CardGone ∷ []) part (record part { card = torn part.card p.planned.tear cut }) (torn_lines p.lane command)
     (end_at p (replies ++ CardGone ∷ []))
 
-none_asked : (p : Payment) (replies : List Reply) (part : Part) (deed : Deed) → (asked p replies part deed).choices ≡ 0
-none_asked p replies part (ToCard command) =
+none_told : (p : Payment) (replies : List Reply) (command : List ℕ) (part : Part) (o : Option (List ℕ)) → (canned_by p replies command part o).choices ≡ 0
+none_told p replies command part (Some answer) =
+    none_settled p (replies ++ CardSaid answer part.lane.log ∷ []) (record part { card = told_once part.card }) (answer_lines p.lane command answer)
+    (end_at p (replies ++ CardSaid answer part.lane.log ∷ []))
+none_told p replies command part None =
+    none_cut p (replies ++ CardGone ∷ []) part (record part { card = part.card }) (gone_lines p.lane command) (end_at p (replies ++ CardGone ∷ []))
+
+none_by : (p : Payment) (replies : List Reply) (command : List ℕ) (part : Part) (o : Option (List (List ℕ))) → (asked_by p replies command part o).choices ≡ 0
+none_by p replies command part None =
     none_answered p replies command part (card_answer p.card.image part.card.kept part.card.session command)
     (cut_of p.planned.tear part.card.made (card_answer p.card.image part.card.kept part.card.session command).new)
+none_by p replies command part (Some answers) = none_told p replies command part (slice_get answers part.card.told)
+
+none_asked : (p : Payment) (replies : List Reply) (part : Part) (deed : Deed) → (asked p replies part deed).choices ≡ 0
+none_asked p replies part (ToCard command) = none_by p replies command part p.card.canned
 none_asked p replies part (ToHost message) =
     none_settled p (replies ++ from_host (reply_to message) ∷ []) (record part { messages = part.messages ++ delivered p.planned.link message })
     (host_lines p.lane message (reply_to message)) (end_at p (replies ++ from_host (reply_to message) ∷ []))
@@ -63,8 +75,15 @@ choice_taken p part choice = by_lane part.lane.running
         (none_cut p (CardGone ∷ []) part (record part { card = lost part.card }) (power_torn_line p.lane p.card ∷ []) (end_at p (CardGone ∷ [])))
     by_tear false = record { choices = choice ∷ []; count = refl; same = refl }
 
+    by_kind : (o : Option (List (List ℕ))) → Taken (λ b. begun_with p part b o) choice
+    by_kind None = by_tear (is_named p.planned.tear 0)
+    by_kind (Some answers) = none_taken (begun_with p part choice (Some answers)) choice
+        (none_settled p []
+        (record part { card = powered part.card (found_of part.card.kept part.card.pending false) (Some (record { lane = p.lane; number = length part.lane.ended })) })
+        (power_canned_line p.lane p.card ∷ []) (end_at p []))
+
     by_holder : (o : Option Holder) → Taken (λ b. begun p part b o) choice
-    by_holder None = by_tear (is_named p.planned.tear 0)
+    by_holder None = by_kind p.card.canned
     by_holder (Some holder) = none_taken (begun p part choice (Some holder)) choice refl
 
     by_lane : (o : Option (List Reply)) → Taken (λ b. piece_by p part b o) choice

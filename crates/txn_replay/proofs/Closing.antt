@@ -1,5 +1,5 @@
 -- What each event keeps of a card holds of every card of every run.
-use Rattle.std.proofs.Common.{◌≡◌, ◌⊎◌, ℕ, Bool, true, false, List, [], ◌∷◌, ◌++◌, length, Option, Some, None, refl, inl}
+use Rattle.std.proofs.Common.{◌≡◌, ◌⊎◌, ℕ, Bool, true, false, List, [], ◌∷◌, ◌++◌, length, slice_get, Option, Some, None, refl, inl}
 use Rattle.card_app.specs.Answering.{card_answer}
 use Rattle.card_files.specs.Views.{AppData}
 use Rattle.card_pages.specs.Cuts.{Cut, cut_of}
@@ -10,9 +10,9 @@ use Rattle.kernel.specs.Dialogue.{dialogue}
 use Rattle.kernel.specs.Ended.{EndData}
 use Rattle.kernel.specs.Reply.{Reply, CardSaid, CardGone, Deed, ToCard, ToHost, Over}
 use Rattle.report_text.specs.declared.line.Line.{Line}
-use Rattle.txn_replay.specs.Changes.{powered, exchanged, torn, lost, freed}
-use Rattle.txn_replay.specs.Lines.{torn_lines, power_torn_line}
-use Rattle.txn_replay.specs.Part.{Part, settled_by, cut_ends, answered, asked, begun, begun_by, piece_by, piece}
+use Rattle.txn_replay.specs.Changes.{powered, exchanged, told_once, torn, lost, freed}
+use Rattle.txn_replay.specs.Lines.{torn_lines, gone_lines, power_torn_line}
+use Rattle.txn_replay.specs.Part.{Part, settled_by, cut_ends, answered, canned_by, asked_by, asked, begun, begun_by, begun_with, piece_by, piece}
 use Rattle.txn_replay.specs.Payment.{Payment, deal_for, end_at}
 use Rattle.txn_replay.specs.World.{Holder, CardRow, new_card}
 
@@ -27,6 +27,7 @@ pub record Closed (P : List AppData → CardRow → Type 0) : Type 0 where
       → P image (powered card (found_of card.kept card.pending with_it) holder)
   pub answers : (image : List AppData) (card : CardRow) (command : List ℕ) → Live image card command → P image card
       → P image (exchanged image card command (card_answer image card.kept card.session command))
+  pub tells : (image : List AppData) (card : CardRow) → P image card → P image (told_once card)
   pub cuts : (image : List AppData) (card : CardRow) (tear : Option Tear) (cut : Cut) (h : Holder) → card.holder ≡ Some h → P image card
       → P image (freed (torn card tear cut))
   pub loses : (image : List AppData) (card : CardRow) → P image card → P image (lost card)
@@ -56,11 +57,25 @@ module _ (P : List AppData → CardRow → Type 0) (closed : Closed P) (p : Paym
       (end_at p (replies ++ CardGone ∷ []))
       holds (closed.cuts p.card.image part.card p.planned.tear cut h has holds)
 
-  ask_keeps : (replies : List Reply) (part : Part) (deed : Deed) (h : Holder) → part.card.holder ≡ Some h → P p.card.image part.card
-      → P p.card.image (asked p replies part deed).part.card
-  ask_keeps replies part (ToCard command) h has holds =
+  tell_keeps : (replies : List Reply) (command : List ℕ) (part : Part) (o : Option (List ℕ)) → P p.card.image part.card
+      → P p.card.image (canned_by p replies command part o).part.card
+  tell_keeps replies command part (Some answer) holds =
+      let told : List Reply = replies ++ CardSaid answer part.lane.log ∷ [] in
+      settled_keeps told (record part { card = told_once part.card }) _ (end_at p told) (closed.tells p.card.image part.card holds)
+  tell_keeps replies command part None holds =
+      cut_keeps (replies ++ CardGone ∷ []) part (record part { card = part.card }) (gone_lines p.lane command) (end_at p (replies ++ CardGone ∷ [])) holds
+      (closed.frees p.card.image part.card holds)
+
+  kind_keeps : (replies : List Reply) (command : List ℕ) (part : Part) (o : Option (List (List ℕ))) (h : Holder) → part.card.holder ≡ Some h
+      → P p.card.image part.card → P p.card.image (asked_by p replies command part o).part.card
+  kind_keeps replies command part None h has holds =
       answer_keeps replies command part
       (cut_of p.planned.tear part.card.made (card_answer p.card.image part.card.kept part.card.session command).new) h has holds
+  kind_keeps replies command part (Some answers) h has holds = tell_keeps replies command part (slice_get answers part.card.told) holds
+
+  ask_keeps : (replies : List Reply) (part : Part) (deed : Deed) (h : Holder) → part.card.holder ≡ Some h → P p.card.image part.card
+      → P p.card.image (asked p replies part deed).part.card
+  ask_keeps replies part (ToCard command) h has holds = kind_keeps replies command part p.card.canned h has holds
   ask_keeps replies part (ToHost message) h has holds = settled_keeps _ (record part { messages = _ }) _ _ holds
   ask_keeps replies part (Over ending) h has holds = holds
 
@@ -73,12 +88,19 @@ module _ (P : List AppData → CardRow → Type 0) (closed : Closed P) (p : Paym
       settled_keeps [] (record part { card = powered part.card (found_of part.card.kept part.card.pending choice) has }) _ (end_at p [])
       (closed.powers p.card.image part.card choice has holds)
 
+  kind_begins : (part : Part) (choice : Bool) (o : Option (List (List ℕ))) → P p.card.image part.card → P p.card.image (begun_with p part choice o).part.card
+  kind_begins part choice None holds = begin_keeps part choice (is_named p.planned.tear 0) holds
+  kind_begins part choice (Some answers) holds =
+      let has : Option Holder = Some (record { lane = p.lane; number = length part.lane.ended }) in
+      settled_keeps [] (record part { card = powered part.card (found_of part.card.kept part.card.pending false) has }) _ (end_at p [])
+      (closed.powers p.card.image part.card false has holds)
+
   pub piece_keeps : (part : Part) (choice : Bool) (h : Holder) → ((replies : List Reply) → part.lane.running ≡ Some replies → part.card.holder ≡ Some h)
       → P p.card.image part.card → P p.card.image (piece p part choice).part.card
   piece_keeps part choice h has holds = by_lane part.lane.running refl
     where
       begins : (o : Option Holder) → P p.card.image (begun p part choice o).part.card
-      begins None = begin_keeps part choice (is_named p.planned.tear 0) holds
+      begins None = kind_begins part choice p.card.canned holds
       begins (Some other) = holds
 
       by_lane : (o : Option (List Reply)) → part.lane.running ≡ o → P p.card.image (piece_by p part choice o).part.card

@@ -1,27 +1,22 @@
--- An exchange with the card: it answers, or the plan cuts its power.
-use Rattle.std.proofs.Common.{◌≡◌, ℕ, ◌+◌, List, [], ◌∷◌, ◌++◌, length, Option, Some, None, refl, sym, ap, ◌∙◌, subst, arith}
+-- An exchange with the card: it answers, or is gone.
+use Rattle.std.proofs.Common.{◌≡◌, ℕ, ◌+◌, List, [], ◌∷◌, ◌++◌, length, Option, Some, None, refl, sym, ap, ◌∙◌, subst}
 use Rattle.card_app.specs.Answering.{card_answer}
-use Rattle.card_app.specs.SeenChip.{ChipSeen, ChipOn, ChipAnswered, ChipCutAt, losses_of}
-use Rattle.card_files.specs.Views.{AppData}
-use Rattle.card_pages.specs.Cuts.{Cut, cut_of}
-use Rattle.emv_ports.specs.Causes.{one_more}
+use Rattle.card_pages.specs.Cuts.{Cut}
 use Rattle.kernel.specs.Ended.{EndData}
 use Rattle.kernel.specs.Kernel.{KernelData, KernelStands, deal_in}
 use Rattle.kernel.specs.Reply.{Reply, CardSaid, CardGone}
 use Rattle.kernel.specs.Tally.{Counts, raised}
 use Rattle.report_text.specs.declared.line.Line.{Line}
+use Rattle.scenario.specs.Cards.{CardData}
+use Rattle.txn_replay.specs.Called.{AnswerIs, answered_row, IsAnswered, IsGone, no_answer_lines}
 use Rattle.txn_replay.specs.Changes.{exchanged, torn}
-use Rattle.txn_replay.specs.Counting.{capped}
-use Rattle.txn_replay.specs.Lines.{answer_lines, torn_lines, end_line}
-use Rattle.txn_replay.specs.Part.{Part, Moved, lane_ended, ended_with, settled, cut_ends, answered, asked_card}
+use Rattle.txn_replay.specs.Lines.{answer_lines, torn_lines, gone_lines, end_line}
+use Rattle.txn_replay.specs.Part.{Part, Moved, lane_ended, ended_with, settled, cut_ends, cut_short, answered as answered_by, canned_by, asked_by, asked_card}
 use Rattle.txn_replay.specs.Payment.{Payment, deal_for, end_at}
+use Rattle.txn_replay.specs.Slot.{SlotSeen, SlotOff, IsSlotOf, HasLost}
 use Rattle.txn_replay.specs.Standing.{LaneStands, PartRuns, MovedTo, IsCounted}
-use Rattle.txn_replay.specs.World.{LaneRow}
+use Rattle.txn_replay.specs.World.{CardRow, LaneRow}
 use Rattle.txn_replay.specs.declared.lane.Lane.{Lane}
-
--- one loss more
-pub more_capped : (n : ℕ) → one_more (capped n) ≡ capped (n + 1)
-more_capped n = omega arith
 
 -- the lane with a terminal that was told one reply more
 pub lane_on : (p : Payment) (lane : Lane) (row : LaneRow) (replies more : List Reply) (kernel : KernelData)
@@ -39,70 +34,104 @@ lane_on p lane row replies more kernel stands told deal = record {
   running = (told, deal);
 }
 
-module _ (p : Payment) (lane : Lane) (chip next : ChipSeen) (replies : List Reply) (part : Part) (command : List ℕ)
-    (runs : PartRuns p lane chip replies part) (same : next.image ≡ chip.image) where
+-- an answer changes neither who has the card nor how often its power was cut
+answered_holder : (card : CardData) (row : CardRow) (command : List ℕ) (canned : Option (List (List ℕ)))
+    → (answered_row card row command canned).holder ≡ row.holder
+answered_holder card row command None = refl
+answered_holder card row command (Some answers) = refl
+
+answered_losses : (card : CardData) (row : CardRow) (command : List ℕ) (canned : Option (List (List ℕ)))
+    → row.losses ≡ (answered_row card row command canned).losses
+answered_losses card row command None = refl
+answered_losses card row command (Some answers) = refl
+
+module _ (p : Payment) (lane : Lane) (slot next : SlotSeen) (replies : List Reply) (part : Part) (command : List ℕ)
+    (runs : PartRuns p lane slot replies part) (is : IsSlotOf next p.card) where
   -- the card answered
-  pub asked_answered : (answer : List ℕ) → ChipAnswered chip next part.card.session part.card.kept p.planned.tear part.card.made command answer
-      → asked_card p replies command part
-      ≡ settled p (replies ++ CardSaid answer part.lane.log ∷ [])
-      (record part { card = exchanged p.card.image part.card command (card_answer p.card.image part.card.kept part.card.session command) })
-      (answer_lines p.lane command answer)
-  asked_answered answer said =
-      let spared : cut_of p.planned.tear part.card.made (card_answer p.card.image part.card.kept part.card.session command).new ≡ None =
-      ap (λ (image : List AppData). cut_of p.planned.tear part.card.made (card_answer image part.card.kept part.card.session command).new) (sym runs.image) ∙ said.spared in
-      let is : (card_answer p.card.image part.card.kept part.card.session command).answer ≡ answer =
-      ap (λ (image : List AppData). (card_answer image part.card.kept part.card.session command).answer) (sym runs.image) ∙ sym said.answer_is in
-      ap (λ (o : Option Cut). answered p replies command part (card_answer p.card.image part.card.kept part.card.session command) o) spared
-      ∙ ap (λ (a : List ℕ). settled p (replies ++ CardSaid a part.lane.log ∷ [])
-      (record part { card = exchanged p.card.image part.card command (card_answer p.card.image part.card.kept part.card.session command) })
-      (answer_lines p.lane command a)) is
+  abbrev pub answered_part : Part
+  answered_part = record part { card = answered_row p.card part.card command p.card.canned }
+
+  pub asked_answered : (answer : List ℕ) → IsAnswered next p.card part.card p.planned.tear command answer
+      → asked_card p replies command part ≡ settled p (replies ++ CardSaid answer part.lane.log ∷ []) answered_part (answer_lines p.lane command answer)
+  asked_answered answer answered = by p.card.canned answered.said
+    where
+      by : (canned : Option (List (List ℕ))) → AnswerIs p.card part.card p.planned.tear command answer canned
+          → asked_by p replies command part canned
+          ≡ settled p (replies ++ CardSaid answer part.lane.log ∷ []) (record part { card = answered_row p.card part.card command canned })
+          (answer_lines p.lane command answer)
+      by None said =
+          ap (λ (o : Option Cut). answered_by p replies command part (card_answer p.card.image part.card.kept part.card.session command) o) said.0
+          ∙ ap (λ (a : List ℕ). settled p (replies ++ CardSaid a part.lane.log ∷ [])
+          (record part { card = exchanged p.card.image part.card command (card_answer p.card.image part.card.kept part.card.session command) })
+          (answer_lines p.lane command a)) (sym said.1)
+      by (Some answers) said = ap (λ (o : Option (List ℕ)). canned_by p replies command part o) said
 
   -- and its purchase runs on
-  pub runs_on : (answer : List ℕ) (kernel : KernelData) → ChipAnswered chip next part.card.session part.card.kept p.planned.tear part.card.made command answer
-      → KernelStands kernel (replies ++ CardSaid answer part.lane.log ∷ []) → deal_in kernel ≡ deal_for p → losses_of next ≡ losses_of chip
-      → PartRuns p (record lane { running = Some kernel }) next (replies ++ CardSaid answer part.lane.log ∷ [])
-      (record part { card = exchanged p.card.image part.card command (card_answer p.card.image part.card.kept part.card.session command) })
-  runs_on answer kernel said told deal kept =
-      let is : answer ≡ (card_answer p.card.image part.card.kept part.card.session command).answer =
-      said.answer_is ∙ ap (λ (image : List AppData). (card_answer image part.card.kept part.card.session command).answer) runs.image in
-      let on : ChipOn next (part.card.session ++ record { command = command; answer = answer } ∷ [])
-      (part.card.kept ++ (card_answer p.card.image part.card.kept part.card.session command).new) p.planned.tear
-      (part.card.made + length (card_answer p.card.image part.card.kept part.card.session command).new) =
-      subst (λ (image : List AppData). ChipOn next (part.card.session ++ record { command = command; answer = answer } ∷ [])
-      (part.card.kept ++ (card_answer image part.card.kept part.card.session command).new) p.planned.tear
-      (part.card.made + length (card_answer image part.card.kept part.card.session command).new)) runs.image said.on in
-      record {
-        lane_is = lane_on p lane part.lane replies (replies ++ CardSaid answer part.lane.log ∷ []) kernel runs.lane_is told deal;
-        holder = runs.holder;
-        has = runs.has;
-        on = subst (λ (a : List ℕ). ChipOn next (part.card.session ++ record { command = command; answer = a } ∷ [])
-            (part.card.kept ++ (card_answer p.card.image part.card.kept part.card.session command).new) p.planned.tear
-            (part.card.made + length (card_answer p.card.image part.card.kept part.card.session command).new)) is on;
-        none = runs.none;
-        image = same ∙ runs.image;
-        losses = kept ∙ runs.losses;
-      }
+  pub runs_on : (answer : List ℕ) (kernel : KernelData) → IsAnswered next p.card part.card p.planned.tear command answer
+      → KernelStands kernel (replies ++ CardSaid answer part.lane.log ∷ []) → deal_in kernel ≡ deal_for p → HasLost next part.card.losses
+      → PartRuns p (record lane { running = Some kernel }) next (replies ++ CardSaid answer part.lane.log ∷ []) answered_part
+  runs_on answer kernel answered told deal losses = record {
+    lane_is = lane_on p lane part.lane replies (replies ++ CardSaid answer part.lane.log ∷ []) kernel runs.lane_is told deal;
+    holder = runs.holder;
+    has = answered_holder p.card part.card command p.card.canned ∙ runs.has;
+    on = answered.on;
+    is = is;
+    losses = subst (λ n. HasLost next n) (answered_losses p.card part.card command p.card.canned) losses;
+  }
 
-  module _ (at : Cut) (end : EndData) (cut : ChipCutAt chip next part.card.session part.card.kept p.planned.tear part.card.made command at)
-      (is : end_at p (replies ++ CardGone ∷ []) ≡ Some end) where
-    -- the power was cut
-    asked_cut : asked_card p replies command part
-        ≡ ended_with p (replies ++ CardGone ∷ []) end (record part { card = torn part.card p.planned.tear at }) (torn_lines p.lane command)
-    asked_cut =
-        let here : cut_of p.planned.tear part.card.made (card_answer p.card.image part.card.kept part.card.session command).new ≡ Some at =
-        ap (λ (image : List AppData). cut_of p.planned.tear part.card.made (card_answer image part.card.kept part.card.session command).new) (sym runs.image) ∙ cut.cut in
-        ap (λ (o : Option Cut). answered p replies command part (card_answer p.card.image part.card.kept part.card.session command) o) here
-        ∙ ap (λ (e : Option EndData). cut_ends p (replies ++ CardGone ∷ []) part (record part { card = torn part.card p.planned.tear at }) (torn_lines p.lane command) e) is
+  module _ (end : EndData) (gone : IsGone next p.card part.card p.planned.tear command p.card.canned)
+      (over : end_at p (replies ++ CardGone ∷ []) ≡ Some end) where
+    -- it is gone, and the purchase has ended
+    record Ended : Type 0 where
+      pub row : CardRow
+      pub same :
+          asked_card p replies command part
+          ≡ ended_with p (replies ++ CardGone ∷ []) end (record part { card = row }) (no_answer_lines p.lane command p.card.canned)
+      pub off : SlotOff next row.kept row.pending
+      pub losses : HasLost next row.losses
 
-    pub cut_moved : (after : Lane) (lines : List Line) → losses_of next ≡ one_more (losses_of chip) → LaneStands after p (lane_ended p (replies ++ CardGone ∷ []) end part.lane)
-        → lines ≡ torn_lines p.lane command ++ end_line p.lane (length part.lane.ended + 1) end ∷ []
+    ended : Ended
+    ended = by p.card.canned refl gone
+      where
+        cut_so : (row : CardRow) (lines : List Line)
+            → cut_short p replies part row lines ≡ ended_with p (replies ++ CardGone ∷ []) end (record part { card = row }) lines
+        cut_so row lines = ap (λ (e : Option EndData). cut_ends p (replies ++ CardGone ∷ []) part (record part { card = row }) lines e) over
+
+        with_lines : (row : CardRow) (canned : Option (List (List ℕ))) → p.card.canned ≡ canned
+            → asked_by p replies command part canned
+            ≡ ended_with p (replies ++ CardGone ∷ []) end (record part { card = row }) (no_answer_lines p.lane command canned)
+            → asked_card p replies command part
+            ≡ ended_with p (replies ++ CardGone ∷ []) end (record part { card = row }) (no_answer_lines p.lane command p.card.canned)
+        with_lines row canned is_so so =
+            subst (λ (o : Option (List (List ℕ))). asked_by p replies command part o
+            ≡ ended_with p (replies ++ CardGone ∷ []) end (record part { card = row }) (no_answer_lines p.lane command o)) (sym is_so) so
+
+        by : (canned : Option (List (List ℕ))) → p.card.canned ≡ canned → IsGone next p.card part.card p.planned.tear command canned → Ended
+        by None is_so cut = record {
+          row = torn part.card p.planned.tear cut.0;
+          same = with_lines (torn part.card p.planned.tear cut.0) None is_so
+              (ap (λ (o : Option Cut). answered_by p replies command part (card_answer p.card.image part.card.kept part.card.session command) o) cut.1.cut
+              ∙ cut_so (torn part.card p.planned.tear cut.0) (torn_lines p.lane command));
+          off = cut.1.off;
+          losses = cut.1.losses;
+        }
+        by (Some answers) is_so empty = record {
+          row = part.card;
+          same = with_lines part.card (Some answers) is_so
+              (ap (λ (o : Option (List ℕ)). canned_by p replies command part o) empty.none ∙ cut_so part.card (gone_lines p.lane command));
+          off = empty.off;
+          losses = empty.losses;
+        }
+
+    pub gone_moved : (after : Lane) (lines : List Line) → LaneStands after p (lane_ended p (replies ++ CardGone ∷ []) end part.lane)
+        → lines ≡ no_answer_lines p.lane command p.card.canned ++ end_line p.lane (length part.lane.ended + 1) end ∷ []
         → MovedTo p after next lines (asked_card p replies command part)
-    cut_moved after lines gone stands made =
-        subst (λ (m : Moved). MovedTo p after next lines m) (sym asked_cut)
-        (record { lane_is = stands; card = record { image = same ∙ runs.image; losses = gone ∙ ap one_more runs.losses ∙ more_capped part.card.losses; stands = cut.off }; lines_are = made })
+    gone_moved after lines stands made =
+        subst (λ (m : Moved). MovedTo p after next lines m) (sym ended.same)
+        (record { lane_is = stands; card = record { is = is; losses = ended.losses; stands = ended.off }; lines_are = made })
 
-    pub cut_counted : (before after : Counts) → after ≡ raised before end.ending (length (replies ++ CardGone ∷ []))
+    pub gone_counted : (before after : Counts) → after ≡ raised before end.ending (length (replies ++ CardGone ∷ []))
         → IsCounted before after part.lane.ended (asked_card p replies command part).part.lane.ended
-    cut_counted before after one =
-        subst (λ (m : Moved). IsCounted before after part.lane.ended m.part.lane.ended) (sym asked_cut)
+    gone_counted before after one =
+        subst (λ (m : Moved). IsCounted before after part.lane.ended m.part.lane.ended) (sym ended.same)
         (record { replies = replies ++ CardGone ∷ []; end = end } ∷ [], refl, one)

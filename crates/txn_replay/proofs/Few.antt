@@ -14,7 +14,7 @@ use Rattle.kernel.specs.Reply.{Reply}
 use Rattle.object_lists.specs.CardRead.{ReadCard}
 use Rattle.report_text.specs.declared.line.Line.{Line}
 use Rattle.scenario.specs.Cards.{CardData}
-use Rattle.scenario.specs.CardRules.{IsCard}
+use Rattle.scenario.specs.CardRules.{IsKind, IsCard}
 use Rattle.scenario.specs.Plan.{ScenarioData, IsScenario}
 use Rattle.scenario_lanes.specs.Plan.{LaneData, purchase_count}
 use Rattle.scenario_lanes.specs.declared.plan.Planned.{Planned}
@@ -23,7 +23,7 @@ use Rattle.txn_replay.specs.Part.{approval, lane_ended, piece}
 use Rattle.txn_replay.specs.Payment.{Payment, payment_of, payment_on, payment_in, next_of}
 use Rattle.txn_replay.specs.Run.{Place, Reached}
 use Rattle.txn_replay.specs.Sound.{IsSound}
-use Rattle.txn_replay.specs.Steps.{Settlement, settlements, settlements_from, app_checks, card_checks, checks_from, checks, part_of, turned_by, settles, audits, happens}
+use Rattle.txn_replay.specs.Steps.{Settlement, settlements, settlements_from, app_checks, checks_for, card_checks, checks_from, checks, part_of, turned_by, settles, audits, happens}
 use Rattle.txn_replay.specs.World.{LaneRow, World, new_lane, first_world, lane_at}
 use Rattle.txn_replay.specs.declared.event.Event.{Event}
 use Rattle.txn_replay.specs.declared.event.Event.TheVariants.{Turn, Settle, Audit}
@@ -201,13 +201,19 @@ asks_length i card [] = refl
 asks_length i card (app ∷ apps) =
     let others : length (flat_map (app_checks i card) apps) ≡ 3 * length apps = asks_length i card apps in omega arith
 
+card_length : (i : ℕ) (card : CardData) → length (card_checks i card) ≤ 1 + 3 * length card.image
+card_length i card = by_kind card.canned
+  where
+    by_kind : (o : Option (List (List ℕ))) → length (checks_for i card o) ≤ 1 + 3 * length card.image
+    by_kind None = let asks : length (flat_map (app_checks i card) card.image) ≡ 3 * length card.image = asks_length i card card.image in omega arith
+    by_kind (Some answers) = omega arith
+
 pub checks_length : (i : ℕ) (cards : List CardData) → ((k : ℕ) (card : CardData) → slice_get cards k ≡ Some card → length card.image ≤ 4)
     → length (checks_from i cards) ≤ 13 * length cards
 unfolding checks_from
 checks_length i [] few = omega arith
 checks_length i (card ∷ cards) few =
-    let own : length (card_checks i card) ≡ 1 + 3 * length card.image = (let asks : length (flat_map (app_checks i card) card.image) ≡ 3 * length card.image =
-    asks_length i card card.image in omega arith) in
+    let own : length (card_checks i card) ≤ 1 + 3 * length card.image = card_length i card in
     let both : length (card_checks i card ++ checks_from (i + 1) cards) ≡ length (card_checks i card) + length (checks_from (i + 1) cards) =
     length-append (card_checks i card) (checks_from (i + 1) cards) in
     let apps : length card.image ≤ 4 = few 0 card refl in
@@ -220,7 +226,12 @@ checks_few s is =
     let cards : length s.cards ≤ 64 = is.tables.cards.few in
     omega arith
   where
+    of_kind : (image : List AppData) (o : Option (List (List ℕ))) → IsKind image o → length image ≤ 4
+    of_kind image None kind = kind.few
+    of_kind image (Some answers) kind = let none : length image ≡ 0 = ap length kind.0 in omega arith
+
     apps : (k : ℕ) (card : CardData) → slice_get s.cards k ≡ Some card → length card.image ≤ 4
     apps k card here =
         let rules : IsCard (get_or s.cards k card) = is.tables.cards.each k card (slice_get_within s.cards k card here) in
-        subst (λ (x : CardData). length x.image ≤ 4) (get_or_from_slice_get s.cards k card card here) rules.image.few
+        subst (λ (x : CardData). length x.image ≤ 4) (get_or_from_slice_get s.cards k card card here)
+        (of_kind (get_or s.cards k card).image (get_or s.cards k card).canned rules.kind)

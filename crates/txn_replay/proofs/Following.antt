@@ -1,8 +1,8 @@
 -- The steps of an audit follow one another: behind a step comes one of the same card, or a power-up.
-use Rattle.std.proofs.Common.{◌≡◌, ◌⊎◌, ℕ, ◌+◌, ◌-◌, ◌≤◌, ◌<◌, List, [], ◌∷◌, ◌++◌, length, slice_get, Some, sym, ap, ◌∙◌, inl, inr, arith}
+use Rattle.std.proofs.Common.{◌≡◌, ◌⊎◌, ℕ, ◌+◌, ◌-◌, ◌≤◌, ◌<◌, List, [], ◌∷◌, ◌++◌, length, slice_get, Option, Some, None, sym, ap, ◌∙◌, inl, inr, arith}
 use Rattle.std.proofs.lemmas.Bool.{cases_lt}
 use Rattle.scenario.specs.Cards.{CardData}
-use Rattle.txn_replay.specs.Steps.{Check, PowersUp, Asks, card_checks, checks_from}
+use Rattle.txn_replay.specs.Steps.{Check, PowersUp, Asks, checks_for, card_checks, checks_from}
 use Rattle.txn_replay.proofs.Auditing.{IsCheckOf, card_check_of}
 use Rattle.txn_replay.proofs.Lists.{append_second, found_first}
 
@@ -14,10 +14,15 @@ of_index : (i : ℕ) (card : CardData) (check : Check) → IsCheckOf i card chec
 of_index i card (PowersUp j other) is = is.0
 of_index i card (Asks j other command) is = is.0
 
-first_powers : (n : ℕ) (cards : List CardData) (i : ℕ) (card : CardData) (command : List ℕ) → slice_get (checks_from n cards) 0 ≡ Some (Asks i card command) → ⊥
+pub first_powers : (n : ℕ) (cards : List CardData) (i : ℕ) (card : CardData) (command : List ℕ) → slice_get (checks_from n cards) 0 ≡ Some (Asks i card command) → ⊥
 unfolding checks_from
 first_powers n [] i card command here = cc
-first_powers n (c ∷ cards) i card command here = cc
+first_powers n (c ∷ cards) i card command here = by_kind c.canned here (first_powers (n + 1) cards i card command)
+  where
+    by_kind : (o : Option (List (List ℕ))) → slice_get (checks_for n c o ++ checks_from (n + 1) cards) 0 ≡ Some (Asks i card command)
+        → (slice_get (checks_from (n + 1) cards) 0 ≡ Some (Asks i card command) → ⊥) → ⊥
+    by_kind None here others = cc
+    by_kind (Some answers) here others = others here
 
 pub asks_follow : (n : ℕ) (cards : List CardData) (k : ℕ) (check : Check) (i : ℕ) (card : CardData) (command : List ℕ)
     → slice_get (checks_from n cards) k ≡ Some check → slice_get (checks_from n cards) (k + 1) ≡ Some (Asks i card command) → index_of check ≡ i

@@ -1,33 +1,24 @@
 -- The value of a run before its first event.
 use Rattle.std.proofs.Common.{◌≡◌, ℕ, List, [], ◌∷◌, length, map, get_or, slice_get, Option, Some, None, refl, sym, ap, ◌∙◌, subst, inl, arith}
 use Rattle.std.specs.List.{All, flat_map}
-use Rattle.std.specs.Prelude.{option_map}
-use Rattle.std.proofs.lemmas.Option.{slice_get-map, slice_get_within, get_or_from_slice_get}
-use Rattle.card_app.specs.SeenChip.{ChipSeen}
-use Rattle.card_files.specs.Views.{AppData}
+use Rattle.std.proofs.lemmas.Option.{slice_get_within, get_or_from_slice_get}
 use Rattle.issuer_host.specs.History.{HostStands}
 use Rattle.kernel.specs.Kernel.{KernelData}
 use Rattle.kernel.specs.Tally.{Counts}
 use Rattle.scenario.specs.Cards.{CardData}
 use Rattle.scenario.specs.Plan.{ScenarioData}
-use Rattle.scenario.specs.Seen.{seen_card, seen_cards}
-use Rattle.scenario.specs.declared.plan.NamedImage.{NamedImage}
 use Rattle.scenario_lanes.specs.Plan.{LaneData}
 use Rattle.txn_replay.specs.Banked.{IsNew, AreNew}
 use Rattle.txn_replay.specs.Counting.{counts_of, counts}
 use Rattle.txn_replay.specs.Payment.{Payment, payment_in}
-use Rattle.txn_replay.specs.Seen.{WorldSeen, ChipStands, RunFor, LaneAt, WorldStands, IsNewLane}
+use Rattle.txn_replay.specs.Seen.{WorldSeen, SlotStands, RunFor, LaneAt, WorldStands, IsNewLane}
+use Rattle.txn_replay.specs.Slot.{SlotSeen}
 use Rattle.txn_replay.specs.Standing.{RunStands, LaneKeeps, LaneFits, is_over}
 use Rattle.txn_replay.specs.World.{CardRow, LaneRow, World, new_card, new_lane, first_world, card_at, lane_at}
 use Rattle.txn_replay.specs.declared.lane.Lane.{Lane}
 use Rattle.txn_replay.proofs.Few.{first_few}
 use Rattle.txn_replay.proofs.Lists.{get_or-map_const}
 use Rattle.txn_replay.proofs.Sounding.{first_sound}
-
-pub images_are : (cards : List NamedImage) → map (λ card. card.image) cards ≡ map (λ card. card.image) (seen_cards cards)
-unfolding seen_card
-images_are [] = refl
-images_are (card ∷ cards) = ap (λ (xs : List (List AppData)). card.image ∷ xs) (images_are cards)
 
 none_ended : (lanes : List LaneData) → flat_map (λ (row : LaneRow). row.ended) (map (λ lane. new_lane) lanes) ≡ []
 none_ended [] = refl
@@ -53,12 +44,12 @@ fits_new lane new = record {
 pub fit_all : (lanes : List Lane) → All IsNewLane lanes → All LaneFits lanes
 fit_all lanes new = λ k d within. fits_new (get_or lanes k d) (new k d within)
 
-pub first_stands : (v : WorldSeen) → AreNew (map (λ card. card.image) v.scenario.cards) v.chips → All IsNewLane v.lanes → HostStands v.host [] → v.tally ≡ no_counts
+pub first_stands : (v : WorldSeen) → AreNew v.scenario.cards v.slots → All IsNewLane v.lanes → HostStands v.host [] → v.tally ≡ no_counts
     → WorldStands v (first_world v.scenario)
-first_stands v chips lanes host tally = record {
+first_stands v new_slots lanes host tally = record {
   sound = first_sound v.scenario;
   few = first_few v.scenario;
-  chips = chip_stands;
+  slots = slot_stands;
   lanes = lane_stands;
   messages = host;
   tally = tally ∙ first_counts v.scenario;
@@ -67,13 +58,12 @@ first_stands v chips lanes host tally = record {
     w : World
     w = first_world v.scenario
 
-    chip_stands : (i : ℕ) (chip : ChipSeen) (card : CardData) → slice_get v.chips i ≡ Some chip → slice_get v.scenario.cards i ≡ Some card
-        → ChipStands v.scenario (first_world v.scenario) chip card (card_at (first_world v.scenario) i)
-    chip_stands i chip card there is =
-        let new : IsNew card.image chip =
-        chips i card.image chip (slice_get-map (λ (c : CardData). c.image) v.scenario.cards i ∙ ap (option_map (λ (c : CardData). c.image)) is) there in
-        subst (λ (row : CardRow). ChipStands v.scenario (first_world v.scenario) chip card row) (sym (get_or-map_const v.scenario.cards i new_card))
-        (inl (record { image = new.image_is; losses = new.losses ∙ (omega arith); stands = new.off }))
+    slot_stands : (i : ℕ) (slot : SlotSeen) (card : CardData) → slice_get v.slots i ≡ Some slot → slice_get v.scenario.cards i ≡ Some card
+        → SlotStands v.scenario (first_world v.scenario) slot card (card_at (first_world v.scenario) i)
+    slot_stands i slot card there is =
+        let new : IsNew card slot = new_slots i card slot is there in
+        subst (λ (row : CardRow). SlotStands v.scenario (first_world v.scenario) slot card row) (sym (get_or-map_const v.scenario.cards i new_card))
+        (inl (record { is = new.is; losses = new.losses; stands = new.off }))
 
     keeps : (lane : Lane) → IsNewLane lane → LaneKeeps lane new_lane
     keeps lane new = record {

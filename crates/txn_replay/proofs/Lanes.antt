@@ -1,5 +1,5 @@
 -- What one exchange makes of its lane: it stays, runs, or has one purchase more that has ended.
-use Rattle.std.proofs.Common.{ℕ, Bool, true, false, List, [], ◌∷◌, ◌++◌, Option, Some, None}
+use Rattle.std.proofs.Common.{ℕ, Bool, true, false, List, [], ◌∷◌, ◌++◌, slice_get, Option, Some, None}
 use Rattle.card_app.specs.Answering.{card_answer}
 use Rattle.card_pages.specs.Cuts.{Cut, cut_of}
 use Rattle.card_pages.specs.Pages.{found_of}
@@ -9,9 +9,9 @@ use Rattle.kernel.specs.Dialogue.{dialogue}
 use Rattle.kernel.specs.Ended.{EndData}
 use Rattle.kernel.specs.Reply.{Reply, CardSaid, CardGone, Deed, ToCard, ToHost, Over}
 use Rattle.report_text.specs.declared.line.Line.{Line}
-use Rattle.txn_replay.specs.Changes.{powered, exchanged, torn, lost}
-use Rattle.txn_replay.specs.Lines.{answer_lines, torn_lines, power_torn_line}
-use Rattle.txn_replay.specs.Part.{Part, lane_ended, settled_by, cut_ends, answered, asked, begun, begun_by, piece_by, piece}
+use Rattle.txn_replay.specs.Changes.{powered, exchanged, told_once, torn, lost}
+use Rattle.txn_replay.specs.Lines.{answer_lines, torn_lines, gone_lines, power_torn_line}
+use Rattle.txn_replay.specs.Part.{Part, lane_ended, settled_by, cut_ends, answered, canned_by, asked_by, asked, begun, begun_by, begun_with, piece_by, piece}
 use Rattle.txn_replay.specs.Payment.{Payment, deal_for, end_at}
 use Rattle.txn_replay.specs.World.{Holder, CardRow, LaneRow}
 use Rattle.txn_replay.proofs.Moves.{this_one}
@@ -36,10 +36,21 @@ module _ (B : LaneRow → Type 0) (p : Payment) (part : Part) (stays : B part.la
   answer_lane replies command said (Some cut) =
       cut_lane (replies ++ CardGone ∷ []) (torn part.card p.planned.tear cut) (torn_lines p.lane command) (end_at p (replies ++ CardGone ∷ []))
 
-  ask_lane : (replies : List Reply) (deed : Deed) → B (asked p replies part deed).part.lane
-  ask_lane replies (ToCard command) =
+  tell_lane : (replies : List Reply) (command : List ℕ) (o : Option (List ℕ)) → B (canned_by p replies command part o).part.lane
+  tell_lane replies command (Some answer) =
+      settled_lane (replies ++ CardSaid answer part.lane.log ∷ []) (told_once part.card) part.messages (answer_lines p.lane command answer)
+      (end_at p (replies ++ CardSaid answer part.lane.log ∷ []))
+  tell_lane replies command None =
+      cut_lane (replies ++ CardGone ∷ []) part.card (gone_lines p.lane command) (end_at p (replies ++ CardGone ∷ []))
+
+  kind_lane : (replies : List Reply) (command : List ℕ) (o : Option (List (List ℕ))) → B (asked_by p replies command part o).part.lane
+  kind_lane replies command None =
       answer_lane replies command (card_answer p.card.image part.card.kept part.card.session command)
       (cut_of p.planned.tear part.card.made (card_answer p.card.image part.card.kept part.card.session command).new)
+  kind_lane replies command (Some answers) = tell_lane replies command (slice_get answers part.card.told)
+
+  ask_lane : (replies : List Reply) (deed : Deed) → B (asked p replies part deed).part.lane
+  ask_lane replies (ToCard command) = kind_lane replies command p.card.canned
   ask_lane replies (ToHost message) = settled_lane _ part.card _ _ _
   ask_lane replies (Over ending) = stays
 
@@ -48,11 +59,16 @@ module _ (B : LaneRow → Type 0) (p : Payment) (part : Part) (stays : B part.la
   begin_lane choice false =
       settled_lane [] (powered part.card (found_of part.card.kept part.card.pending choice) (Some (this_one p part))) part.messages _ (end_at p [])
 
+  kind_begins : (choice : Bool) (o : Option (List (List ℕ))) → B (begun_with p part choice o).part.lane
+  kind_begins choice None = begin_lane choice (is_named p.planned.tear 0)
+  kind_begins choice (Some answers) =
+      settled_lane [] (powered part.card (found_of part.card.kept part.card.pending false) (Some (this_one p part))) part.messages _ (end_at p [])
+
   pub piece_lane : (choice : Bool) → B (piece p part choice).part.lane
   piece_lane choice = by_lane part.lane.running
     where
       begins : (o : Option Holder) → B (begun p part choice o).part.lane
-      begins None = begin_lane choice (is_named p.planned.tear 0)
+      begins None = kind_begins choice p.card.canned
       begins (Some h) = stays
 
       by_lane : (o : Option (List Reply)) → B (piece_by p part choice o).part.lane

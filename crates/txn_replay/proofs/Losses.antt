@@ -1,5 +1,5 @@
 -- A loss of power is counted exactly where the lines of an exchange tell one.
-use Rattle.std.proofs.Common.{◌≡◌, ℕ, ◌+◌, ◌<◌, Bool, true, false, List, [], ◌∷◌, ◌++◌, length, cond, Option, Some, None, refl, sym, ap, ◌∙◌, subst, arith}
+use Rattle.std.proofs.Common.{◌≡◌, ℕ, ◌+◌, ◌<◌, Bool, true, false, List, [], ◌∷◌, ◌++◌, length, cond, slice_get, Option, Some, None, refl, sym, ap, ◌∙◌, arith}
 use Rattle.std.specs.List.{count_by}
 use Rattle.std.proofs.lemmas.List.{get_or-set_same}
 use Rattle.std.proofs.lemmas.List.Sums.{sum_by-append}
@@ -14,15 +14,13 @@ use Rattle.kernel.specs.Dialogue.{dialogue}
 use Rattle.kernel.specs.Ended.{EndData}
 use Rattle.kernel.specs.Reply.{Reply, CardSaid, CardGone, from_host, Deed, ToCard, ToHost, Over}
 use Rattle.report_text.specs.declared.line.Line.{Line}
-use Rattle.scenario.specs.Plan.{ScenarioData}
-use Rattle.txn_replay.specs.Changes.{powered, exchanged, torn, lost}
+use Rattle.txn_replay.specs.Changes.{powered, exchanged, told_once, torn, lost}
 use Rattle.txn_replay.specs.Laws.{is_torn, LossesAreTold}
-use Rattle.txn_replay.specs.Lines.{power_line, power_torn_line, answer_lines, torn_lines, host_lines, end_line}
-use Rattle.txn_replay.specs.Part.{Part, Moved, still, delivered, heard, settled_by, cut_ends, answered, asked, begun, begun_by, piece_by, piece}
-use Rattle.txn_replay.specs.Payment.{Payment, deal_for, end_at, next_of}
-use Rattle.txn_replay.specs.Sound.{IsSound}
+use Rattle.txn_replay.specs.Lines.{power_line, power_canned_line, power_torn_line, answer_lines, torn_lines, gone_lines, host_lines, end_line}
+use Rattle.txn_replay.specs.Part.{Part, Moved, still, delivered, heard, settled_by, cut_ends, answered, canned_by, asked_by, asked, begun, begun_by, begun_with, piece_by, piece}
+use Rattle.txn_replay.specs.Payment.{Payment, deal_for, end_at}
 use Rattle.txn_replay.specs.Steps.{After, part_of, moved, turned_by, happens}
-use Rattle.txn_replay.specs.World.{Holder, CardRow, World, new_card, card_at}
+use Rattle.txn_replay.specs.World.{Holder, CardRow, new_card, card_at}
 use Rattle.txn_replay.specs.declared.event.Event.TheVariants.{Turn}
 use Rattle.txn_replay.proofs.Payments.{payment_facts}
 
@@ -48,12 +46,12 @@ settled_told p part replies card messages lines (Some end) same none =
     let ended : count (lines ++ end_line p.lane (length part.lane.ended + 1) end ∷ []) ≡ count lines = with_end lines p.lane (length part.lane.ended + 1) end in
     omega (arith, same, none, ended)
 
-cut_told : (p : Payment) (part : Part) (replies : List Reply) (card : CardRow) (lines : List Line) (e : Option EndData)
-    → card.losses ≡ part.card.losses + 1 → count lines ≡ 1 → Told part (cut_ends p replies part (record part { card = card }) lines e)
-cut_told p part replies card lines None same one = let none : count [] ≡ 0 = refl in omega (arith, none)
-cut_told p part replies card lines (Some end) same one =
+cut_told : (p : Payment) (part : Part) (replies : List Reply) (card : CardRow) (lines : List Line) (n : ℕ) (e : Option EndData)
+    → card.losses ≡ part.card.losses + n → count lines ≡ n → Told part (cut_ends p replies part (record part { card = card }) lines e)
+cut_told p part replies card lines n None same told = let none : count [] ≡ 0 = refl in omega (arith, none)
+cut_told p part replies card lines n (Some end) same told =
     let ended : count (lines ++ end_line p.lane (length part.lane.ended + 1) end ∷ []) ≡ count lines = with_end lines p.lane (length part.lane.ended + 1) end in
-    omega (arith, same, one, ended)
+    omega (arith, same, told, ended)
 
 answered_told : (p : Payment) (part : Part) (replies : List Reply) (command : List ℕ) (said : CardAnswer) (cut : Option Cut)
     → Told part (answered p replies command part said cut)
@@ -61,16 +59,29 @@ answered_told p part replies command said None =
     settled_told p part (replies ++ CardSaid said.answer part.lane.log ∷ []) (exchanged p.card.image part.card command said) part.messages
     (answer_lines p.lane command said.answer) (end_at p (replies ++ CardSaid said.answer part.lane.log ∷ [])) refl refl
 answered_told p part replies command said (Some cut) =
-    cut_told p part (replies ++ CardGone ∷ []) (torn part.card p.planned.tear cut) (torn_lines p.lane command) (end_at p (replies ++ CardGone ∷ [])) refl refl
+    cut_told p part (replies ++ CardGone ∷ []) (torn part.card p.planned.tear cut) (torn_lines p.lane command) 1
+    (end_at p (replies ++ CardGone ∷ [])) refl refl
+
+canned_told : (p : Payment) (part : Part) (replies : List Reply) (command : List ℕ) (o : Option (List ℕ)) → Told part (canned_by p replies command part o)
+canned_told p part replies command (Some answer) =
+    settled_told p part (replies ++ CardSaid answer part.lane.log ∷ []) (told_once part.card) part.messages (answer_lines p.lane command answer)
+    (end_at p (replies ++ CardSaid answer part.lane.log ∷ [])) refl refl
+canned_told p part replies command None =
+    cut_told p part (replies ++ CardGone ∷ []) part.card (gone_lines p.lane command) 0 (end_at p (replies ++ CardGone ∷ [])) (omega arith) refl
+
+kind_told : (p : Payment) (part : Part) (replies : List Reply) (command : List ℕ) (o : Option (List (List ℕ)))
+    → Told part (asked_by p replies command part o)
+kind_told p part replies command None =
+    answered_told p part replies command (card_answer p.card.image part.card.kept part.card.session command)
+    (cut_of p.planned.tear part.card.made (card_answer p.card.image part.card.kept part.card.session command).new)
+kind_told p part replies command (Some answers) = canned_told p part replies command (slice_get answers part.card.told)
 
 host_none : (lane : ℕ) (message : List ℕ) (reply : Option (List ℕ)) → count (host_lines lane message reply) ≡ 0
 host_none lane message None = refl
 host_none lane message (Some reply) = refl
 
 asked_told : (p : Payment) (part : Part) (replies : List Reply) (deed : Deed) → Told part (asked p replies part deed)
-asked_told p part replies (ToCard command) =
-    answered_told p part replies command (card_answer p.card.image part.card.kept part.card.session command)
-    (cut_of p.planned.tear part.card.made (card_answer p.card.image part.card.kept part.card.session command).new)
+asked_told p part replies (ToCard command) = kind_told p part replies command p.card.canned
 asked_told p part replies (ToHost message) =
     settled_told p part (replies ++ from_host reply ∷ []) part.card (part.messages ++ delivered p.planned.link message)
     (host_lines p.lane message reply) (end_at p (replies ++ from_host reply ∷ [])) refl (host_none p.lane message reply)
@@ -83,17 +94,24 @@ pub piece_told : (p : Payment) (part : Part) (choice : Bool) → Told part (piec
 piece_told p part choice = by_lane part.lane.running
   where
     by_tear : (cut : Bool) → Told part (begun_by p part choice cut)
-    by_tear true = cut_told p part (CardGone ∷ []) (lost part.card) (power_torn_line p.lane p.card ∷ []) (end_at p (CardGone ∷ [])) refl refl
+    by_tear true = cut_told p part (CardGone ∷ []) (lost part.card) (power_torn_line p.lane p.card ∷ []) 1 (end_at p (CardGone ∷ [])) refl refl
     by_tear false =
         settled_told p part []
         (powered part.card (found_of part.card.kept part.card.pending choice) (Some (record { lane = p.lane; number = length part.lane.ended }))) part.messages
         (power_line p.lane p.card (found_of part.card.kept part.card.pending choice) ∷ []) (end_at p []) refl refl
 
+    by_kind : (o : Option (List (List ℕ))) → Told part (begun_with p part choice o)
+    by_kind None = by_tear (is_named p.planned.tear 0)
+    by_kind (Some answers) =
+        settled_told p part []
+        (powered part.card (found_of part.card.kept part.card.pending false) (Some (record { lane = p.lane; number = length part.lane.ended }))) part.messages
+        (power_canned_line p.lane p.card ∷ []) (end_at p []) refl refl
+
     still_told : Told part (still part)
     still_told = let none : count [] ≡ 0 = refl in omega (arith, none)
 
     by_holder : (o : Option Holder) → Told part (begun p part choice o)
-    by_holder None = by_tear (is_named p.planned.tear 0)
+    by_holder None = by_kind p.card.canned
     by_holder (Some holder) = still_told
 
     by_lane : (o : Option (List Reply)) → Told part (piece_by p part choice o)

@@ -1,5 +1,5 @@
 -- What one exchange of a lane makes of the lane and of its card: who runs, and who has the card.
-use Rattle.std.proofs.Common.{◌≡◌, ℕ, Bool, true, false, List, [], ◌∷◌, ◌++◌, length, Option, Some, None, refl, sym, ◌∙◌}
+use Rattle.std.proofs.Common.{◌≡◌, ℕ, Bool, true, false, List, [], ◌∷◌, ◌++◌, length, slice_get, Option, Some, None, refl, sym, ◌∙◌}
 use Rattle.std.proofs.lemmas.Option.{same_Some}
 use Rattle.card_app.specs.Answering.{card_answer}
 use Rattle.card_pages.specs.Cuts.{Cut, cut_of}
@@ -10,9 +10,9 @@ use Rattle.kernel.specs.Dialogue.{dialogue}
 use Rattle.kernel.specs.Ended.{EndData}
 use Rattle.kernel.specs.Reply.{Reply, CardSaid, CardGone, Deed, ToCard, ToHost, Over}
 use Rattle.report_text.specs.declared.line.Line.{Line}
-use Rattle.txn_replay.specs.Changes.{powered, exchanged, torn, lost}
-use Rattle.txn_replay.specs.Lines.{torn_lines, power_torn_line}
-use Rattle.txn_replay.specs.Part.{Part, settled_by, cut_ends, answered, asked, begun, begun_by, piece_by, piece}
+use Rattle.txn_replay.specs.Changes.{powered, exchanged, told_once, torn, lost}
+use Rattle.txn_replay.specs.Lines.{torn_lines, gone_lines, power_torn_line}
+use Rattle.txn_replay.specs.Part.{Part, settled_by, cut_ends, answered, canned_by, asked_by, asked, begun, begun_by, begun_with, piece_by, piece}
 use Rattle.txn_replay.specs.Payment.{Payment, deal_for, end_at}
 use Rattle.txn_replay.specs.World.{Holder, CardRow}
 
@@ -56,10 +56,22 @@ module _ (p : Payment) (before : Part) (was : (h : Holder) → before.card.holde
   after_answer replies command said (Some cut) has =
       after_cut (replies ++ CardGone ∷ []) (torn before.card p.planned.tear cut) (torn_lines p.lane command) (end_at p (replies ++ CardGone ∷ []))
 
-  after_ask : (replies : List Reply) (deed : Deed) → before.card.holder ≡ Some (this_one p before) → Outcome p before (asked p replies before deed).part
-  after_ask replies (ToCard command) has =
+  after_told : (replies : List Reply) (command : List ℕ) (o : Option (List ℕ)) → before.card.holder ≡ Some (this_one p before)
+      → Outcome p before (canned_by p replies command before o).part
+  after_told replies command (Some answer) has =
+      moves (after_settled (replies ++ CardSaid answer before.lane.log ∷ []) (told_once before.card) before.messages _
+      (end_at p (replies ++ CardSaid answer before.lane.log ∷ [])) has)
+  after_told replies command None has = after_cut (replies ++ CardGone ∷ []) before.card (gone_lines p.lane command) (end_at p (replies ++ CardGone ∷ []))
+
+  after_kind : (replies : List Reply) (command : List ℕ) (o : Option (List (List ℕ))) → before.card.holder ≡ Some (this_one p before)
+      → Outcome p before (asked_by p replies command before o).part
+  after_kind replies command None has =
       after_answer replies command (card_answer p.card.image before.card.kept before.card.session command)
       (cut_of p.planned.tear before.card.made (card_answer p.card.image before.card.kept before.card.session command).new) has
+  after_kind replies command (Some answers) has = after_told replies command (slice_get answers before.card.told) has
+
+  after_ask : (replies : List Reply) (deed : Deed) → before.card.holder ≡ Some (this_one p before) → Outcome p before (asked p replies before deed).part
+  after_ask replies (ToCard command) has = after_kind replies command p.card.canned has
   after_ask replies (ToHost message) has = moves (after_settled _ before.card _ _ _ has)
   after_ask replies (Over ending) has = kept refl
 
@@ -69,6 +81,12 @@ module _ (p : Payment) (before : Part) (was : (h : Holder) → before.card.holde
       moves (after_settled [] (powered before.card (found_of before.card.kept before.card.pending choice) (Some (this_one p before))) before.messages _
       (end_at p []) refl)
 
+  after_begun : (choice : Bool) (o : Option (List (List ℕ))) → Outcome p before (begun_with p before choice o).part
+  after_begun choice None = after_begin choice (is_named p.planned.tear 0)
+  after_begun choice (Some answers) =
+      moves (after_settled [] (powered before.card (found_of before.card.kept before.card.pending false) (Some (this_one p before))) before.messages _
+      (end_at p []) refl)
+
 -- a purchase that runs has its card
 pub outcome : (p : Payment) (part : Part) (choice : Bool)
     → ((replies : List Reply) → part.lane.running ≡ Some replies → part.card.holder ≡ Some (this_one p part))
@@ -76,7 +94,7 @@ pub outcome : (p : Payment) (part : Part) (choice : Bool)
 outcome p part choice has = by_lane part.lane.running refl
   where
     begins : (o : Option Holder) → part.card.holder ≡ o → Outcome p part (begun p part choice o).part
-    begins None is = after_begin p part (λ h other. cc) choice (is_named p.planned.tear 0)
+    begins None is = after_begun p part (λ h other. cc) choice p.card.canned
     begins (Some h) is = kept refl
 
     by_lane : (o : Option (List Reply)) → part.lane.running ≡ o → Outcome p part (piece_by p part choice o).part

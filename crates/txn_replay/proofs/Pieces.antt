@@ -1,10 +1,9 @@
 -- Which part of an exchange a lane's turn is.
-use Rattle.std.proofs.Common.{◌≡◌, ℕ, Bool, true, false, ◌&&◌, List, [], ◌∷◌, ◌++◌, length, map, Option, Some, None, refl, sym, ap, ◌∙◌, subst}
+use Rattle.std.proofs.Common.{◌≡◌, ℕ, Bool, true, false, ◌&&◌, List, [], ◌∷◌, ◌++◌, length, map, slice_get, Option, Some, None, refl, sym, ap, ◌∙◌, subst}
 use Rattle.std.specs.Bool.{⊤}
 use Rattle.std.specs.Prelude.{is_none, option_map}
 use Rattle.arrayvec.specs.declared.array_vec.ArrayVec.{ArrayVec}
 use Rattle.card_app.specs.Answering.{card_answer}
-use Rattle.card_app.specs.SeenChip.{ChipSeen, ChipOn, is_on}
 use Rattle.card_pages.specs.Cuts.{Cut, cut_of}
 use Rattle.card_pages.specs.Pages.{found_of}
 use Rattle.card_pages.specs.Replies.{CardAnswer}
@@ -15,10 +14,11 @@ use Rattle.kernel.specs.Kernel.{KernelData, told_next, told_bytes, deed_next, de
 use Rattle.kernel.specs.Reply.{Reply, CardSaid, CardGone, Deed, ToCard, ToHost, Over}
 use Rattle.kernel.specs.declared.kernel.Next.TheVariants as next
 use Rattle.report_text.specs.declared.line.Line.{Line}
-use Rattle.txn_replay.specs.Changes.{powered, exchanged, torn, lost}
-use Rattle.txn_replay.specs.Lines.{power_line, power_torn_line, answer_lines, torn_lines}
-use Rattle.txn_replay.specs.Part.{Part, cut_ends, answered, asked_card, asked_host, asked, begun, begun_by, piece_by, piece}
+use Rattle.txn_replay.specs.Changes.{powered, exchanged, told_once, torn, lost}
+use Rattle.txn_replay.specs.Lines.{power_line, power_canned_line, power_torn_line, answer_lines, torn_lines, gone_lines}
+use Rattle.txn_replay.specs.Part.{Part, settled, cut_ends, answered, canned_by, asked_by, asked_card, asked_host, asked, begun, begun_by, begun_with, piece_by, piece}
 use Rattle.txn_replay.specs.Payment.{Payment, deal_for, end_at}
+use Rattle.txn_replay.specs.Slot.{SlotSeen, SlotOn, is_on}
 use Rattle.txn_replay.specs.Standing.{RunStands, LaneKeeps, PlaceFor, PartRests, PartRuns, PartStands, SameLane}
 use Rattle.txn_replay.specs.World.{Holder, CardRow, LaneRow}
 use Rattle.txn_replay.specs.declared.lane.Lane.{Lane}
@@ -26,7 +26,7 @@ use Rattle.txn_replay.proofs.Replies.{settled_messages}
 
 -- the purchase that is next begins where none has its card
 pub piece_begins : (p : Payment) (part : Part) (choice : Bool) → part.lane.running ≡ None → part.card.holder ≡ None
-    → piece p part choice ≡ begun_by p part choice (is_named p.planned.tear 0)
+    → piece p part choice ≡ begun_with p part choice p.card.canned
 piece_begins p part choice rests free =
     ap (λ (o : Option (List Reply)). piece_by p part choice o) rests ∙ ap (λ (o : Option Holder). begun p part choice o) free
 
@@ -62,9 +62,7 @@ cut_messages p replies part card lines None = refl
 cut_messages p replies part card lines (Some end) = refl
 
 pub card_messages : (p : Payment) (replies : List Reply) (command : List ℕ) (part : Part) → (asked_card p replies command part).part.messages ≡ part.messages
-card_messages p replies command part =
-    by (card_answer p.card.image part.card.kept part.card.session command)
-    (cut_of p.planned.tear part.card.made (card_answer p.card.image part.card.kept part.card.session command).new)
+card_messages p replies command part = by_kind p.card.canned
   where
     by : (said : CardAnswer) (cut : Option Cut) → (answered p replies command part said cut).part.messages ≡ part.messages
     by said None =
@@ -72,12 +70,38 @@ card_messages p replies command part =
         (answer_lines p.lane command said.answer)
     by said (Some cut) = cut_messages p (replies ++ CardGone ∷ []) part (torn part.card p.planned.tear cut) (torn_lines p.lane command) (end_at p (replies ++ CardGone ∷ []))
 
-pub begun_messages : (p : Payment) (part : Part) (choice torn : Bool) → (begun_by p part choice torn).part.messages ≡ part.messages
-begun_messages p part choice true = cut_messages p (CardGone ∷ []) part (lost part.card) (power_torn_line p.lane p.card ∷ []) (end_at p (CardGone ∷ []))
-begun_messages p part choice false =
-    settled_messages p []
-    (record part { card = powered part.card (found_of part.card.kept part.card.pending choice) (Some (record { lane = p.lane; number = length part.lane.ended })) })
-    (power_line p.lane p.card (found_of part.card.kept part.card.pending choice) ∷ [])
+    by_next : (answer : Option (List ℕ)) → (canned_by p replies command part answer).part.messages ≡ part.messages
+    by_next None = cut_messages p (replies ++ CardGone ∷ []) part part.card (gone_lines p.lane command) (end_at p (replies ++ CardGone ∷ []))
+    by_next (Some answer) =
+        settled_messages p (replies ++ CardSaid answer part.lane.log ∷ []) (record part { card = told_once part.card }) (answer_lines p.lane command answer)
+
+    by_kind : (canned : Option (List (List ℕ))) → (asked_by p replies command part canned).part.messages ≡ part.messages
+    by_kind None =
+        by (card_answer p.card.image part.card.kept part.card.session command)
+        (cut_of p.planned.tear part.card.made (card_answer p.card.image part.card.kept part.card.session command).new)
+    by_kind (Some answers) = by_next (slice_get answers part.card.told)
+
+pub begun_messages : (p : Payment) (part : Part) (choice : Bool) (canned : Option (List (List ℕ)))
+    → (begun_with p part choice canned).part.messages ≡ part.messages
+begun_messages p part choice canned = by_kind canned
+  where
+    on : (b : Bool) (line : Line)
+        → (settled p [] (record part {
+          card = powered part.card (found_of part.card.kept part.card.pending b)
+              (Some (record { lane = p.lane; number = length part.lane.ended }));
+        }) (line ∷ [])).part.messages ≡ part.messages
+    on b line =
+        settled_messages p []
+        (record part { card = powered part.card (found_of part.card.kept part.card.pending b) (Some (record { lane = p.lane; number = length part.lane.ended })) })
+        (line ∷ [])
+
+    by : (torn : Bool) → (begun_by p part choice torn).part.messages ≡ part.messages
+    by true = cut_messages p (CardGone ∷ []) part (lost part.card) (power_torn_line p.lane p.card ∷ []) (end_at p (CardGone ∷ []))
+    by false = on choice (power_line p.lane p.card (found_of part.card.kept part.card.pending choice))
+
+    by_kind : (canned : Option (List (List ℕ))) → (begun_with p part choice canned).part.messages ≡ part.messages
+    by_kind None = by (is_named p.planned.tear 0)
+    by_kind (Some answers) = on false (power_canned_line p.lane p.card)
 
 -- a lane whose vectors have more room
 pub keeps_same : (lane later : Lane) (row : LaneRow) → SameLane lane later → LaneKeeps lane row → LaneKeeps later row
@@ -116,33 +140,33 @@ runs_by None p replies kernel is stands = cc
 runs_by (Some other) p None kernel is stands = absurd stands
 runs_by (Some other) p (Some replies) kernel is stands = (replies, refl)
 
-module _ (p : Payment) (lane later : Lane) (chip : ChipSeen) (part : Part) (stands : PartStands p lane chip part) (same : SameLane lane later) where
-  pub rests_from : lane.running ≡ None → (is_on chip ≡ true → ⊥) → PartRests p later chip part
+module _ (p : Payment) (lane later : Lane) (slot : SlotSeen) (part : Part) (stands : PartStands p lane slot part) (same : SameLane lane later) where
+  pub rests_from : lane.running ≡ None → (is_on slot ≡ true → ⊥) → PartRests p later slot part
   rests_from none off = record {
     keeps = keeps_same lane later part.lane same stands.lane_is.keeps;
     rests = rests;
     free = place.0;
     off = place.1;
-    image = stands.image;
+    is = stands.is;
     losses = stands.losses;
   }
     where
       rests : part.lane.running ≡ None
       rests = rests_by lane.running p part.lane.running none stands.lane_is.running
 
-      by : (holder : Option Holder) → part.card.holder ≡ holder → PlaceFor p chip part.card holder None
-          → (part.card.holder ≡ None) × PlaceFor p chip part.card None None
+      by : (holder : Option Holder) → part.card.holder ≡ holder → PlaceFor p slot part.card holder None
+          → (part.card.holder ≡ None) × PlaceFor p slot part.card None None
       by None is place = (is, place)
       by (Some holder) is place = absurd (off place)
 
-      place : (part.card.holder ≡ None) × PlaceFor p chip part.card None None
-      place = by part.card.holder refl (subst (λ (o : Option (List Reply)). PlaceFor p chip part.card part.card.holder o) rests stands.place)
+      place : (part.card.holder ≡ None) × PlaceFor p slot part.card None None
+      place = by part.card.holder refl (subst (λ (o : Option (List Reply)). PlaceFor p slot part.card part.card.holder o) rests stands.place)
 
   pub record Running : Type 0 where
     pub replies : List Reply
     pub ran : part.lane.running ≡ Some replies
     pub told : RunStands lane.running p (Some replies)
-    pub runs : PartRuns p later chip replies part
+    pub runs : PartRuns p later slot replies part
 
   pub runs_from : (kernel : KernelData) → lane.running ≡ Some kernel → Running
   runs_from kernel is = by told.0 told.1
@@ -150,16 +174,16 @@ module _ (p : Payment) (lane later : Lane) (chip : ChipSeen) (part : Part) (stan
       told : (replies : List Reply) × (part.lane.running ≡ Some replies)
       told = runs_by lane.running p part.lane.running kernel is stands.lane_is.running
 
-      placed : (replies : List Reply) (holder : Option Holder) → part.card.holder ≡ holder → PlaceFor p chip part.card holder (Some replies)
+      placed : (replies : List Reply) (holder : Option Holder) → part.card.holder ≡ holder → PlaceFor p slot part.card holder (Some replies)
           → (h : Holder) × (part.card.holder ≡ Some h)
-          × (ChipOn chip part.card.session part.card.kept p.planned.tear part.card.made × (part.card.pending ≡ None))
+          × SlotOn slot part.card p.planned.tear
       placed replies None held place = absurd place
       placed replies (Some h) held place = (h, held, place)
 
       by : (replies : List Reply) → part.lane.running ≡ Some replies → Running
       by replies ran =
           let now : RunStands lane.running p (Some replies) = subst (λ (o : Option (List Reply)). RunStands lane.running p o) ran stands.lane_is.running in
-          let at = placed replies part.card.holder refl (subst (λ (o : Option (List Reply)). PlaceFor p chip part.card part.card.holder o) ran stands.place) in
+          let at = placed replies part.card.holder refl (subst (λ (o : Option (List Reply)). PlaceFor p slot part.card part.card.holder o) ran stands.place) in
           let keeps : LaneKeeps later part.lane = keeps_same lane later part.lane same stands.lane_is.keeps in
           record {
             replies = replies;
@@ -172,9 +196,8 @@ module _ (p : Payment) (lane later : Lane) (chip : ChipSeen) (part : Part) (stan
               };
               holder = at.0;
               has = at.1;
-              on = at.2.0;
-              none = at.2.1;
-              image = stands.image;
+              on = at.2;
+              is = stands.is;
               losses = stands.losses;
             };
           }

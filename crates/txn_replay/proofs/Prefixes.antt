@@ -232,6 +232,7 @@ kept_closed = record {
   first = first_kept;
   powers = powered_kept;
   answers = answer_kept;
+  tells = λ image card kept. record { prefix = kept.prefix; traced = kept.traced };
   cuts = cut_kept;
   loses = λ image card kept. record { prefix = kept.prefix; traced = kept.traced };
   frees = freed_kept;

@@ -4,13 +4,13 @@ use Rattle.std.specs.List.{flat_map}
 use Rattle.std.specs.Prelude.{option_map}
 use Rattle.std.proofs.lemmas.List.{length-map}
 use Rattle.std.proofs.lemmas.Option.{same_Some, slice_get-map, slice_get_within}
-use Rattle.card_app.specs.SeenChip.{ChipSeen}
 use Rattle.issuer_host.specs.History.{HostData, HostStands, host_reply}
 use Rattle.report_text.specs.declared.line.Line.{Line}
 use Rattle.scenario.specs.Cards.{CardData}
 use Rattle.scenario.specs.Plan.{IsScenario}
 use Rattle.txn_replay.specs.Lines.{settle_lines}
-use Rattle.txn_replay.specs.Seen.{WorldSeen, ChipStands, WorldStands, Goes, captured, settlement_by}
+use Rattle.txn_replay.specs.Seen.{WorldSeen, SlotStands, WorldStands, Goes, captured, settlement_by}
+use Rattle.txn_replay.specs.Slot.{SlotSeen}
 use Rattle.txn_replay.specs.Steps.{After, Settlement, settlements_from, settlements, settled_with, settles, nothing, happens}
 use Rattle.txn_replay.specs.World.{LaneRow, World, new_lane, card_at, lane_at}
 use Rattle.txn_replay.specs.declared.event.Event.TheVariants.{Settle}
@@ -62,18 +62,17 @@ module _ (v : WorldSeen) (w : World) (stands : WorldStands v w) (count : length 
     abbrev value : WorldSeen
     value = record v { host = host }
 
-    chips_stay : (i : ℕ) (chip : ChipSeen) (card : CardData) → slice_get v.chips i ≡ Some chip → slice_get v.scenario.cards i ≡ Some card
-        → ChipStands v.scenario after chip card (card_at after i)
-    chips_stay i chip card there is =
-        elim (stands.chips i chip card there is) [
+    slots_stay : (i : ℕ) (slot : SlotSeen) (card : CardData) → slice_get v.slots i ≡ Some slot → slice_get v.scenario.cards i ≡ Some card
+        → SlotStands v.scenario after slot card (card_at after i)
+    slots_stay i slot card there is =
+        elim (stands.slots i slot card there is) [
           | inl here ↦ inl here
           | inr audited ↦ inr (record {
             over = stays_over v.scenario w after refl audited.over;
-            image = audited.image;
+            is = audited.is;
             losses = audited.losses;
             free = audited.free;
             on = audited.on;
-            none = audited.none;
           })
         ]
 
@@ -81,7 +80,7 @@ module _ (v : WorldSeen) (w : World) (stands : WorldStands v w) (count : length 
     settled_stands = record {
       sound = messages_sound v.scenario w (w.messages ++ message ∷ []) stands.sound;
       few = stands.few;
-      chips = chips_stay;
+      slots = slots_stay;
       lanes = stands.lanes;
       messages = messages;
       tally = stands.tally;

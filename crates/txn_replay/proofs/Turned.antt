@@ -1,19 +1,17 @@
 -- A turn of a lane, by the values.
-use Rattle.std.proofs.Common.{◌≡◌, ℕ, ◌+◌, ◌<◌, Bool, true, false, ◌&&◌, List, [], get_or, set, slice_get, Option, Some, None, Result, Ok, Err, refl, sym, ap, ◌∙◌, subst, inl, inr, arith}
-use Rattle.std.specs.List.{sum_by}
+use Rattle.std.proofs.Common.{◌≡◌, ℕ, Bool, true, false, ◌&&◌, List, [], set, slice_get, Option, Some, None, Result, Ok, Err, refl, sym, ap, ◌∙◌, subst, inl, inr}
 use Rattle.std.specs.Prelude.{is_none, OnErr}
 use Rattle.std.proofs.lemmas.Bool.{cases_eq, both_ways}
-use Rattle.std.proofs.lemmas.List.Sums.{sum_by-set}
-use Rattle.std.proofs.lemmas.Option.{same_Some, slice_get_within, get_or_from_slice_get}
-use Rattle.card_app.specs.SeenChip.{ChipSeen, ChipOff, is_on}
+use Rattle.std.proofs.lemmas.Option.{same_Some}
 use Rattle.card_state.specs.Decisions.{Decided}
 use Rattle.kernel.specs.Kernel.{KernelData}
 use Rattle.kernel.specs.Reply.{Reply}
 use Rattle.scenario.specs.Cards.{CardData}
 use Rattle.txn_replay.specs.Payment.{Payment, next_of}
-use Rattle.txn_replay.specs.Seen.{WorldSeen, ChipStands, RunFor, LaneAt, WorldStands, Goes, plan_for}
+use Rattle.txn_replay.specs.Seen.{WorldSeen, SlotStands, RunFor, LaneAt, WorldStands, Goes, plan_for}
+use Rattle.txn_replay.specs.Slot.{SlotSeen, SlotOff, is_on}
 use Rattle.txn_replay.specs.Sound.{RunsIn, IsIdle}
-use Rattle.txn_replay.specs.Standing.{PlaceFor, PlaceStands, CardStands, PartStands, SameLane, RunStands, lane_left}
+use Rattle.txn_replay.specs.Standing.{PlaceFor, PlaceStands, CardStands, PartStands, SameLane, RunStands}
 use Rattle.txn_replay.specs.Steps.{After, part_of, nothing, happens}
 use Rattle.txn_replay.specs.World.{Holder, World, card_at, lane_at}
 use Rattle.txn_replay.specs.declared.event.Event.TheVariants.{Turn}
@@ -56,61 +54,61 @@ none_is : (o : Option KernelData) → is_none o ≡ true → o ≡ None
 none_is None is = refl
 none_is (Some kernel) is = cc
 
-module _ (v : WorldSeen) (w : World) (stands : WorldStands v w) (l : ℕ) (p : Payment) (is : next_of v.scenario w l ≡ Some p) (lane : Lane) (chip : ChipSeen)
-    (lane_there : slice_get v.lanes l ≡ Some lane) (chip_there : slice_get v.chips p.planned.card ≡ Some chip) where
+module _ (v : WorldSeen) (w : World) (stands : WorldStands v w) (l : ℕ) (p : Payment) (is : next_of v.scenario w l ≡ Some p) (lane : Lane) (slot : SlotSeen)
+    (lane_there : slice_get v.lanes l ≡ Some lane) (slot_there : slice_get v.slots p.planned.card ≡ Some slot) where
   -- a lane whose next purchase waits for its card
-  pub idle_held : (held : Bool) → held ≡ (is_none lane.running && is_on chip) → held ≡ true
-      → ((kept : List Decided) (pending : Option Decided) → ChipOff chip kept pending → held ≡ false) → IsIdle v.scenario w l
+  pub idle_held : (held : Bool) → held ≡ (is_none lane.running && is_on slot) → held ≡ true
+      → ((kept : List Decided) (pending : Option Decided) → SlotOff slot kept pending → held ≡ false) → IsIdle v.scenario w l
   idle_held held exact waits off =
-      let both : (is_none lane.running ≡ true) × (is_on chip ≡ true) = both_true (is_none lane.running) (is_on chip) (sym exact ∙ waits) in
-      let placed : CardStands chip p.card (plan_for v.scenario (card_at w p.planned.card).holder) (card_at w p.planned.card) =
-      card_stands v w stands l p is lane chip lane_there chip_there in
+      let both : (is_none lane.running ≡ true) × (is_on slot ≡ true) = both_true (is_none lane.running) (is_on slot) (sym exact ∙ waits) in
+      let placed : CardStands slot p.card (plan_for v.scenario (card_at w p.planned.card).holder) (card_at w p.planned.card) =
+      card_stands v w stands l p is lane slot lane_there slot_there in
       by (card_at w p.planned.card).holder refl placed.stands (lane_rests v w stands l lane lane_there (none_is lane.running both.0))
     where
-      by : (holder : Option Holder) → (card_at w p.planned.card).holder ≡ holder → PlaceStands chip (plan_for v.scenario holder) (card_at w p.planned.card) holder
+      by : (holder : Option Holder) → (card_at w p.planned.card).holder ≡ holder → PlaceStands slot (plan_for v.scenario holder) (card_at w p.planned.card) holder
           → (lane_at w l).running ≡ None → IsIdle v.scenario w l
       by None has place rests = absurd (both_ways held (off (card_at w p.planned.card).kept (card_at w p.planned.card).pending place) waits)
       by (Some h) has place rests = record { rests = rests; waits = inr (record { payment = p; holder = h; is = is; held = has }) }
 
   -- no other purchase has the card where the lane doesn't wait
-  pub free_holder : PartStands p lane chip (part_of w l p.planned.card) → (is_none lane.running && is_on chip) ≡ false → (h : Holder)
+  pub free_holder : PartStands p lane slot (part_of w l p.planned.card) → (is_none lane.running && is_on slot) ≡ false → (h : Holder)
       → (card_at w p.planned.card).holder ≡ Some h → h ≡ this_one p (part_of w l p.planned.card)
   free_holder part free h has = by (lane_at w l).running refl
     where
-      waits : (running : Option KernelData) → lane.running ≡ running → (lane_at w l).running ≡ None → RunStands running p None → is_on chip ≡ true → ⊥
+      waits : (running : Option KernelData) → lane.running ≡ running → (lane_at w l).running ≡ None → RunStands running p None → is_on slot ≡ true → ⊥
       waits None none rests run on =
-          let held : (is_none lane.running && is_on chip) ≡ true = (λ i. is_none (none i) && on i) in both_ways (is_none lane.running && is_on chip) free held
+          let held : (is_none lane.running && is_on slot) ≡ true = (λ i. is_none (none i) && on i) in both_ways (is_none lane.running && is_on slot) free held
       waits (Some kernel) some rests run on = absurd run
 
       by : (o : Option (List Reply)) → (lane_at w l).running ≡ o → h ≡ this_one p (part_of w l p.planned.card)
       by (Some replies) ran = same_Some h (this_one p (part_of w l p.planned.card)) (sym has ∙ has_card v.scenario w l p stands.sound is replies ran)
       by None ran =
-          let on : is_on chip ≡ true =
-          subst (λ (o : Option (List Reply)). PlaceFor p chip (card_at w p.planned.card) (Some h) o) ran
-          (subst (λ (x : Option Holder). PlaceFor p chip (card_at w p.planned.card) x (lane_at w l).running) has part.place) in
+          let on : is_on slot ≡ true =
+          subst (λ (o : Option (List Reply)). PlaceFor p slot (card_at w p.planned.card) (Some h) o) ran
+          (subst (λ (x : Option Holder). PlaceFor p slot (card_at w p.planned.card) x (lane_at w l).running) has part.place) in
           let run : RunStands lane.running p None = subst (λ (o : Option (List Reply)). RunStands lane.running p o) ran part.lane_is.running in
           absurd (waits lane.running refl ran run on)
 
 -- nothing has changed but the room of a lane's vectors
-pub same_stands : (v : WorldSeen) (w : World) → WorldStands v w → (l i : ℕ) (lane later : Lane) (chip next : ChipSeen) → slice_get v.lanes l ≡ Some lane
-    → slice_get v.chips i ≡ Some chip → SameLane lane later → next ≡ chip → WorldStands (record v { chips = set v.chips i next; lanes = set v.lanes l later }) w
-same_stands v w stands l i lane later chip next lane_there chip_there same unchanged = record {
+pub same_stands : (v : WorldSeen) (w : World) → WorldStands v w → (l i : ℕ) (lane later : Lane) (slot next : SlotSeen) → slice_get v.lanes l ≡ Some lane
+    → slice_get v.slots i ≡ Some slot → SameLane lane later → next ≡ slot → WorldStands (record v { slots = set v.slots i next; lanes = set v.lanes l later }) w
+same_stands v w stands l i lane later slot next lane_there slot_there same unchanged = record {
   sound = stands.sound;
   few = stands.few;
-  chips = chips;
+  slots = slots;
   lanes = lanes;
   messages = record { books = stands.messages.books };
   tally = stands.tally;
 }
   where
-    chips : (j : ℕ) (other : ChipSeen) (card : CardData) → slice_get (set v.chips i next) j ≡ Some other → slice_get v.scenario.cards j ≡ Some card
-        → ChipStands v.scenario w other card (card_at w j)
-    chips j other card there its =
+    slots : (j : ℕ) (other : SlotSeen) (card : CardData) → slice_get (set v.slots i next) j ≡ Some other → slice_get v.scenario.cards j ≡ Some card
+        → SlotStands v.scenario w other card (card_at w j)
+    slots j other card there its =
         elim (cases_eq j i) [
           | inl here ↦
-              let is : chip ≡ other = sym unchanged ∙ set_here v.chips i next other (ap (λ k. slice_get (set v.chips i next) k) (sym here) ∙ there) in
-              stands.chips j other card (ap (λ k. slice_get v.chips k) here ∙ chip_there ∙ ap (λ (x : ChipSeen). Some x) is) its
-          | inr differs ↦ stands.chips j other card (sym (set_other v.chips i j next differs) ∙ there) its
+              let is : slot ≡ other = sym unchanged ∙ set_here v.slots i next other (ap (λ k. slice_get (set v.slots i next) k) (sym here) ∙ there) in
+              stands.slots j other card (ap (λ k. slice_get v.slots k) here ∙ slot_there ∙ ap (λ (x : SlotSeen). Some x) is) its
+          | inr differs ↦ stands.slots j other card (sym (set_other v.slots i j next differs) ∙ there) its
         ]
 
     run_same : (o : Option Payment) → RunFor lane (lane_at w l) o → RunFor later (lane_at w l) o
@@ -128,14 +126,6 @@ same_stands v w stands l i lane later chip next lane_there chip_there same uncha
               (record { keeps = keeps_same lane later (lane_at w l) same before.keeps; runs = run_same _ before.runs }))
           | inr differs ↦ stands.lanes k other (sym (set_other v.lanes l k later differs) ∙ there)
         ]
-
-pub fewer_left : (lanes : List Lane) (l : ℕ) (lane later : Lane) → slice_get lanes l ≡ Some lane → lane_left later < lane_left lane
-    → sum_by lane_left (set lanes l later) < sum_by lane_left lanes
-fewer_left lanes l lane later there less =
-    let sums : sum_by lane_left (set lanes l later) + lane_left (get_or lanes l lane) ≡ sum_by lane_left lanes + lane_left later =
-    sum_by-set lane_left lanes l later lane (slice_get_within lanes l lane there) in
-    let same : lane_left (get_or lanes l lane) ≡ lane_left lane = ap lane_left (get_or_from_slice_get lanes l lane lane there) in
-    omega (arith, sums, same, less)
 
 pub on_err : {A E : Type 0} {Q : Type 0} (r : Result A E) → Q → OnErr r Q
 on_err (Ok value) holds = tt

@@ -4,7 +4,7 @@ use Rattle.std.specs.Prelude.{is_none, is_some}
 use Rattle.std.proofs.lemmas.Bool.{cases_eq}
 use Rattle.std.proofs.lemmas.List.{get_or-set_same, get_or-set_other}
 use Rattle.std.proofs.lemmas.Option.{same_Some, slice_get_within}
-use Rattle.card_app.specs.SeenChip.{ChipSeen, ChipOn, is_on}
+use Rattle.card_app.specs.SeenChip.{ChipSeen, ChipOn, is_on as chip_on}
 use Rattle.card_app.specs.SeenCard.{CardSeen}
 use Rattle.card_app.specs.Session.{Exchange}
 use Rattle.card_state.specs.Decisions.{Decided}
@@ -19,7 +19,8 @@ use Rattle.scenario.specs.Plan.{ScenarioData}
 use Rattle.txn_replay.specs.Part.{Part, Moved, piece}
 use Rattle.txn_replay.specs.Payment.{Payment, payment_in, next_of}
 use Rattle.txn_replay.specs.Run.{lane_over, all_below, all_over}
-use Rattle.txn_replay.specs.Seen.{WorldSeen, plan_in, plan_for, ChipStands, RunFor, LaneAt, WorldStands, Goes}
+use Rattle.txn_replay.specs.Seen.{WorldSeen, plan_in, plan_for, SlotStands, RunFor, LaneAt, WorldStands, Goes}
+use Rattle.txn_replay.specs.Slot.{SlotSeen, OfApps, OfCanned, SlotOn, is_on}
 use Rattle.txn_replay.specs.Sound.{IsSound}
 use Rattle.txn_replay.specs.Standing.{RunStands, LaneStands, PlaceStands, CardStands, PlaceFor, PartStands, Led, counted}
 use Rattle.txn_replay.specs.Steps.{After, part_of, moved, turned_by, happens, first_of}
@@ -64,20 +65,24 @@ pub not_over : (s : ScenarioData) (w : World) (l : ℕ) (p : Payment) → next_o
 not_over s w l p is over =
     let none : None ≡ Some p = sym (over_next s w l (below_over s w (length s.lanes) l (payment_facts s l _ p is).inside over)) ∙ is in cc
 
-pub on_is_on : (chip : ChipSeen) (session : List Exchange) (ds : List Decided) (plan : Option Tear) (made : ℕ) → ChipOn chip session ds plan made → is_on chip ≡ true
-on_is_on chip session ds plan made on = by chip.card on
+chip_is_on : (chip : ChipSeen) (session : List Exchange) (ds : List Decided) (plan : Option Tear) (made : ℕ) → ChipOn chip session ds plan made → chip_on chip ≡ true
+chip_is_on chip session ds plan made on = by chip.card on
   where
     by : (o : Option CardSeen) → ChipOn (record chip { card = o }) session ds plan made → is_some o ≡ true
     by (Some card) on_card = refl
     by None on_card = absurd on_card
+
+pub slot_is_on : (slot : SlotSeen) (row : CardRow) (plan : Option Tear) → SlotOn slot row plan → is_on slot ≡ true
+slot_is_on (OfApps chip) row plan on = chip_is_on chip row.session row.kept plan row.made on.0
+slot_is_on (OfCanned canned) row plan on = ap is_some on
 
 -- the plan of a purchase that has its card
 plan_is : (s : ScenarioData) (w : World) (l : ℕ) (p : Payment) → next_of s w l ≡ Some p → plan_for s (Some (this_one p (part_of w l p.planned.card))) ≡ p.planned.tear
 plan_is s w l p is =
     ap (λ k. plan_in (payment_in s k (length (lane_at w l).ended))) (payment_facts s l _ p is).lane ∙ ap plan_in is
 
-module _ (v : WorldSeen) (w : World) (stands : WorldStands v w) (l : ℕ) (p : Payment) (is : next_of v.scenario w l ≡ Some p) (lane : Lane) (chip : ChipSeen)
-    (lane_there : slice_get v.lanes l ≡ Some lane) (chip_there : slice_get v.chips p.planned.card ≡ Some chip) where
+module _ (v : WorldSeen) (w : World) (stands : WorldStands v w) (l : ℕ) (p : Payment) (is : next_of v.scenario w l ≡ Some p) (lane : Lane) (slot : SlotSeen)
+    (lane_there : slice_get v.lanes l ≡ Some lane) (slot_there : slice_get v.slots p.planned.card ≡ Some slot) where
   abbrev part : Part
   part = part_of w l p.planned.card
 
@@ -85,9 +90,9 @@ module _ (v : WorldSeen) (w : World) (stands : WorldStands v w) (l : ℕ) (p : P
   card_there = (payment_facts v.scenario l _ p is).card
 
   -- its card, which isn't an audited one
-  pub card_stands : CardStands chip p.card (plan_for v.scenario (card_at w p.planned.card).holder) (card_at w p.planned.card)
+  pub card_stands : CardStands slot p.card (plan_for v.scenario (card_at w p.planned.card).holder) (card_at w p.planned.card)
   card_stands =
-      elim (stands.chips p.planned.card chip p.card chip_there card_there) [
+      elim (stands.slots p.planned.card slot p.card slot_there card_there) [
         | inl here ↦ here
         | inr audited ↦ absurd (not_over v.scenario w l p is audited.over)
       ]
@@ -98,25 +103,25 @@ module _ (v : WorldSeen) (w : World) (stands : WorldStands v w) (l : ℕ) (p : P
       record { keeps = at.keeps; running = subst (λ (o : Option Payment). RunFor lane (lane_at w l) o) is at.runs }
 
   placed : (holder : Option Holder) (running : Option (List Reply)) → (card_at w p.planned.card).holder ≡ holder → (lane_at w l).running ≡ running
-      → PlaceStands chip (plan_for v.scenario holder) (card_at w p.planned.card) holder → PlaceFor p chip (card_at w p.planned.card) holder running
+      → PlaceStands slot (plan_for v.scenario holder) (card_at w p.planned.card) holder → PlaceFor p slot (card_at w p.planned.card) holder running
   placed None None held ran here = here
-  placed (Some holder) None held ran here = on_is_on chip _ _ _ _ here.0
+  placed (Some holder) None held ran here = slot_is_on slot (card_at w p.planned.card) _ here
   placed None (Some replies) held ran here =
       let has : None ≡ Some (this_one p part) = sym held ∙ has_card v.scenario w l p stands.sound is replies ran in cc
   placed (Some holder) (Some replies) held ran here =
       let same : holder ≡ this_one p part = same_Some holder (this_one p part) (sym held ∙ has_card v.scenario w l p stands.sound is replies ran) in
       let plan : plan_for v.scenario (Some holder) ≡ p.planned.tear = ap (λ (h : Holder). plan_for v.scenario (Some h)) same ∙ plan_is v.scenario w l p is in
-      (subst (λ (tear : Option Tear). ChipOn chip (card_at w p.planned.card).session (card_at w p.planned.card).kept tear (card_at w p.planned.card).made) plan here.0, here.1)
+      subst (λ (tear : Option Tear). SlotOn slot (card_at w p.planned.card) tear) plan here
 
-  pub part_stands : PartStands p lane chip (part_of w l p.planned.card)
+  pub part_stands : PartStands p lane slot (part_of w l p.planned.card)
   part_stands = record {
     lane_is = lane_stands;
     place = placed (card_at w p.planned.card).holder (lane_at w l).running refl refl card_stands.stands;
-    image = card_stands.image;
+    is = card_stands.is;
     losses = card_stands.losses;
   }
 
-  module _ (later : Lane) (next : ChipSeen) (host : HostData) (tally : Counts) (lines : List Line) (choice : Bool)
+  module _ (later : Lane) (next : SlotSeen) (host : HostData) (tally : Counts) (lines : List Line) (choice : Bool)
       (led : Led p later next v.tally tally lines part (piece p part choice)) (messages : HostStands host (piece p part choice).part.messages)
       (free : (h : Holder) → (card_at w p.planned.card).holder ≡ Some h → h ≡ this_one p part) where
     abbrev m : Moved
@@ -126,7 +131,7 @@ module _ (v : WorldSeen) (w : World) (stands : WorldStands v w) (l : ℕ) (p : P
     after = (moved w l p.planned.card m).world
 
     abbrev value : WorldSeen
-    value = record v { chips = set v.chips p.planned.card next; lanes = set v.lanes l later; host = host; tally = tally }
+    value = record v { slots = set v.slots p.planned.card next; lanes = set v.lanes l later; host = host; tally = tally }
 
     came : Outcome p part m.part
     came = outcome p part choice (has_card v.scenario w l p stands.sound is)
@@ -170,31 +175,31 @@ module _ (v : WorldSeen) (w : World) (stands : WorldStands v w) (l : ℕ) (p : P
     planned_as (Some h) has on =
         let same : plan_for v.scenario (Some h) ≡ p.planned.tear =
         ap (λ (x : Holder). plan_for v.scenario (Some x)) (holds h has) ∙ plan_is v.scenario w l p is in
-        (subst (λ (tear : Option Tear). ChipOn next m.part.card.session m.part.card.kept tear m.part.card.made) (sym same) on.0, on.1)
+        subst (λ (tear : Option Tear). SlotOn next m.part.card tear) (sym same) on
 
-    chip_after : ChipStands v.scenario after next p.card m.part.card
-    chip_after = inl (record {
-      image = led.moved.card.image;
+    slot_after : SlotStands v.scenario after next p.card m.part.card
+    slot_after = inl (record {
+      is = led.moved.card.is;
       losses = led.moved.card.losses;
       stands = planned_as m.part.card.holder refl led.moved.card.stands;
     })
 
-    chips_after : (i : ℕ) (chip : ChipSeen) (card : CardData) → slice_get value.chips i ≡ Some chip → slice_get v.scenario.cards i ≡ Some card
-        → ChipStands v.scenario after chip card (card_at after i)
-    chips_after i other card there card_is =
+    slots_after : (i : ℕ) (slot : SlotSeen) (card : CardData) → slice_get value.slots i ≡ Some slot → slice_get v.scenario.cards i ≡ Some card
+        → SlotStands v.scenario after slot card (card_at after i)
+    slots_after i other card there card_is =
         elim (cases_eq i p.planned.card) [
           | inl same ↦
-              let chip_is : next ≡ other = set_here v.chips p.planned.card next other (ap (λ k. slice_get (set v.chips p.planned.card next) k) (sym same) ∙ there) in
+              let slot_is : next ≡ other = set_here v.slots p.planned.card next other (ap (λ k. slice_get (set v.slots p.planned.card next) k) (sym same) ∙ there) in
               let its : p.card ≡ card = same_Some p.card card (sym card_there ∙ ap (λ k. slice_get v.scenario.cards k) (sym same) ∙ card_is) in
-              subst (λ k. ChipStands v.scenario after other card (card_at after k)) (sym same)
-              (subst (λ (row : CardRow). ChipStands v.scenario after other card row) (sym card_here)
-              (subst (λ (c : CardData). ChipStands v.scenario after other c m.part.card) its
-              (subst (λ (x : ChipSeen). ChipStands v.scenario after x p.card m.part.card) chip_is chip_after)))
+              subst (λ k. SlotStands v.scenario after other card (card_at after k)) (sym same)
+              (subst (λ (row : CardRow). SlotStands v.scenario after other card row) (sym card_here)
+              (subst (λ (c : CardData). SlotStands v.scenario after other c m.part.card) its
+              (subst (λ (x : SlotSeen). SlotStands v.scenario after x p.card m.part.card) slot_is slot_after)))
           | inr differs ↦
               let row : card_at after i ≡ card_at w i = get_or-set_other w.cards p.planned.card i m.part.card new_card differs in
-              let before : slice_get v.chips i ≡ Some other = sym (set_other v.chips p.planned.card i next differs) ∙ there in
-              subst (λ (r : CardRow). ChipStands v.scenario after other card r) (sym row)
-              (elim (stands.chips i other card before card_is) [
+              let before : slice_get v.slots i ≡ Some other = sym (set_other v.slots p.planned.card i next differs) ∙ there in
+              subst (λ (r : CardRow). SlotStands v.scenario after other card r) (sym row)
+              (elim (stands.slots i other card before card_is) [
                 | inl here ↦ inl here
                 | inr audited ↦ absurd (not_over v.scenario w l p is audited.over)
               ])
@@ -259,7 +264,7 @@ module _ (v : WorldSeen) (w : World) (stands : WorldStands v w) (l : ℕ) (p : P
       stands = record {
         sound = subst (λ (x : After). IsSound v.scenario x.world) (ap (λ (o : Option Payment). turned_by w l choice o) is) (turn_sound v.scenario w l choice stands.sound);
         few = turn_few v.scenario w l choice (Some p) is stands.few;
-        chips = chips_after;
+        slots = slots_after;
         lanes = lanes_after;
         messages = messages;
         tally = led.counted.2 ∙ ap (λ (c : Counts). counted c led.counted.0) stands.tally

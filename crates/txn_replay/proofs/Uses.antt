@@ -179,6 +179,7 @@ counted_closed = record {
   first = λ image. record { low = λ x here. cc; fresh = λ app begun h none. cc; once = λ i j x y here. cc };
   powers = λ image card with_it holder counted. powered_counted image card with_it holder counted;
   answers = λ image card command live counted. answer_counted image card command counted;
+  tells = λ image card counted. record { low = counted.low; fresh = counted.fresh; once = counted.once };
   cuts = λ image card tear cut h has counted. cut_counted image card tear cut counted;
   loses = λ image card counted. record { low = counted.low; fresh = counted.fresh; once = counted.once };
   frees = λ image card counted. freed_counted image card counted;

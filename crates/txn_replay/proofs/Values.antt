@@ -6,12 +6,11 @@ use Rattle.std.proofs.lemmas.Bool.{cases_order}
 use Rattle.std.proofs.lemmas.Bool.Decides.{eqb_tells}
 use Rattle.std.proofs.lemmas.List.Sums.{sum_by-cons}
 use Rattle.std.proofs.lemmas.Option.{slice_get_within, slice_get_past, get_or_from_slice_get}
-use Rattle.card_app.specs.SeenChip.{ChipSeen, ChipOn}
 use Rattle.card_files.specs.Files.{opening_of}
 use Rattle.card_files.specs.Views.{AppData}
 use Rattle.card_pages.specs.Pages.{MayStand}
 use Rattle.card_state.specs.Decisions.{Decided}
-use Rattle.emv_ports.specs.Memory.{Memory}
+use Rattle.emv_ports.specs.Memory.{Memory, IsBlank}
 use Rattle.emv_ports.specs.declared.tear.Tear.{Tear}
 use Rattle.kernel.specs.Dialogue.{dialogue}
 use Rattle.kernel.specs.Kernel.{KernelData, KernelStands, deal_in}
@@ -23,12 +22,13 @@ use Rattle.scenario.specs.Cards.{CardData}
 use Rattle.scenario.specs.Plan.{ScenarioData, IsScenario}
 use Rattle.scenario_lanes.specs.Plan.{LaneData, HasCards, purchase_count}
 use Rattle.scenario_lanes.specs.declared.plan.Planned.{Planned}
-use Rattle.txn_replay.specs.Banked.{IsGiven, AreGiven}
+use Rattle.txn_replay.specs.Banked.{IsLeft, AreGiven}
 use Rattle.txn_replay.specs.Bounds.{purchases_in}
 use Rattle.txn_replay.specs.Payment.{Payment, payment_with, payment_of, payment_on, payment_in, next_of, deal_for}
 use Rattle.txn_replay.specs.Reading.{data_by, data_at, data_after}
 use Rattle.txn_replay.specs.Run.{lane_over, all_below, all_over, ended_count}
-use Rattle.txn_replay.specs.Seen.{WorldSeen, RunFor, LaneAt, WorldStands, is_lane_done, done_below, is_done, BankStands, plan_for}
+use Rattle.txn_replay.specs.Seen.{WorldSeen, RunFor, LaneAt, WorldStands, is_lane_done, done_below, is_done, PagesAre, BankStands, plan_for}
+use Rattle.txn_replay.specs.Slot.{SlotSeen, OfApps, OfCanned, SlotOn, SlotOff, IsSlotOf, HasLost}
 use Rattle.txn_replay.specs.Sound.{RunsIn}
 use Rattle.txn_replay.specs.Standing.{RunStands, PlaceStands}
 use Rattle.txn_replay.specs.World.{Holder, CardRow, LaneRow, World, new_lane, card_at, lane_at}
@@ -191,38 +191,43 @@ ended_few v w stands =
     (λ l row there. subst (λ (r : LaneRow). length r.ended ≤ purchases_in (slice_get v.scenario.lanes l))
     (get_or_from_slice_get w.lanes l row new_lane there) (stands.few l).ended)
 
--- the pages of a card stand for it
-pub given_stands : (v : WorldSeen) (w : World) (bank : List Memory) → WorldStands v w → length v.chips ≡ length v.scenario.cards → AreGiven v.chips 0 bank
+-- the pages of a card stand for it, and those of one of canned answers are blank
+pages_are : (slot : SlotSeen) (memory : Memory) (card : CardData) (row : CardRow) (plan : Option Tear) → IsLeft slot memory → IsSlotOf slot card
+    → HasLost slot row.losses → SlotOff slot row.kept row.pending ⊎ SlotOn slot row plan → PagesAre memory card row card.canned
+pages_are (OfApps chip) memory card row plan left is lost stands =
+    subst (λ (o : Option (List (List ℕ))). PagesAre memory card row o) (sym is.0)
+    (record {
+      off = left.off;
+      may = subst (λ (image : List AppData). MayStand memory.cells (opening_of image) row.kept row.pending) is.1
+          (elim stands [
+            | inl off ↦ left.may row.kept row.pending off
+            | inr on ↦
+                subst (λ (o : Option Decided). MayStand memory.cells (opening_of chip.image) row.kept o) (sym on.1)
+                (left.stands row.session row.kept plan row.made on.0)
+          ]);
+      losses = left.losses ∙ lost;
+    })
+pages_are (OfCanned canned) memory card row plan left is lost stands =
+    subst (λ (o : Option (List (List ℕ))). PagesAre memory card row o) (sym is.0) (subst (λ (m : Memory). IsBlank m) (sym left) is.1)
+
+pub given_stands : (v : WorldSeen) (w : World) (bank : List Memory) → WorldStands v w → length v.slots ≡ length v.scenario.cards → AreGiven v.slots 0 bank
     → BankStands v.scenario w bank
 given_stands v w bank stands count given = λ i card is.
-    let within : i < length v.chips = (let a : i < length v.scenario.cards = slice_get_within v.scenario.cards i card is in omega arith) in
-    let chip = some_at v.chips i within in
-    let one = given i chip.0 (omega arith) chip.1 in
+    let within : i < length v.slots = (let a : i < length v.scenario.cards = slice_get_within v.scenario.cards i card is in omega arith) in
+    let slot = some_at v.slots i within in
+    let one = given i slot.0 (omega arith) slot.1 in
     let place : i - 0 ≡ i = omega arith in (
       one.0,
       ap (λ n. slice_get bank n) (sym place) ∙ one.1,
-      elim (stands.chips i chip.0 card chip.1 is) [
-        | inl here ↦ record {
-          off = one.2.off;
-          may = subst (λ (image : List AppData). MayStand one.0.cells (opening_of image) (card_at w i).kept (card_at w i).pending) here.image
-              (placed chip.0 one.0 (card_at w i) (plan_for v.scenario (card_at w i).holder) one.2 (card_at w i).holder here.stands);
-          losses = one.2.losses ∙ here.losses;
-        }
-        | inr audited ↦ record {
-          off = one.2.off;
-          may = subst (λ (image : List AppData). MayStand one.0.cells (opening_of image) (card_at w i).kept (card_at w i).pending) audited.image
-              (on_stands chip.0 one.0 (card_at w i) None one.2 audited.on audited.none);
-          losses = one.2.losses ∙ audited.losses;
-        }
+      elim (stands.slots i slot.0 card slot.1 is) [
+        | inl here ↦
+            pages_are slot.0 one.0 card (card_at w i) (plan_for v.scenario (card_at w i).holder) one.2 here.is here.losses
+            (placed slot.0 (card_at w i) (plan_for v.scenario (card_at w i).holder) (card_at w i).holder here.stands)
+        | inr audited ↦ pages_are slot.0 one.0 card (card_at w i) None one.2 audited.is audited.losses (inr audited.on)
       ],
     )
   where
-    on_stands : (chip : ChipSeen) (memory : Memory) (row : CardRow) (plan : Option Tear) → IsGiven chip memory → ChipOn chip row.session row.kept plan row.made
-        → row.pending ≡ None → MayStand memory.cells (opening_of chip.image) row.kept row.pending
-    on_stands chip memory row plan one on none =
-        subst (λ (o : Option Decided). MayStand memory.cells (opening_of chip.image) row.kept o) (sym none) (one.stands row.session row.kept plan row.made on)
-
-    placed : (chip : ChipSeen) (memory : Memory) (row : CardRow) (plan : Option Tear) → IsGiven chip memory → (holder : Option Holder)
-        → PlaceStands chip plan row holder → MayStand memory.cells (opening_of chip.image) row.kept row.pending
-    placed chip memory row plan one None off = one.may row.kept row.pending off
-    placed chip memory row plan one (Some h) on = on_stands chip memory row plan one on.0 on.1
+    placed : (slot : SlotSeen) (row : CardRow) (plan : Option Tear) (holder : Option Holder) → PlaceStands slot plan row holder
+        → SlotOff slot row.kept row.pending ⊎ SlotOn slot row plan
+    placed slot row plan None off = inl off
+    placed slot row plan (Some h) on = inr on

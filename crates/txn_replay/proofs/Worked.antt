@@ -1,4 +1,5 @@
--- Rows worked out from the definitions: a run without cards and lanes, and one whose only power-up is cut.
+-- Rows worked out from the definitions: a run without cards and lanes, one whose only power-up is cut, and one with a card
+-- that has no canned answer.
 use Rattle.std.proofs.Common.{◌≡◌, Bool, true, false, List, [], ◌∷◌, ◌++◌, Some, None, refl, arith}
 use Rattle.std.specs.Prelude.{codes}
 use Rattle.app_select.specs.Selecting.{listing}
@@ -9,8 +10,9 @@ use Rattle.emv_ports.specs.declared.tear.TearAt.TheVariants.{Before}
 use Rattle.issuer_host.specs.declared.keys.HostKeys.{HostKeys}
 use Rattle.kernel.specs.Course.{card_step}
 use Rattle.kernel.specs.Dialogue.{dialogue}
+use Rattle.report_text.specs.declared.line.EndParts.{EndParts}
 use Rattle.report_text.specs.declared.line.Line.{Line}
-use Rattle.report_text.specs.declared.line.Line.TheVariants.{PowerTorn, End, AuditPower, Done}
+use Rattle.report_text.specs.declared.line.Line.TheVariants.{PowerCanned, PowerTorn, ToCard, Gone, End, AuditPower, Done}
 use Rattle.scenario.specs.Plan.{ScenarioData}
 use Rattle.scenario_lanes.specs.declared.plan.Link.TheVariants.{Sound}
 use Rattle.scenario_lanes.specs.declared.plan.Planned.{Planned}
@@ -72,7 +74,7 @@ abbrev cut_once : ScenarioData
 cut_once = record {
   issuer = no_keys;
   accounts = [];
-  cards = record { name = codes "c1"; image = [] } ∷ [];
+  cards = record { name = codes "c1"; image = []; canned = None } ∷ [];
   lanes = record {
     settings = record {
       kind = 22;
@@ -89,21 +91,21 @@ cut_once = record {
   copies = 1;
 }
 
--- `L0 power c1 torn` and `L0 end 1 cut power` with nothing found out
+-- how it ends, with nothing found out
+abbrev nothing_found : EndParts
+nothing_found = record {
+  ending = CutOff step.Power;
+  tvr = record { 0 = 0 };
+  tsi = record { 0 = 0 };
+  cvm = 0 ∷ 0 ∷ 0 ∷ [];
+  arc = None;
+  atc_ac = None;
+  scripts = record { items = [] };
+}
+
+-- `L0 power c1 torn` and `L0 end 1 cut power`
 abbrev cut_lines : List Line
-cut_lines =
-    PowerTorn 0 (record { items = codes "c1" })
-    ∷ End 0 1
-    (record {
-      ending = CutOff step.Power;
-      tvr = record { 0 = 0 };
-      tsi = record { 0 = 0 };
-      cvm = 0 ∷ 0 ∷ 0 ∷ [];
-      arc = None;
-      atc_ac = None;
-      scripts = record { items = [] };
-    })
-    ∷ []
+cut_lines = PowerTorn 0 (record { items = codes "c1" }) ∷ End 0 1 nothing_found ∷ []
 
 cut_happens : (choice : Bool) → (happens cut_once (first_world cut_once) (Turn 0) choice).lines ≡ cut_lines
 unfolding payment_in dialogue card_step listing
@@ -125,6 +127,51 @@ cut_runs = record {
   reached = finished
       (auditing (audit (settlement (again (round {l = 0} {c = []} {new = cut_lines} {w' = cut_world} (rounds start) (omega arith) (λ first. refl) (record { taken = refl; made = refl; leads = refl }))) refl) refl)
       refl (record { taken = refl; made = refl; leads = refl }))
+      refl;
+  whole = refl;
+}
+
+-- a card of canned answers that has none
+abbrev silent_once : ScenarioData
+silent_once = record cut_once { cards = record { name = codes "c1"; image = []; canned = Some [] } ∷ [] }
+
+-- no tear cuts its power-up: `L0 power c1 canned`
+abbrev silent_power : List Line
+silent_power = PowerCanned 0 (record { items = codes "c1" }) ∷ []
+
+-- `L0 > 00a4040005a00000000300`, `L0 < gone` and `L0 end 1 cut power` with nothing found out
+abbrev silent_lines : List Line
+silent_lines =
+    ToCard 0 (record { items = 0x00 ∷ 0xA4 ∷ 0x04 ∷ 0x00 ∷ 0x05 ∷ 0xA0 ∷ 0x00 ∷ 0x00 ∷ 0x00 ∷ 0x03 ∷ 0x00 ∷ [] }) ∷ Gone 0 ∷ End 0 1 nothing_found ∷ []
+
+silent_begins : (choice : Bool) → (happens silent_once (first_world silent_once) (Turn 0) choice).lines ≡ silent_power
+unfolding payment_in dialogue card_step listing
+silent_begins choice = refl
+
+abbrev silent_on : World
+silent_on = (happens silent_once (first_world silent_once) (Turn 0) false).world
+
+abbrev silent_world : World
+silent_world = (happens silent_once silent_on (Turn 0) false).world
+
+-- both turns, then the audit, which passes the card over, and `done 1`
+silent_runs : Run silent_once (silent_power ++ silent_lines ++ (Done 1 ∷ [])) silent_world
+unfolding payment_in dialogue card_step listing settlements_from checks_from
+silent_runs = record {
+  count = 2;
+  choices = [];
+  reported = silent_power ++ silent_lines;
+  reached = finished
+      (audit
+      (settlement
+      (again
+      (round {l = 0} {c = []} {new = silent_lines} {w' = silent_world}
+      (again
+      (round {l = 0} {c = []} {new = silent_power} {w' = silent_on} (rounds start) (omega arith) (λ first. refl)
+      (record { taken = refl; made = refl; leads = refl })))
+      (omega arith) (λ first. refl) (record { taken = refl; made = refl; leads = refl })))
+      refl)
+      refl)
       refl;
   whole = refl;
 }

@@ -3,7 +3,7 @@ use Rattle.std.specs.Prelude.{◌≡◌, ◌⊎◌, ℕ, zero, suc, ◌+◌, Boo
 use Rattle.app_select.specs.Said.{select_command}
 use Rattle.card_app.specs.Answering.{card_answer}
 use Rattle.card_files.specs.Views.{AppData}
-use Rattle.card_app.specs.SeenChip.{ChipSeen, ChipOn, ChipOff}
+use Rattle.card_app.specs.SeenChip.{ChipSeen, ChipOn}
 use Rattle.card_pages.specs.Pages.{found_of}
 use Rattle.report_text.specs.declared.line.Line.{Line}
 use Rattle.risk_mgmt.specs.Counters.{counter_tag, last_online_tag, get_data}
@@ -11,6 +11,7 @@ use Rattle.scenario.specs.Cards.{CardData}
 use Rattle.scenario.specs.Seen.{seen_card}
 use Rattle.txn_replay.specs.Changes.{powered, exchanged}
 use Rattle.txn_replay.specs.Lines.{audit_power_line, audit_lines}
+use Rattle.txn_replay.specs.Slot.{SlotSeen, SlotOn, SlotOff}
 use Rattle.txn_replay.specs.Steps.{Check, PowersUp, Asks}
 use Rattle.txn_replay.specs.World.{CardRow}
 use Rattle.txn_replay.specs.declared.audit.AuditStep.{AuditStep}
@@ -39,8 +40,8 @@ abbrev pub step_check : AuditStep → Check
 step_check step = check_by step.index (seen_card step.card.now) step.question
 
 -- a card that no purchase has: off, or turned on by the audit
-abbrev pub RowRests : ChipSeen → CardRow → Type 0
-RowRests chip row = ChipOff chip row.kept row.pending ⊎ (ChipOn chip row.session row.kept None row.made × (row.pending ≡ None))
+abbrev pub RowRests : SlotSeen → CardRow → Type 0
+RowRests slot row = SlotOff slot row.kept row.pending ⊎ SlotOn slot row None
 
 -- a card that is on without a plan has answered a command
 pub record IsAsked (chip : ChipSeen) (card : CardData) (row : CardRow) (command : List ℕ) (lines : List Line) : Type 0 where
@@ -62,8 +63,6 @@ checked_lines card row None choice = audit_power_line card (found_of row.kept ro
 checked_lines card row (Some question) choice =
     audit_lines card (question_command question) (card_answer card.image row.kept row.session (question_command question)).answer
 
-pub record IsChecked (chip : ChipSeen) (card : CardData) (row : CardRow) (question : Option Question) (choice : Bool) (lines : List Line) : Type 0 where
-  pub on :
-      ChipOn chip (checked_row card row question choice).session (checked_row card row question choice).kept None (checked_row card row question choice).made
-  pub none : (checked_row card row question choice).pending ≡ None
+pub record IsChecked (slot : SlotSeen) (card : CardData) (row : CardRow) (question : Option Question) (choice : Bool) (lines : List Line) : Type 0 where
+  pub on : SlotOn slot (checked_row card row question choice) None
   pub lines_are : lines ≡ checked_lines card row question choice

@@ -3,24 +3,25 @@ use Rattle.std.specs.Prelude.{◌≡◌, ℕ, ◌≤◌, ◌-◌, false, List, [
 use Rattle.card_app.specs.SeenChip.{ChipSeen, ChipOn, ChipOff, losses_of}
 use Rattle.card_app.specs.Session.{Exchange}
 use Rattle.card_files.specs.Files.{opening_of}
-use Rattle.card_files.specs.Views.{AppData}
 use Rattle.card_pages.specs.Pages.{MayStand, StandsFor}
 use Rattle.card_state.specs.Decisions.{Decided}
 use Rattle.emv_ports.specs.Memory.{Memory}
 use Rattle.emv_ports.specs.declared.tear.Tear.{Tear}
+use Rattle.scenario.specs.Cards.{CardData}
+use Rattle.txn_replay.specs.Slot.{SlotSeen, OfApps, OfCanned, SlotOff, IsSlotOf, HasLost}
 
--- a card that has decided nothing, off
-pub record IsNew (image : List AppData) (chip : ChipSeen) : Type 0 where
-  pub off : ChipOff chip [] None
-  pub image_is : chip.image ≡ image
-  pub losses : losses_of chip ≡ 0
+-- a card before its first power-up
+pub record IsNew (card : CardData) (slot : SlotSeen) : Type 0 where
+  pub off : SlotOff slot [] None
+  pub is : IsSlotOf slot card
+  pub losses : HasLost slot 0
 
 -- so is each of them
-abbrev pub AreNew : List (List AppData) → List ChipSeen → Type 0
-AreNew images chips =
-    (i : ℕ) (image : List AppData) (chip : ChipSeen) → slice_get images i ≡ Some image → slice_get chips i ≡ Some chip → IsNew image chip
+abbrev pub AreNew : List CardData → List SlotSeen → Type 0
+AreNew cards slots =
+    (i : ℕ) (card : CardData) (slot : SlotSeen) → slice_get cards i ≡ Some card → slice_get slots i ≡ Some slot → IsNew card slot
 
--- what a card leaves
+-- what a card with applications leaves
 pub record IsGiven (chip : ChipSeen) (memory : Memory) : Type 0 where
   pub off : memory.on ≡ false
   pub may : (kept : List Decided) (pending : Option Decided) → ChipOff chip kept pending → MayStand memory.cells (opening_of chip.image) kept pending
@@ -28,7 +29,12 @@ pub record IsGiven (chip : ChipSeen) (memory : Memory) : Type 0 where
       → StandsFor memory.cells (opening_of chip.image) ds
   pub losses : memory.losses ≡ losses_of chip
 
+-- and a card, of whichever kind
+abbrev pub IsLeft : SlotSeen → Memory → Type 0
+IsLeft (OfApps chip) memory = IsGiven chip memory
+IsLeft (OfCanned canned) memory = memory ≡ canned.pages
+
 -- the cards from this number on have left their pages
-abbrev pub AreGiven : List ChipSeen → ℕ → List Memory → Type 0
-AreGiven chips n bank =
-    (i : ℕ) (chip : ChipSeen) → n ≤ i → slice_get chips i ≡ Some chip → (memory : Memory) × (slice_get bank (i - n) ≡ Some memory) × IsGiven chip memory
+abbrev pub AreGiven : List SlotSeen → ℕ → List Memory → Type 0
+AreGiven slots n bank =
+    (i : ℕ) (slot : SlotSeen) → n ≤ i → slice_get slots i ≡ Some slot → (memory : Memory) × (slice_get bank (i - n) ≡ Some memory) × IsLeft slot memory

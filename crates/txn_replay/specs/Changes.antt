@@ -51,6 +51,7 @@ powered card found holder = record {
   pending = None;
   session = [];
   made = 0;
+  told = 0;
   holder = holder;
   given = card.given;
   acts = card.acts ++ Found found ∷ [];
@@ -64,11 +65,16 @@ exchanged image card command said = record {
   pending = card.pending;
   session = card.session ++ record { command = command; answer = said.answer } ∷ [];
   made = card.made + length said.new;
+  told = card.told;
   holder = card.holder;
   given = card.given ++ given_by image card command said;
   acts = card.acts ++ Answering said.new ∷ [];
   losses = card.losses;
 }
+
+-- a command is answered by the next canned answer
+abbrev pub told_once : CardRow → CardRow
+told_once card = record card { told = card.told + 1 }
 
 -- the tear cuts one of the decisions for a command
 abbrev pub torn : CardRow → Option Tear → Cut → CardRow
@@ -77,6 +83,7 @@ torn card tear cut = record {
   pending = pending_by (left_of tear) cut;
   session = card.session;
   made = card.made;
+  told = card.told;
   holder = card.holder;
   given = card.given;
   acts = card.acts ++ Breaking (cut.before ++ cut.cut ∷ []) ∷ [];

@@ -14,3 +14,6 @@ pub mod Standing
 pub mod Audited
 pub mod Banked
 pub mod Seen
+pub mod Slot
+pub mod SeenSlot
+pub mod Called

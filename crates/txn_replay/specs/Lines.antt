@@ -8,7 +8,7 @@ use Rattle.card_state.specs.declared.state.AppState.{AppState}
 use Rattle.kernel.specs.Ended.{EndData}
 use Rattle.report_text.specs.declared.line.EndParts.{EndParts}
 use Rattle.report_text.specs.declared.line.Line.{Line}
-use Rattle.report_text.specs.declared.line.Line.TheVariants.{Power, PowerTorn, ToCard, FromCard, Torn, ToHost, FromHost, NoReply, End, AuditPower, AuditAsk, AuditAnswer, SettleCall, SettleReply}
+use Rattle.report_text.specs.declared.line.Line.TheVariants.{Power, PowerCanned, PowerTorn, ToCard, FromCard, Torn, Gone, ToHost, FromHost, NoReply, End, AuditPower, AuditAsk, AuditAnswer, SettleCall, SettleReply}
 use Rattle.report_text.specs.declared.line.Shown.{Shown}
 use Rattle.scenario.specs.Cards.{CardData}
 
@@ -34,12 +34,18 @@ power_line lane card found = Power lane (record { items = card.name }) (record {
 abbrev pub power_torn_line : ℕ → CardData → Line
 power_torn_line lane card = PowerTorn lane (record { items = card.name })
 
--- a command that is answered, and one behind which the card is gone
+abbrev pub power_canned_line : ℕ → CardData → Line
+power_canned_line lane card = PowerCanned lane (record { items = card.name })
+
+-- a command that is answered, one at which the power is cut, and one for which no canned answer is left
 abbrev pub answer_lines : ℕ → List ℕ → List ℕ → List Line
 answer_lines lane command answer = ToCard lane (record { items = command }) ∷ FromCard lane (record { items = answer }) ∷ []
 
 abbrev pub torn_lines : ℕ → List ℕ → List Line
 torn_lines lane command = ToCard lane (record { items = command }) ∷ Torn lane ∷ []
+
+abbrev pub gone_lines : ℕ → List ℕ → List Line
+gone_lines lane command = ToCard lane (record { items = command }) ∷ Gone lane ∷ []
 
 -- a message to the host and its reply, or silence
 abbrev pub reply_line : ℕ → Option (List ℕ) → Line

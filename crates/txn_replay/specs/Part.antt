@@ -1,5 +1,5 @@
 -- One exchange of a lane, on what it touches (this project's own).
-use Rattle.std.specs.Prelude.{ℕ, ◌+◌, Bool, true, false, List, [], ◌∷◌, ◌++◌, length, Option, Some, None, option_to_list}
+use Rattle.std.specs.Prelude.{ℕ, ◌+◌, Bool, true, false, List, [], ◌∷◌, ◌++◌, length, slice_get, Option, Some, None, option_to_list}
 use Rattle.card_app.specs.Answering.{card_answer}
 use Rattle.card_pages.specs.Cuts.{Cut, cut_of}
 use Rattle.card_pages.specs.Pages.{found_of}
@@ -18,8 +18,8 @@ use Rattle.object_lists.specs.CardRead.{ReadCard}
 use Rattle.report_text.specs.declared.line.Line.{Line}
 use Rattle.scenario_lanes.specs.declared.plan.Link.{Link}
 use Rattle.scenario_lanes.specs.declared.plan.Link.TheVariants.{Sound, RequestLost, ReplyLost, Twice}
-use Rattle.txn_replay.specs.Changes.{powered, exchanged, torn, lost, freed}
-use Rattle.txn_replay.specs.Lines.{power_line, power_torn_line, answer_lines, torn_lines, host_lines, end_line}
+use Rattle.txn_replay.specs.Changes.{powered, exchanged, told_once, torn, lost, freed}
+use Rattle.txn_replay.specs.Lines.{power_line, power_canned_line, power_torn_line, answer_lines, torn_lines, gone_lines, host_lines, end_line}
 use Rattle.txn_replay.specs.Payment.{Payment, deal_for, end_at}
 use Rattle.txn_replay.specs.World.{Holder, CardRow, LaneRow}
 
@@ -97,9 +97,18 @@ answered p replies command part said (Some cut) = cut_short p replies part (torn
 abbrev pub card_by : Payment → List Reply → List ℕ → Part → CardAnswer → Moved
 card_by p replies command part said = answered p replies command part said (cut_of p.planned.tear part.card.made said.new)
 
+-- a card of canned answers gives the next of them, and is gone where none is left
+abbrev pub canned_by : Payment → List Reply → List ℕ → Part → Option (List ℕ) → Moved
+canned_by p replies command part (Some answer) =
+    settled p (replies ++ CardSaid answer part.lane.log ∷ []) (record part { card = told_once part.card }) (answer_lines p.lane command answer)
+canned_by p replies command part None = cut_short p replies part part.card (gone_lines p.lane command)
+
+abbrev pub asked_by : Payment → List Reply → List ℕ → Part → Option (List (List ℕ)) → Moved
+asked_by p replies command part None = card_by p replies command part (card_answer p.card.image part.card.kept part.card.session command)
+asked_by p replies command part (Some answers) = canned_by p replies command part (slice_get answers part.card.told)
+
 abbrev pub asked_card : Payment → List Reply → List ℕ → Part → Moved
-asked_card p replies command part =
-    card_by p replies command part (card_answer p.card.image part.card.kept part.card.session command)
+asked_card p replies command part = asked_by p replies command part p.card.canned
 
 -- how often a message comes to the host
 abbrev pub delivered : Link → List ℕ → List (List ℕ)
@@ -130,20 +139,30 @@ asked p replies part (ToCard command) = asked_card p replies command part
 asked p replies part (ToHost message) = asked_host p replies message part
 asked p replies part (Over ending) = still part
 
--- a power-up that is completed
+-- a power-up that is completed, which finds these decisions
+abbrev pub on_with : Payment → Part → List Decided → Line → Moved
+on_with p part found line =
+    settled p [] (record part { card = powered part.card found (Some (record { lane = p.lane; number = length part.lane.ended })) }) (line ∷ [])
+
 abbrev pub powered_up : Payment → Part → List Decided → Moved
-powered_up p part found =
-    chosen (settled p [] (record part { card = powered part.card found (Some (record { lane = p.lane; number = length part.lane.ended })) })
-    (power_line p.lane p.card found ∷ []))
+powered_up p part found = chosen (on_with p part found (power_line p.lane p.card found))
 
 -- a tear in commit 0 cuts it, and leaves the card's decisions as they were
 abbrev pub begun_by : Payment → Part → Bool → Bool → Moved
 begun_by p part choice true = cut_short p [] part (lost part.card) (power_torn_line p.lane p.card ∷ [])
 begun_by p part choice false = powered_up p part (found_of part.card.kept part.card.pending choice)
 
+-- a card of canned answers decides nothing: no tear cuts its power-up, and no truth value is taken
+abbrev pub begun_canned : Payment → Part → Moved
+begun_canned p part = on_with p part (found_of part.card.kept part.card.pending false) (power_canned_line p.lane p.card)
+
+abbrev pub begun_with : Payment → Part → Bool → Option (List (List ℕ)) → Moved
+begun_with p part choice None = begun_by p part choice (is_named p.planned.tear 0)
+begun_with p part choice (Some answers) = begun_canned p part
+
 -- a purchase begins where none has its card
 abbrev pub begun : Payment → Part → Bool → Option Holder → Moved
-begun p part choice None = begun_by p part choice (is_named p.planned.tear 0)
+begun p part choice None = begun_with p part choice p.card.canned
 begun p part choice (Some holder) = still part
 
 abbrev pub piece_by : Payment → Part → Bool → Option (List Reply) → Moved

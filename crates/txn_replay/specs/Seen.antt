@@ -1,10 +1,9 @@
 -- The value of a whole run, and the world that it stands for.
 use Rattle.std.specs.Prelude.{◌≡◌, ◌⊎◌, ℕ, zero, suc, Bool, true, false, ◌&&◌, ◌==◌, is_none, List, [], length, map, sum_by, slice_get, Option, Some, None}
 use Rattle.std.specs.List.{All}
-use Rattle.card_app.specs.SeenChip.{ChipSeen, ChipOn, is_on, losses_of}
 use Rattle.card_files.specs.Files.{opening_of}
 use Rattle.card_pages.specs.Pages.{MayStand}
-use Rattle.emv_ports.specs.Memory.{Memory}
+use Rattle.emv_ports.specs.Memory.{Memory, IsBlank}
 use Rattle.emv_ports.specs.declared.tear.Tear.{Tear}
 use Rattle.issuer_host.specs.History.{HostData, HostStands}
 use Rattle.kernel.specs.Tally.{Counts}
@@ -16,6 +15,7 @@ use Rattle.txn_replay.specs.Bounds.{IsFewIn}
 use Rattle.txn_replay.specs.Counting.{capped, counts}
 use Rattle.txn_replay.specs.Payment.{Payment, payment_in}
 use Rattle.txn_replay.specs.Run.{all_over}
+use Rattle.txn_replay.specs.Slot.{SlotSeen, SlotOn, IsSlotOf, HasLost, is_on}
 use Rattle.txn_replay.specs.Sound.{IsSound}
 use Rattle.txn_replay.specs.Standing.{RunStands, LaneKeeps, CardStands, LaneFits, lane_left}
 use Rattle.txn_replay.specs.Steps.{Settlement, Asks, checks, Step}
@@ -25,7 +25,7 @@ use Rattle.txn_replay.specs.declared.lane.Lane.{Lane}
 
 pub record WorldSeen : Type 0 where
   pub scenario : ScenarioData
-  pub chips : List ChipSeen
+  pub slots : List SlotSeen
   pub lanes : List Lane
   pub host : HostData
   pub tally : Counts
@@ -42,16 +42,15 @@ plan_for s None = None
 plan_for s (Some holder) = plan_in (payment_in s holder.lane holder.number)
 
 -- a card that the audit has turned on: no purchase has it, and there is no plan
-pub record IsAudited (s : ScenarioData) (w : World) (chip : ChipSeen) (card : CardData) (row : CardRow) : Type 0 where
+pub record IsAudited (s : ScenarioData) (w : World) (slot : SlotSeen) (card : CardData) (row : CardRow) : Type 0 where
   pub over : all_over s w ≡ true
-  pub image : chip.image ≡ card.image
-  pub losses : losses_of chip ≡ capped row.losses
+  pub is : IsSlotOf slot card
+  pub losses : HasLost slot row.losses
   pub free : row.holder ≡ None
-  pub on : ChipOn chip row.session row.kept None row.made
-  pub none : row.pending ≡ None
+  pub on : SlotOn slot row None
 
-abbrev pub ChipStands : ScenarioData → World → ChipSeen → CardData → CardRow → Type 0
-ChipStands s w chip card row = CardStands chip card (plan_for s row.holder) row ⊎ IsAudited s w chip card row
+abbrev pub SlotStands : ScenarioData → World → SlotSeen → CardData → CardRow → Type 0
+SlotStands s w slot card row = CardStands slot card (plan_for s row.holder) row ⊎ IsAudited s w slot card row
 
 -- a terminal that runs the purchase behind those that have ended, or none
 abbrev pub RunFor : Lane → LaneRow → Option Payment → Type 0
@@ -65,8 +64,8 @@ pub record LaneAt (s : ScenarioData) (l : ℕ) (lane : Lane) (row : LaneRow) : T
 pub record WorldStands (v : WorldSeen) (w : World) : Type 0 where
   pub sound : IsSound v.scenario w
   pub few : (l : ℕ) → IsFewIn v.scenario l (lane_at w l)
-  pub chips : (i : ℕ) (chip : ChipSeen) (card : CardData) → slice_get v.chips i ≡ Some chip → slice_get v.scenario.cards i ≡ Some card
-      → ChipStands v.scenario w chip card (card_at w i)
+  pub slots : (i : ℕ) (slot : SlotSeen) (card : CardData) → slice_get v.slots i ≡ Some slot → slice_get v.scenario.cards i ≡ Some card
+      → SlotStands v.scenario w slot card (card_at w i)
   pub lanes : (l : ℕ) (lane : Lane) → slice_get v.lanes l ≡ Some lane → LaneAt v.scenario l lane (lane_at w l)
   pub messages : HostStands v.host w.messages
   pub tally : v.tally ≡ counts w
@@ -78,7 +77,7 @@ IsStanding v = (w : World) × WorldStands v w
 -- what a value keeps to, whatever it stands for
 pub record IsWhole (v : WorldSeen) : Type 0 where
   pub scenario : IsScenario v.scenario
-  pub chip_count : length v.chips ≡ length v.scenario.cards
+  pub slot_count : length v.slots ≡ length v.scenario.cards
   pub lane_count : length v.lanes ≡ length v.scenario.lanes
   pub fits : All LaneFits v.lanes
   pub keys : v.host.keys ≡ v.scenario.issuer
@@ -113,8 +112,8 @@ turns_left v = sum_by lane_left v.lanes
 -- the card that a check asks is on
 abbrev pub IsNext : WorldSeen → ℕ → Type 0
 IsNext v k =
-    (i : ℕ) (card : CardData) (command : List ℕ) (chip : ChipSeen) → slice_get (checks v.scenario) k ≡ Some (Asks i card command)
-    → slice_get v.chips i ≡ Some chip → is_on chip ≡ true
+    (i : ℕ) (card : CardData) (command : List ℕ) (slot : SlotSeen) → slice_get (checks v.scenario) k ≡ Some (Asks i card command)
+    → slice_get v.slots i ≡ Some slot → is_on slot ≡ true
 
 -- pages that are off, and may stand for what a card has decided
 pub record PagesStand (memory : Memory) (card : CardData) (row : CardRow) : Type 0 where
@@ -122,10 +121,15 @@ pub record PagesStand (memory : Memory) (card : CardData) (row : CardRow) : Type
   pub may : MayStand memory.cells (opening_of card.image) row.kept row.pending
   pub losses : memory.losses ≡ capped row.losses
 
+-- those of a card of canned answers are blank
+abbrev pub PagesAre : Memory → CardData → CardRow → Option (List (List ℕ)) → Type 0
+PagesAre memory card row None = PagesStand memory card row
+PagesAre memory card row (Some answers) = IsBlank memory
+
 abbrev pub BankStands : ScenarioData → World → List Memory → Type 0
 BankStands s w bank =
     (i : ℕ) (card : CardData) → slice_get s.cards i ≡ Some card
-    → (memory : Memory) × (slice_get bank i ≡ Some memory) × PagesStand memory card (card_at w i)
+    → (memory : Memory) × (slice_get bank i ≡ Some memory) × PagesAre memory card (card_at w i) card.canned
 
 -- what a lane has captured, as the settlement reads it
 abbrev pub captured : Lane → LaneRow

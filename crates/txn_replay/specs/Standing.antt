@@ -1,7 +1,6 @@
 -- What a value stands for of a run.
 use Rattle.std.specs.Prelude.{◌≡◌, ⊤, ℕ, ◌+◌, ◌*◌, ◌-◌, ◌≤◌, Bool, true, false, List, ◌++◌, length, map, fold, Option, Some, None, option_and_then}
 use Rattle.std.specs.List.{All}
-use Rattle.card_app.specs.SeenChip.{ChipSeen, ChipOn, ChipOff, is_on, losses_of}
 use Rattle.emv_dict.specs.Settings.{most_amount}
 use Rattle.emv_ports.specs.declared.tear.Tear.{Tear}
 use Rattle.issuer_host.specs.Account.{AccountData}
@@ -17,8 +16,8 @@ use Rattle.scenario.specs.Cards.{CardData}
 use Rattle.scenario.specs.Seen.{seen_card}
 use Rattle.txn_replay.specs.Part.{Part, Moved}
 use Rattle.txn_replay.specs.Payment.{Payment, deal_for}
-use Rattle.txn_replay.specs.Counting.{capped}
 use Rattle.txn_replay.specs.Reading.{last_past, past_card, latest_ending}
+use Rattle.txn_replay.specs.Slot.{SlotSeen, SlotOn, SlotOff, IsSlotOf, HasLost, is_on}
 use Rattle.txn_replay.specs.World.{Holder, CardRow, LaneRow, Past}
 use Rattle.txn_replay.specs.declared.lane.Lane.{Lane}
 use Rattle.txn_replay.specs.declared.payment.Payment.{Payment as Paying}
@@ -54,25 +53,24 @@ pub record LaneStands (lane : Lane) (p : Payment) (row : LaneRow) : Type 0 where
   pub keeps : LaneKeeps lane row
   pub running : RunStands lane.running p row.running
 
--- on for the purchase that has it, under its plan and with no decision pending; off for none
-abbrev pub PlaceStands : ChipSeen → Option Tear → CardRow → Option Holder → Type 0
-PlaceStands chip plan row None = ChipOff chip row.kept row.pending
-PlaceStands chip plan row (Some holder) = ChipOn chip row.session row.kept plan row.made × (row.pending ≡ None)
+-- on for the purchase that has it, under its plan; off for none
+abbrev pub PlaceStands : SlotSeen → Option Tear → CardRow → Option Holder → Type 0
+PlaceStands slot plan row None = SlotOff slot row.kept row.pending
+PlaceStands slot plan row (Some holder) = SlotOn slot row plan
 
-pub record CardStands (chip : ChipSeen) (card : CardData) (plan : Option Tear) (row : CardRow) : Type 0 where
-  pub image : chip.image ≡ card.image
-  pub losses : losses_of chip ≡ capped row.losses
-  pub stands : PlaceStands chip plan row row.holder
+pub record CardStands (slot : SlotSeen) (card : CardData) (plan : Option Tear) (row : CardRow) : Type 0 where
+  pub is : IsSlotOf slot card
+  pub losses : HasLost slot row.losses
+  pub stands : PlaceStands slot plan row row.holder
 
 -- the purchase that runs: its terminal has taken these replies, and its card is on for it
-pub record PartRuns (p : Payment) (lane : Lane) (chip : ChipSeen) (replies : List Reply) (part : Part) : Type 0 where
+pub record PartRuns (p : Payment) (lane : Lane) (slot : SlotSeen) (replies : List Reply) (part : Part) : Type 0 where
   pub lane_is : LaneStands lane p (record part.lane { running = Some replies })
   pub holder : Holder
   pub has : part.card.holder ≡ Some holder
-  pub on : ChipOn chip part.card.session part.card.kept p.planned.tear part.card.made
-  pub none : part.card.pending ≡ None
-  pub image : chip.image ≡ p.card.image
-  pub losses : losses_of chip ≡ capped part.card.losses
+  pub on : SlotOn slot part.card p.planned.tear
+  pub is : IsSlotOf slot p.card
+  pub losses : HasLost slot part.card.losses
 
 -- a terminal whose dialogue is over
 abbrev pub is_ended : Next → Bool
@@ -92,9 +90,9 @@ abbrev pub counted : Counts → List Past → Counts
 counted counts pasts = fold count_past counts pasts
 
 -- an exchange has led to this
-pub record MovedTo (p : Payment) (lane : Lane) (chip : ChipSeen) (lines : List Line) (m : Moved) : Type 0 where
+pub record MovedTo (p : Payment) (lane : Lane) (slot : SlotSeen) (lines : List Line) (m : Moved) : Type 0 where
   pub lane_is : LaneStands lane p m.part.lane
-  pub card : CardStands chip p.card p.planned.tear m.part.card
+  pub card : CardStands slot p.card p.planned.tear m.part.card
   pub lines_are : lines ≡ m.lines
 
 -- and the purchase that ended in it, if one did, is counted
@@ -107,33 +105,33 @@ reply_if false reply = None
 reply_if true reply = Some reply
 
 -- an exchange has led to this, and the purchase that ended in it, if one did, is counted
-pub record Led (p : Payment) (lane : Lane) (chip : ChipSeen) (before after : Counts) (lines : List Line) (part : Part) (m : Moved) : Type 0 where
-  pub moved : MovedTo p lane chip lines m
+pub record Led (p : Payment) (lane : Lane) (slot : SlotSeen) (before after : Counts) (lines : List Line) (part : Part) (m : Moved) : Type 0 where
+  pub moved : MovedTo p lane slot lines m
   pub counted : IsCounted before after part.lane.ended m.part.lane.ended
 
 -- the purchase that is next: none runs, and its card is off for none
-pub record PartRests (p : Payment) (lane : Lane) (chip : ChipSeen) (part : Part) : Type 0 where
+pub record PartRests (p : Payment) (lane : Lane) (slot : SlotSeen) (part : Part) : Type 0 where
   pub keeps : LaneKeeps lane part.lane
   pub rests : part.lane.running ≡ None
   pub free : part.card.holder ≡ None
-  pub off : ChipOff chip part.card.kept part.card.pending
-  pub image : chip.image ≡ p.card.image
-  pub losses : losses_of chip ≡ capped part.card.losses
+  pub off : SlotOff slot part.card.kept part.card.pending
+  pub is : IsSlotOf slot p.card
+  pub losses : HasLost slot part.card.losses
 
 -- the card of a lane's purchase: off where none has it, on where another one has it, and on under the plan of the one
 -- that runs
-abbrev pub PlaceFor : Payment → ChipSeen → CardRow → Option Holder → Option (List Reply) → Type 0
-PlaceFor p chip row None None = ChipOff chip row.kept row.pending
-PlaceFor p chip row (Some holder) None = is_on chip ≡ true
-PlaceFor p chip row None (Some replies) = ⊥
-PlaceFor p chip row (Some holder) (Some replies) = ChipOn chip row.session row.kept p.planned.tear row.made × (row.pending ≡ None)
+abbrev pub PlaceFor : Payment → SlotSeen → CardRow → Option Holder → Option (List Reply) → Type 0
+PlaceFor p slot row None None = SlotOff slot row.kept row.pending
+PlaceFor p slot row (Some holder) None = is_on slot ≡ true
+PlaceFor p slot row None (Some replies) = ⊥
+PlaceFor p slot row (Some holder) (Some replies) = SlotOn slot row p.planned.tear
 
 -- what an exchange of a lane touches
-pub record PartStands (p : Payment) (lane : Lane) (chip : ChipSeen) (part : Part) : Type 0 where
+pub record PartStands (p : Payment) (lane : Lane) (slot : SlotSeen) (part : Part) : Type 0 where
   pub lane_is : LaneStands lane p part.lane
-  pub place : PlaceFor p chip part.card part.card.holder part.lane.running
-  pub image : chip.image ≡ p.card.image
-  pub losses : losses_of chip ≡ capped part.card.losses
+  pub place : PlaceFor p slot part.card part.card.holder part.lane.running
+  pub is : IsSlotOf slot p.card
+  pub losses : HasLost slot part.card.losses
 
 -- a lane whose vectors alone may have more room
 pub record SameLane (old new : Lane) : Type 0 where

@@ -83,8 +83,13 @@ abbrev pub app_checks : ℕ → CardData → AppData → List Check
 app_checks i card app =
     Asks i card (select_command 0 app.name) ∷ Asks i card (get_data counter_tag) ∷ Asks i card (get_data last_online_tag) ∷ []
 
+-- a card of canned answers is passed over
+abbrev pub checks_for : ℕ → CardData → Option (List (List ℕ)) → List Check
+checks_for i card None = PowersUp i card ∷ flat_map (app_checks i card) card.image
+checks_for i card (Some answers) = []
+
 abbrev pub card_checks : ℕ → CardData → List Check
-card_checks i card = PowersUp i card ∷ flat_map (app_checks i card) card.image
+card_checks i card = checks_for i card card.canned
 
 unfoldable pub checks_from : ℕ → List CardData → List Check
 checks_from i [] = []

@@ -33,6 +33,8 @@ pub record CardRow : Type 0 where
   -- the commands and answers since power-up, and how many decisions were taken since then
   pub session : List Exchange
   pub made : ℕ
+  -- how many canned answers were given since power-up
+  pub told : ℕ
   -- the running purchase that has the card
   pub holder : Option Holder
   pub given : List Given
@@ -60,7 +62,7 @@ pub record World : Type 0 where
   pub messages : List (List ℕ)
 
 abbrev pub new_card : CardRow
-new_card = record { kept = []; pending = None; session = []; made = 0; holder = None; given = []; acts = []; losses = 0 }
+new_card = record { kept = []; pending = None; session = []; made = 0; told = 0; holder = None; given = []; acts = []; losses = 0 }
 
 abbrev pub new_lane : LaneRow
 new_lane = record { ended = []; running = None; log = []; captures = [] }

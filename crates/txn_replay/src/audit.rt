@@ -1,23 +1,25 @@
-//! The audit: each card is powered up, and each of its applications is asked for its counters.
+//! The audit: each card with applications is powered up, and each of these is asked for its counters.
 ghost use Rattle.std.specs.Prelude.{◌≡◌, ◌≤◌, ◌<◌, ◌+◌, ◌*◌, ◌∷◌, [], ℕ, Bool, true, None, option_map, slice_get, length, IfSome};
 ghost use Rattle.app_select.specs.Said.{select_command};
-ghost use Rattle.card_app.specs.SeenChip.{ChipOn, ChipOff, is_on as has_power, losses_of};
+ghost use Rattle.card_app.specs.SeenChip.{ChipOn, ChipOff, is_on as chip_on, losses_of};
 ghost use Rattle.card_pages.specs.Pages.{found_of};
 ghost use Rattle.risk_mgmt.specs.Counters.{get_data};
 ghost use Rattle.scenario.specs.Cards.{CardData};
-ghost use Rattle.scenario.specs.Seen.{seen_card, seen_cards};
+ghost use Rattle.scenario.specs.Seen.{image_of, canned_of, seen_card, seen_cards};
 ghost use Rattle.txn_replay.specs.Audited.{asked_by, question_check, question_command, step_check, RowRests, IsAsked, IsChecked};
 ghost use Rattle.txn_replay.specs.Lines.{audit_power_line};
+ghost use Rattle.txn_replay.specs.Slot.{OfApps, IsSlotOf, HasLost, is_on as has_power};
 ghost use Rattle.txn_replay.specs.Steps.{app_checks, checks_from};
 ghost use Rattle.txn_replay.specs.World.{CardRow};
 ghost use Rattle.std.specs.List.{flat_map};
 
 use crate::lines::{Lines, add_audit, add_audit_power};
+use crate::slot::{Slot, SlotKind};
 use apdu_core::{Answer, Command, Out, write_command};
 use card_app::Chip;
 use card_files::AppImage;
 use emv_ports::Pages;
-use scenario::NamedImage;
+use scenario::NamedCard;
 
 /// What the audit asks of an application.
 #[derive(Clone, Copy)]
@@ -34,7 +36,7 @@ pub(crate) enum Question<'s> {
 #[derive(Clone, Copy)]
 pub(crate) struct AuditStep<'s> {
     pub index: usize,
-    pub card: &'s NamedImage,
+    pub card: &'s NamedCard,
     pub question: Option<Question<'s>>,
 }
 
@@ -61,14 +63,18 @@ fn question_of(app: &AppImage, number: usize) -> Question<'_>
     }
 }
 
-/// The step of the audit of this number, from 0.
-pub(crate) fn audit_step(cards: &[NamedImage], number: u32) -> Option<AuditStep<'_>>
+/// The step of the audit of this number, from 0. A card of canned answers is passed over.
+pub(crate) fn audit_step(cards: &[NamedCard], number: u32) -> Option<AuditStep<'_>>
     requires few { length cards.now ≤ 64 }
     ensures step { option_map step_check result ≡ slice_get (checks_from 0 (seen_cards cards.now)) number }
     ensures there { IfSome result (λ step. slice_get cards.now step.index ≡ Some step.card.now) }
+    ensures apps { IfSome result (λ step. canned_of step.card.now.kind ≡ None) }
 {
     let mut left = number as usize;
     for (index, card) in cards.iter().enumerate() {
+        let Some(image) = card.kind.image() else {
+            continue;
+        };
         if left == 0 {
             return Some(AuditStep {
                 index,
@@ -76,7 +82,7 @@ pub(crate) fn audit_step(cards: &[NamedImage], number: u32) -> Option<AuditStep<
                 question: None,
             });
         }
-        let apps = card.image.apps();
+        let apps = image.apps();
         if let Some(question) = question_at(apps, left - 1) {
             return Some(AuditStep {
                 index,
@@ -89,18 +95,23 @@ pub(crate) fn audit_step(cards: &[NamedImage], number: u32) -> Option<AuditStep<
     None
 }
 
-/// The step is carried out on its card, which no purchase has.
-pub(crate) fn carry_out<P: Pages>(step: AuditStep<'_>, chip: &mut Chip<'_, P>, lines: &mut Lines)
-    requires rests { (row : CardRow) × RowRests chip.old row }
-    requires on { IfSome step.question (λ question. has_power chip.old ≡ true) }
+/// The step is carried out on its card, which no purchase has, and which has applications.
+pub(crate) fn carry_out<P: Pages>(step: AuditStep<'_>, slot: &mut Slot<'_, P>, lines: &mut Lines)
+    requires rests { (row : CardRow) × RowRests slot.old row }
+    requires is { IsSlotOf slot.old (seen_card step.card.now) }
+    requires apps { canned_of step.card.now.kind ≡ None }
+    requires on { IfSome step.question (λ question. has_power slot.old ≡ true) }
     requires name { length step.card.now.name.items ≤ 16 }
     requires lines { lines.old.items ≡ [] }
-    ensures checked { (row : CardRow) → RowRests chip.old row → chip.old.image ≡ step.entry.card.now.image
-        → (choice : Bool) × IsChecked chip.new (seen_card step.entry.card.now) row step.entry.question choice lines.new.items }
-    ensures on { has_power chip.new ≡ true }
-    ensures image { chip.new.image ≡ chip.old.image }
-    ensures losses { losses_of chip.new ≡ losses_of chip.old }
+    ensures checked { (row : CardRow) → RowRests slot.old row
+        → (choice : Bool) × IsChecked slot.new (seen_card step.entry.card.now) row step.entry.question choice lines.new.items }
+    ensures on { has_power slot.new ≡ true }
+    ensures is { (card : CardData) → IsSlotOf slot.old card → IsSlotOf slot.new card }
+    ensures losses { (count : ℕ) → HasLost slot.old count → HasLost slot.new count }
 {
+    let SlotKind::App(chip) = &mut slot.0 else {
+        unreachable!();
+    };
     match step.question {
         None => power(step.card, chip, lines),
         Some(question) => ask(step.card, chip, question, lines),
@@ -109,7 +120,7 @@ pub(crate) fn carry_out<P: Pages>(step: AuditStep<'_>, chip: &mut Chip<'_, P>, l
 
 /// A card that the audit has turned on is turned off.
 fn turn_off<P: Pages>(chip: &mut Chip<'_, P>)
-    ensures off { (row : CardRow) → RowRests chip.old row → ChipOff chip.new row.kept row.pending }
+    ensures off { (row : CardRow) → RowRests (OfApps chip.old) row → ChipOff chip.new row.kept row.pending }
     ensures image { chip.new.image ≡ chip.old.image }
     ensures losses { losses_of chip.new ≡ losses_of chip.old }
 {
@@ -119,14 +130,14 @@ fn turn_off<P: Pages>(chip: &mut Chip<'_, P>)
 }
 
 /// A card is powered up without a plan.
-fn power<P: Pages>(card: &NamedImage, chip: &mut Chip<'_, P>, lines: &mut Lines)
-    requires rests { (row : CardRow) × RowRests chip.old row }
+fn power<P: Pages>(card: &NamedCard, chip: &mut Chip<'_, P>, lines: &mut Lines)
+    requires rests { (row : CardRow) × RowRests (OfApps chip.old) row }
     requires name { length card.now.name.items ≤ 16 }
     requires lines { lines.old.items ≡ [] }
-    ensures powered { (row : CardRow) → RowRests chip.old row → chip.old.image ≡ card.now.image
+    ensures powered { (row : CardRow) → RowRests (OfApps chip.old) row → chip.old.image ≡ image_of card.now.kind
         → (with_it : Bool) × ChipOn chip.new [] (found_of row.kept row.pending with_it) None 0
         × (lines.new.items ≡ audit_power_line (seen_card card.now) (found_of row.kept row.pending with_it) ∷ []) }
-    ensures on { has_power chip.new ≡ true }
+    ensures on { chip_on chip.new ≡ true }
     ensures image { chip.new.image ≡ chip.old.image }
     ensures losses { losses_of chip.new ≡ losses_of chip.old }
 {
@@ -139,18 +150,18 @@ fn power<P: Pages>(card: &NamedImage, chip: &mut Chip<'_, P>, lines: &mut Lines)
 
 /// A card that the audit has turned on is asked.
 fn ask<P: Pages>(
-    card: &NamedImage,
+    card: &NamedCard,
     chip: &mut Chip<'_, P>,
     question: Question<'_>,
     lines: &mut Lines,
 )
-    requires rests { (row : CardRow) × RowRests chip.old row }
-    requires on { has_power chip.old ≡ true }
+    requires rests { (row : CardRow) × RowRests (OfApps chip.old) row }
+    requires on { chip_on chip.old ≡ true }
     requires name { length card.now.name.items ≤ 16 }
     requires lines { lines.old.items ≡ [] }
-    ensures asked { (row : CardRow) → RowRests chip.old row → chip.old.image ≡ card.now.image
+    ensures asked { (row : CardRow) → RowRests (OfApps chip.old) row → chip.old.image ≡ image_of card.now.kind
         → IsAsked chip.new (seen_card card.now) row (question_command question.entry) lines.new.items }
-    ensures on { has_power chip.new ≡ true }
+    ensures on { chip_on chip.new ≡ true }
     ensures image { chip.new.image ≡ chip.old.image }
     ensures losses { losses_of chip.new ≡ losses_of chip.old }
 {

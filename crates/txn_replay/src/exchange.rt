@@ -2,10 +2,8 @@
 ghost use Rattle.std.specs.Prelude.{◌≡◌, ◌+◌, ◌≤◌, ◌<◌, ◌++◌, ◌∷◌, [], ℕ, List, Bool, length, true, false, ◌&&◌, is_none, IsSomeAnd, IfSome, IfOk, Some, None, Option, OnOk, OnErr, option_map, IsTrue};
 ghost use Rattle.std.specs.List.{All};
 ghost use Rattle.std.specs.Vec.{vec_len, vec_capacity};
-ghost use Rattle.card_app.specs.SeenChip.{ChipOff, IsChipOff, is_on as chip_on};
 ghost use Rattle.card_state.specs.Decisions.{Decided};
 ghost use Rattle.emv_dict.specs.Settings.{IsSettings, most_amount};
-ghost use Rattle.emv_ports.specs.Cut.{is_named};
 ghost use Rattle.issuer_host.specs.Account.{AccountData};
 ghost use Rattle.issuer_host.specs.declared.keys.HostKeys.{HostKeys};
 ghost use Rattle.kernel.specs.Dialogue.{dialogue};
@@ -19,15 +17,16 @@ ghost use Rattle.txn_replay.specs.Lines.{host_lines};
 ghost use Rattle.txn_replay.specs.Part.{Part, delivered, heard, piece};
 ghost use Rattle.txn_replay.specs.Payment.{Payment as Paid, deal_for};
 ghost use Rattle.txn_replay.specs.Standing.{PartRests, PartRuns, PartStands, Led, SameLane, LaneStands, reply_if, rank_in, MovedTo, IsCounted, LaneFits, RunStands, lane_left, is_ended, is_over as over_test, seen_payment};
+ghost use Rattle.txn_replay.specs.Slot.{SlotOff, is_on as has_power};
 ghost use Rattle.txn_replay.specs.World.{LaneRow};
 
 use crate::lane::{Lane, finish};
-use crate::lines::{Lines, add_answer, add_host, add_power, add_power_torn, add_torn};
+use crate::lines::{Lines, add_answer, add_host, add_power_torn};
 use crate::link::deliver;
 use crate::payment::Payment;
+use crate::slot::Slot;
 use apdu_core::Answer;
 use auth_message::Message;
-use card_app::Chip;
 use emv_ports::{Gone, Pages};
 use issuer_host::Host;
 use kernel::{Kernel, Next, Tally};
@@ -52,7 +51,7 @@ fn is_over(running: &Option<Kernel<'_>>) -> bool
 fn settle<'s, P: Pages>(
     at: &Payment<'s>,
     lane: &mut Lane<'s>,
-    chip: &mut Chip<'s, P>,
+    slot: &mut Slot<'s, P>,
     tally: &mut Tally,
     lines: &mut Lines,
 )
@@ -61,30 +60,30 @@ fn settle<'s, P: Pages>(
     requires captures { vec_len lane.old.captures < vec_capacity lane.old.captures }
     requires amount { at.now.planned.now.purchase.amount ≤ most_amount }
     requires amounts { All (λ logged. logged.amount ≤ most_amount) lane.old.log.items }
-    requires on { chip_on chip.old ≡ true }
+    requires on { has_power slot.old ≡ true }
     requires lines { length lines.old.items < 8 }
     ensures moved { (issuer : HostKeys) (accounts : List AccountData) (replies : List Reply) (part : Part)
-        → PartRuns (seen_payment issuer accounts at.now) lane.old chip.old replies part
-        → MovedTo (seen_payment issuer accounts at.now) lane.new chip.new lines.new.items
+        → PartRuns (seen_payment issuer accounts at.now) lane.old slot.old replies part
+        → MovedTo (seen_payment issuer accounts at.now) lane.new slot.new lines.new.items
         (step.settled (seen_payment issuer accounts at.now) replies part lines.old.items) }
     ensures counted { (issuer : HostKeys) (accounts : List AccountData) (replies : List Reply) (part : Part)
-        → PartRuns (seen_payment issuer accounts at.now) lane.old chip.old replies part
+        → PartRuns (seen_payment issuer accounts at.now) lane.old slot.old replies part
         → IsCounted tally.old tally.new part.lane.ended
         (step.settled (seen_payment issuer accounts at.now) replies part lines.old.items).part.lane.ended }
     ensures fits { LaneFits lane.new }
     ensures nearer { lane_left lane.new ≤ lane_left lane.old }
 {
     if is_over(&lane.running) {
-        chip.power_off();
+        slot.power_off();
         finish(at, lane, tally, lines);
     }
 }
 
-/// The card is asked: it answers, or the plan cuts its power.
+/// The card is asked: it answers, or is gone.
 fn ask_card<'s, P: Pages>(
     at: &Payment<'s>,
     lane: &mut Lane<'s>,
-    chip: &mut Chip<'s, P>,
+    slot: &mut Slot<'s, P>,
     tally: &mut Tally,
     lines: &mut Lines,
 )
@@ -94,14 +93,14 @@ fn ask_card<'s, P: Pages>(
     requires amount { at.now.planned.now.purchase.amount ≤ most_amount }
     requires amounts { All (λ logged. logged.amount ≤ most_amount) lane.old.log.items }
     requires waits { IsSomeAnd lane.old.running (λ kernel. next_of kernel ≡ next.ToCard) }
-    requires on { chip_on chip.old ≡ true }
+    requires on { has_power slot.old ≡ true }
     requires lines { lines.old.items ≡ [] }
     ensures moved { (issuer : HostKeys) (accounts : List AccountData) (replies : List Reply) (part : Part)
-        → PartRuns (seen_payment issuer accounts at.now) lane.old chip.old replies part
-        → MovedTo (seen_payment issuer accounts at.now) lane.new chip.new lines.new.items
+        → PartRuns (seen_payment issuer accounts at.now) lane.old slot.old replies part
+        → MovedTo (seen_payment issuer accounts at.now) lane.new slot.new lines.new.items
         (step.asked_card (seen_payment issuer accounts at.now) replies (told_bytes (dialogue (deal_for (seen_payment issuer accounts at.now)) replies)) part) }
     ensures counted { (issuer : HostKeys) (accounts : List AccountData) (replies : List Reply) (part : Part)
-        → PartRuns (seen_payment issuer accounts at.now) lane.old chip.old replies part
+        → PartRuns (seen_payment issuer accounts at.now) lane.old slot.old replies part
         → IsCounted tally.old tally.new part.lane.ended
         (step.asked_card (seen_payment issuer accounts at.now) replies (told_bytes (dialogue (deal_for (seen_payment issuer accounts at.now)) replies)) part).part.lane.ended }
     ensures fits { LaneFits lane.new }
@@ -111,14 +110,14 @@ fn ask_card<'s, P: Pages>(
     let Some(kernel) = &mut lane.running else {
         unreachable!();
     };
-    match chip.process(kernel.bytes(), &mut answer) {
+    match slot.process(kernel.bytes(), &mut answer) {
         Ok(()) => {
             add_answer(at.lane, kernel.bytes(), answer.as_slice(), lines);
             kernel.take_card(answer.as_slice(), lane.log.as_slice());
-            settle(at, lane, chip, tally, lines);
+            settle(at, lane, slot, tally, lines);
         }
         Err(Gone) => {
-            add_torn(at.lane, kernel.bytes(), lines);
+            slot.add_gone(at.lane, kernel.bytes(), lines);
             kernel.take_gone();
             finish(at, lane, tally, lines);
         }
@@ -183,7 +182,7 @@ fn hear<'s>(at: &Payment<'s>, lane: &mut Lane<'s>, reply: Option<&[u8]>, lines: 
 fn ask_host<'s, P: Pages>(
     at: &Payment<'s>,
     lane: &mut Lane<'s>,
-    chip: &mut Chip<'s, P>,
+    slot: &mut Slot<'s, P>,
     host: &mut Host<'s>,
     tally: &mut Tally,
     lines: &mut Lines,
@@ -194,36 +193,36 @@ fn ask_host<'s, P: Pages>(
     requires amount { at.now.planned.now.purchase.amount ≤ most_amount }
     requires amounts { All (λ logged. logged.amount ≤ most_amount) lane.old.log.items }
     requires waits { IsSomeAnd lane.old.running (λ kernel. next_of kernel ≡ next.ToHost) }
-    requires on { chip_on chip.old ≡ true }
+    requires on { has_power slot.old ≡ true }
     requires lines { lines.old.items ≡ [] }
     requires stands { (messages : List (List ℕ)) × HostStands host.old messages }
     ensures led { OnOk result ((replies : List Reply) (part : Part)
-        → PartRuns (seen_payment host.old.keys host.old.accounts at.now) lane.old chip.old replies part → HostStands host.old part.messages
-        → Led (seen_payment host.old.keys host.old.accounts at.now) lane.new chip.new tally.old tally.new lines.new.items part
+        → PartRuns (seen_payment host.old.keys host.old.accounts at.now) lane.old slot.old replies part → HostStands host.old part.messages
+        → Led (seen_payment host.old.keys host.old.accounts at.now) lane.new slot.new tally.old tally.new lines.new.items part
         (step.asked_host (seen_payment host.old.keys host.old.accounts at.now) replies
         (told_bytes (dialogue (deal_for (seen_payment host.old.keys host.old.accounts at.now)) replies)) part)) }
     ensures messages { OnOk result ((replies : List Reply) (part : Part)
-        → PartRuns (seen_payment host.old.keys host.old.accounts at.now) lane.old chip.old replies part → HostStands host.old part.messages
+        → PartRuns (seen_payment host.old.keys host.old.accounts at.now) lane.old slot.old replies part → HostStands host.old part.messages
         → HostStands host.new (step.asked_host (seen_payment host.old.keys host.old.accounts at.now) replies
         (told_bytes (dialogue (deal_for (seen_payment host.old.keys host.old.accounts at.now)) replies)) part).part.messages) }
     ensures keys { host.new.keys ≡ host.old.keys }
     ensures accounts { host.new.accounts ≡ host.old.accounts }
     ensures fits { OnOk result (LaneFits lane.new) }
     ensures nearer { OnOk result (lane_left lane.new < lane_left lane.old) }
-    ensures err { OnErr result ((lane.new ≡ lane.old) × (chip.new ≡ chip.old) × (host.new ≡ host.old) × (tally.new ≡ tally.old) × (lines.new.items ≡ [])) }
+    ensures err { OnErr result ((lane.new ≡ lane.old) × (slot.new ≡ slot.old) × (host.new ≡ host.old) × (tally.new ≡ tally.old) × (lines.new.items ≡ [])) }
 {
     let mut reply = Message::new();
     let comes = send(at, &lane.running, host, &mut reply)?;
     hear(at, lane, said(comes, &reply), lines);
-    settle(at, lane, chip, tally, lines);
+    settle(at, lane, slot, tally, lines);
     Ok(())
 }
 
-/// The next purchase begins: its card, which no purchase has, is powered up under its plan.
+/// The next purchase begins: its card, which no purchase has, is powered up under its tear.
 fn begin<'s, P: Pages>(
     at: &Payment<'s>,
     lane: &mut Lane<'s>,
-    chip: &mut Chip<'s, P>,
+    slot: &mut Slot<'s, P>,
     tally: &mut Tally,
     lines: &mut Lines,
 )
@@ -235,20 +234,20 @@ fn begin<'s, P: Pages>(
     requires name { length at.now.card.now.name.items ≤ 16 }
     requires amounts { All (λ logged. logged.amount ≤ most_amount) lane.old.log.items }
     requires rests { lane.old.running ≡ None }
-    requires off { IsChipOff chip.old }
+    requires off { (kept : List Decided) × (pending : Option Decided) × SlotOff slot.old kept pending }
     requires lines { lines.old.items ≡ [] }
     ensures led { (issuer : HostKeys) (accounts : List AccountData) (part : Part)
-        → PartRests (seen_payment issuer accounts at.now) lane.old chip.old part
-        → (choice : Bool) × Led (seen_payment issuer accounts at.now) lane.new chip.new tally.old tally.new lines.new.items part
-        (step.begun_by (seen_payment issuer accounts at.now) part choice (is_named at.now.planned.now.tear 0)) }
+        → PartRests (seen_payment issuer accounts at.now) lane.old slot.old part
+        → (choice : Bool) × Led (seen_payment issuer accounts at.now) lane.new slot.new tally.old tally.new lines.new.items part
+        (step.begun_with (seen_payment issuer accounts at.now) part choice (seen_payment issuer accounts at.now).card.canned) }
     ensures fits { LaneFits lane.new }
     ensures nearer { lane_left lane.new < lane_left lane.old }
 {
     start(at, lane);
-    match chip.power_up(at.planned.tear) {
+    match slot.power_up(at.planned.tear) {
         Ok(()) => {
-            add_power(at.lane, at.card.name.as_slice(), chip.totals(), lines);
-            settle(at, lane, chip, tally, lines);
+            slot.add_power(at.lane, at.card.name.as_slice(), lines);
+            settle(at, lane, slot, tally, lines);
         }
         Err(Gone) => {
             add_power_torn(at.lane, at.card.name.as_slice(), lines);
@@ -300,37 +299,37 @@ fn waits_for(running: &Option<Kernel<'_>>) -> Option<Next>
 }
 
 /// Whether the lane waits for a card that another purchase has.
-pub(crate) fn is_held<P: Pages>(running: &Option<Kernel<'_>>, chip: &Chip<'_, P>) -> bool
-    ensures exact { result ≡ (is_none running.now && chip_on chip.now) }
-    ensures off { (kept : List Decided) (pending : Option Decided) → ChipOff chip.now kept pending → result ≡ false }
+pub(crate) fn is_held<P: Pages>(running: &Option<Kernel<'_>>, slot: &Slot<'_, P>) -> bool
+    ensures exact { result ≡ (is_none running.now && has_power slot.now) }
+    ensures off { (kept : List Decided) (pending : Option Decided) → SlotOff slot.now kept pending → result ≡ false }
 {
-    running.is_none() && chip.is_on()
+    running.is_none() && slot.is_on()
 }
 
 /// One exchange of a purchase that has its card, or begins. After `AllocError` nothing has changed.
 pub(crate) fn exchange<'s, P: Pages>(
     at: &Payment<'s>,
     lane: &mut Lane<'s>,
-    chip: &mut Chip<'s, P>,
+    slot: &mut Slot<'s, P>,
     host: &mut Host<'s>,
     tally: &mut Tally,
     lines: &mut Lines,
 ) -> Result<(), AllocError>
     requires few { lane.old.ended < 10000 }
-    requires free { (is_none lane.old.running && chip_on chip.old) ≡ false }
+    requires free { (is_none lane.old.running && has_power slot.old) ≡ false }
     requires settings { IsSettings at.now.settings.now }
     requires planned { IsPlanned at.now.planned.now }
     requires name { length at.now.card.now.name.items ≤ 16 }
     requires fits { LaneFits lane.old }
     requires lines { lines.old.items ≡ [] }
-    requires stands { (part : Part) × PartStands (seen_payment host.old.keys host.old.accounts at.now) lane.old chip.old part × HostStands host.old part.messages }
+    requires stands { (part : Part) × PartStands (seen_payment host.old.keys host.old.accounts at.now) lane.old slot.old part × HostStands host.old part.messages }
     ensures led { OnOk result ((part : Part)
-        → PartStands (seen_payment host.old.keys host.old.accounts at.now) lane.old chip.old part → HostStands host.old part.messages
+        → PartStands (seen_payment host.old.keys host.old.accounts at.now) lane.old slot.old part → HostStands host.old part.messages
         → (choice : Bool)
-        × Led (seen_payment host.old.keys host.old.accounts at.now) lane.new chip.new tally.old tally.new lines.new.items part
+        × Led (seen_payment host.old.keys host.old.accounts at.now) lane.new slot.new tally.old tally.new lines.new.items part
         (piece (seen_payment host.old.keys host.old.accounts at.now) part choice)
         × HostStands host.new (piece (seen_payment host.old.keys host.old.accounts at.now) part choice).part.messages) }
-    ensures err { OnErr result (SameLane lane.old lane.new × (chip.new ≡ chip.old) × (host.new ≡ host.old) × (tally.new ≡ tally.old) × (lines.new.items ≡ [])) }
+    ensures err { OnErr result (SameLane lane.old lane.new × (slot.new ≡ slot.old) × (host.new ≡ host.old) × (tally.new ≡ tally.old) × (lines.new.items ≡ [])) }
     ensures keys { host.new.keys ≡ host.old.keys }
     ensures accounts { host.new.accounts ≡ host.old.accounts }
     ensures fits { LaneFits lane.new }
@@ -339,9 +338,9 @@ pub(crate) fn exchange<'s, P: Pages>(
     lane.log.reserve(1)?;
     lane.captures.reserve(1)?;
     match waits_for(&lane.running) {
-        None => begin(at, lane, chip, tally, lines),
-        Some(Next::ToCard) => ask_card(at, lane, chip, tally, lines),
-        Some(Next::ToHost) => ask_host(at, lane, chip, host, tally, lines)?,
+        None => begin(at, lane, slot, tally, lines),
+        Some(Next::ToCard) => ask_card(at, lane, slot, tally, lines),
+        Some(Next::ToHost) => ask_host(at, lane, slot, host, tally, lines)?,
         Some(Next::Ended) => unreachable!(),
     }
     Ok(())

@@ -11,6 +11,7 @@ pub mod lines;
 mod link;
 mod payment;
 mod settlement;
+mod slot;
 pub mod world;
 
 pub use event::Event;

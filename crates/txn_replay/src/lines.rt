@@ -2,7 +2,7 @@
 ghost use Rattle.std.specs.Prelude.{◌≡◌, ◌+◌, ◌≤◌, ◌<◌, ◌++◌, ◌∷◌, [], length, map, option_map, IfSome};
 ghost use Rattle.kernel.specs.Ended.{EndData};
 ghost use Rattle.kernel.specs.Shown.{EndedData, shown as shown_end};
-ghost use Rattle.report_text.specs.declared.line.Line.TheVariants.{Power, PowerTorn, AuditPower, AuditAsk, AuditAnswer};
+ghost use Rattle.report_text.specs.declared.line.Line.TheVariants.{Power, PowerCanned, PowerTorn, AuditPower, AuditAsk, AuditAnswer};
 ghost use Rattle.txn_replay.specs.Lines as spec;
 
 use arrayvec::ArrayVec;
@@ -118,7 +118,7 @@ pub(crate) fn add_answer(lane: u8, command: &[u8], answer: &[u8], lines: &mut Li
     });
 }
 
-/// One behind which the card is gone.
+/// One at which the power is cut.
 pub(crate) fn add_torn(lane: u8, command: &[u8], lines: &mut Lines)
     requires room { length lines.old.items < 7 }
     requires command { length command.now ≤ 261 }
@@ -129,6 +129,19 @@ pub(crate) fn add_torn(lane: u8, command: &[u8], lines: &mut Lines)
         bytes: bytes_of(command),
     });
     lines.push(Line::Torn { lane });
+}
+
+/// One for which no canned answer is left.
+pub(crate) fn add_gone(lane: u8, command: &[u8], lines: &mut Lines)
+    requires room { length lines.old.items < 7 }
+    requires command { length command.now ≤ 261 }
+    ensures { lines.new.items ≡ lines.old.items ++ spec.gone_lines lane command.now }
+{
+    lines.push(Line::ToCard {
+        lane,
+        bytes: bytes_of(command),
+    });
+    lines.push(Line::Gone { lane });
 }
 
 /// A message to the host, and its reply or silence.
@@ -161,6 +174,18 @@ pub(crate) fn add_power(lane: u8, name: &[u8], state: &CardState, lines: &mut Li
         lane,
         card: bytes_of(name),
         apps: shown_all(state),
+    });
+}
+
+/// A card of canned answers is powered up.
+pub(crate) fn add_power_canned(lane: u8, name: &[u8], lines: &mut Lines)
+    requires room { length lines.old.items < 8 }
+    requires name { length name.now ≤ 16 }
+    ensures { lines.new.items ≡ lines.old.items ++ PowerCanned lane (record { items = name.now }) ∷ [] }
+{
+    lines.push(Line::PowerCanned {
+        lane,
+        card: bytes_of(name),
     });
 }
 

@@ -7,7 +7,7 @@ ghost use Rattle.txn_replay.specs.Payment.{payment_in};
 ghost use Rattle.txn_replay.specs.Standing.{seen_payment};
 
 use emv_dict::Settings;
-use scenario::{NamedImage, Scenario};
+use scenario::{NamedCard, Scenario};
 use scenario_lanes::Planned;
 
 /// The lane's index, its terminal's settings, what is planned, and the card.
@@ -16,7 +16,7 @@ pub(crate) struct Payment<'s> {
     pub lane: u8,
     pub settings: &'s Settings,
     pub planned: &'s Planned,
-    pub card: &'s NamedImage,
+    pub card: &'s NamedCard,
 }
 
 /// The lane's purchase of this number, from 0, where it has one.

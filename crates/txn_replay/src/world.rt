@@ -21,8 +21,8 @@ use crate::lane::{Lane, all_ended, are_done, new_lanes};
 use crate::lines::{Lines, add_settlement};
 use crate::payment::payment_at;
 use crate::settlement::settlement;
+use crate::slot::Slot;
 use auth_message::Message;
-use card_app::Chip;
 use emv_dict::{Digits, Ending};
 use emv_ports::Pages;
 use issuer_host::{Host, HostKeys};
@@ -42,7 +42,7 @@ pub struct NoWorld<P: Pages> {
 #[derive(Drop)]
 pub struct World<'s, P: Pages> {
     scenario: &'s Scenario,
-    chips: Vec<Chip<'s, P>>,
+    slots: Vec<Slot<'s, P>>,
     lanes: Vec<Lane<'s>>,
     host: Host<'s>,
     tally: Tally,
@@ -59,7 +59,7 @@ impl<'s, P: Pages> Model for World<'s, P> {
 
     ghost view = { λ w. record {
       scenario = w.scenario.now;
-      chips = w.chips.items;
+      slots = w.slots.items;
       lanes = w.lanes.items;
       host = w.host;
       tally = w.tally;
@@ -68,16 +68,16 @@ impl<'s, P: Pages> Model for World<'s, P> {
 
     ghost invariant = { λ w. IsWhole (record {
       scenario = w.scenario.now;
-      chips = w.chips.items;
+      slots = w.slots.items;
       lanes = w.lanes.items;
       host = w.host;
       tally = w.tally;
       spare = map P.memory w.spare.items;
-    }) × (vec_len w.chips + vec_len w.spare ≤ vec_capacity w.spare) };
+    }) × (vec_len w.slots + vec_len w.spare ≤ vec_capacity w.spare) };
 }
 
 impl<'s, P: Pages> World<'s, P> {
-    /// The run of a scenario begins. Its cards are personalised on the first of the pages, in their order.
+    /// The run of a scenario begins. Its cards take the first of the pages, in their order.
     /// `NoWorld` is want of memory: no later call but `turn` and `settle` takes any.
     pub fn new(
         alloc: Global,
@@ -100,14 +100,14 @@ impl<'s, P: Pages> World<'s, P> {
             return Err(NoWorld { bank });
         };
         let cards = scenario.cards.as_slice();
-        let Ok(mut chips) = Vec::with_capacity(alloc, cards.len()) else {
+        let Ok(mut slots) = Vec::with_capacity(alloc, cards.len()) else {
             return Err(NoWorld { bank });
         };
         let mut spare = bank;
-        take_pages(cards, &mut spare, &mut chips);
+        take_pages(cards, &mut spare, &mut slots);
         Ok(World {
             scenario,
-            chips,
+            slots,
             lanes,
             host,
             tally: Tally::new(),
@@ -136,13 +136,13 @@ impl<'s, P: Pages> World<'s, P> {
             return Ok(false);
         };
         let card = at.planned.card;
-        if is_held(&self.lanes[lane].running, &self.chips[card]) {
+        if is_held(&self.lanes[lane].running, &self.slots[card]) {
             return Ok(false);
         }
         exchange(
             &at,
             &mut self.lanes[lane],
-            &mut self.chips[card],
+            &mut self.slots[card],
             &mut self.host,
             &mut self.tally,
             lines,
@@ -179,8 +179,9 @@ impl<'s, P: Pages> World<'s, P> {
         Ok(true)
     }
 
-    /// The step of the audit of this number, from 0: each card is powered up without a plan, and each of its
-    /// applications is selected and asked for both counters. `false` where there is none, and nothing happens.
+    /// The step of the audit of this number, from 0: each card with applications is powered up without a tear,
+    /// and each of these is selected and asked for both counters. `false` where there is none, and nothing
+    /// happens.
     pub fn audit(&mut self, number: u32, lines: &mut Lines) -> bool
         requires done { is_done self.old ≡ true }
         requires next { IsNext self.old number }
@@ -199,7 +200,7 @@ impl<'s, P: Pages> World<'s, P> {
         let Some(step) = audit_step(scenario.cards.as_slice(), number) else {
             return false;
         };
-        carry_out(step, &mut self.chips[step.index], lines);
+        carry_out(step, &mut self.slots[step.index], lines);
         true
     }
 
@@ -252,17 +253,17 @@ impl<'s, P: Pages> World<'s, P> {
         ensures cards { (w : SpecWorld) → WorldStands self.entry w → BankStands self.entry.scenario w (map P.memory result.0.items) }
         ensures spare { drop (length self.entry.scenario.cards) (map P.memory result.0.items) ≡ self.entry.spare }
         ensures tally { result.1 ≡ self.entry.tally }
-        ensures length { length result.0.items ≡ length self.entry.chips + length self.entry.spare }
+        ensures length { length result.0.items ≡ length self.entry.slots + length self.entry.spare }
     {
         let World {
             scenario: _,
-            chips,
+            slots,
             lanes: _,
             host: _,
             tally,
             spare,
         } = self;
-        (give_pages(chips, spare), tally)
+        (give_pages(slots, spare), tally)
     }
 }
 

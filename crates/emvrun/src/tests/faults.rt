@@ -93,3 +93,69 @@ fn a_refusal_may_fail(rt: HostRuntime) -> Result<(), Fail> {
     assert_eq!(rt; unwritten.marks, 0);
     Ok(())
 }
+
+/// How a run over ports that move a byte a call ended, and what the sink holds.
+#[derive(Drop)]
+struct Slow {
+    status: u8,
+    text: Vec<u8>,
+}
+
+/// The replay of the base payment by such ports. The calls of source and sink with these numbers fail.
+fn slow_run(alloc: Global, fails: (&[u32], &[u32])) -> Result<Slow, Fail> {
+    let words = words_of(alloc, &["replay"])?;
+    let bank = blank_bank(alloc)?;
+    let document = BASE.as_bytes().to_vec(alloc)?;
+    let mut source = MemorySource::slow(document, fails.0.to_vec(alloc)?, 1);
+    let mut sink = MemorySink::slow(alloc, 100_000, fails.1.to_vec(alloc)?, 1)?;
+    let finished = run(alloc, &words, bank, &mut source, &mut sink);
+    Ok(Slow {
+        status: finished.status,
+        text: sink.bytes().to_vec(alloc)?,
+    })
+}
+
+#[test]
+fn a_byte_a_call_gives_the_same_report(rt: HostRuntime) -> Result<(), Fail> {
+    let ended = slow_run(rt.alloc(), (&[], &[]))?;
+    assert_eq!(rt; ended.status, 0);
+    assert_eq!(rt; ended.text.as_slice(), BASE_REPORT.as_bytes());
+    Ok(())
+}
+
+/// The first call, one in the middle and the last one of so many.
+fn calls(count: usize) -> [usize; 3] {
+    [1, count / 2, count]
+}
+
+/// The first bytes of a report, so many.
+fn first_bytes(report: &str, count: usize) -> &[u8] {
+    let bytes = report.as_bytes();
+    if count <= bytes.len() {
+        &bytes[..count]
+    } else {
+        bytes
+    }
+}
+
+#[test]
+fn a_source_may_fail_at_a_byte(rt: HostRuntime) -> Result<(), Fail> {
+    // The call behind the last byte finds the end.
+    for call in calls(BASE.len().saturating_add(1)) {
+        let ended = slow_run(rt.alloc(), (&[call as u32], &[]))?;
+        assert_eq!(rt; ended.status, 3);
+        assert!(rt; ended.text.is_empty());
+    }
+    Ok(())
+}
+
+#[test]
+fn a_sink_may_fail_at_a_byte(rt: HostRuntime) -> Result<(), Fail> {
+    for call in calls(BASE_REPORT.len()) {
+        let ended = slow_run(rt.alloc(), (&[], &[call as u32]))?;
+        assert_eq!(rt; ended.status, 4);
+        let front = first_bytes(BASE_REPORT, call.saturating_sub(1));
+        assert_eq!(rt; ended.text.as_slice(), front);
+    }
+    Ok(())
+}

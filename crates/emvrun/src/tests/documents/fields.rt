@@ -106,8 +106,9 @@ fn the_account_is_read(rt: HostRuntime) {
 fn the_files_of_the_card_are_read(rt: HostRuntime) {
     let scenario = scenario(rt.alloc()).expect(&rt, "a scenario");
     let card = scenario.cards.first().expect(&rt, "a card");
-    assert!(rt; card.name.as_slice() == b"c1".as_slice() && card.image.apps().len() == 1);
-    let app = card.image.apps().first().expect(&rt, "an application");
+    let image = card.kind.image().expect(&rt, "applications");
+    assert!(rt; card.name.as_slice() == b"c1".as_slice() && image.apps().len() == 1);
+    let app = image.apps().first().expect(&rt, "an application");
     assert!(rt;
         app.name.as_slice() == AID.as_slice() && app.label.as_slice() == b"CREDIT".as_slice()
     );
@@ -130,7 +131,8 @@ fn is_record(record: Option<&RecordImage>, number: u8, bytes: &[u8]) -> bool {
 fn the_records_of_the_card_are_read(rt: HostRuntime) {
     let scenario = scenario(rt.alloc()).expect(&rt, "a scenario");
     let card = scenario.cards.first().expect(&rt, "a card");
-    let app = card.image.apps().first().expect(&rt, "an application");
+    let image = card.kind.image().expect(&rt, "applications");
+    let app = image.apps().first().expect(&rt, "an application");
     assert!(rt; app.records.len() == 3);
     assert!(rt; is_record(app.records.get(0), 1, &RECORD_1));
     assert!(rt; is_record(app.records.get(1), 2, &RECORD_2));
@@ -141,7 +143,8 @@ fn the_records_of_the_card_are_read(rt: HostRuntime) {
 fn the_cards_account_and_keys_are_read(rt: HostRuntime) {
     let scenario = scenario(rt.alloc()).expect(&rt, "a scenario");
     let card = scenario.cards.first().expect(&rt, "a card");
-    let app = card.image.apps().first().expect(&rt, "an application");
+    let image = card.kind.image().expect(&rt, "applications");
+    let app = image.apps().first().expect(&rt, "an application");
     assert!(rt; app.pan.as_slice() == PAN.as_slice() && app.sequence == 0x01);
     assert!(rt; app.currency == [0x08, 0x40] && app.tries == 3);
     assert!(rt; app.ac_key.bytes() == CARD_AC_KEY);
@@ -152,13 +155,30 @@ fn the_cards_account_and_keys_are_read(rt: HostRuntime) {
 fn the_card_opens_as_its_keys_say(rt: HostRuntime) {
     let scenario = scenario(rt.alloc()).expect(&rt, "a scenario");
     let card = scenario.cards.first().expect(&rt, "a card");
-    let app = card.image.apps().first().expect(&rt, "an application");
+    let image = card.kind.image().expect(&rt, "applications");
+    let app = image.apps().first().expect(&rt, "an application");
     let state = &app.opening;
     assert!(rt; state.counter == 10 && state.last_online == 9);
     assert!(rt; state.count == 0 && state.sum == 0);
     assert!(rt; state.count_limit == 5 && state.sum_limit == 20_000);
     assert!(rt; state.tries == 3 && !state.blocked && !state.auth_failed);
     assert!(rt; state.pin == [0x24, 0x12, 0x34, 0xFF, 0xFF, 0xFF, 0xFF, 0xFF]);
+}
+
+#[test]
+fn canned_answers_are_read(rt: HostRuntime) {
+    let card = "[[card]]\nname = \"x\"\ncanned = [\"\", \"6985\"]\n\n[[lane]]";
+    let text = replaced(rt.alloc(), BASE, "[[lane]]", card).expect(&rt, "a document");
+    let scenario = read(rt.alloc(), text.as_str())
+        .ok()
+        .expect(&rt, "a scenario");
+    let card = scenario.cards.last().expect(&rt, "a card");
+    assert!(rt; scenario.cards.len() == 2 && card.kind.image().is_none());
+    let answers = card.kind.canned().expect(&rt, "answers");
+    let first = answers.first().expect(&rt, "an answer");
+    let last = answers.last().expect(&rt, "an answer");
+    assert!(rt; answers.len() == 2 && first.is_empty());
+    assert!(rt; last.as_slice() == [0x69, 0x85].as_slice());
 }
 
 #[test]

@@ -4,7 +4,7 @@ use Rattle.scenario.specs.Seen.{seen_card, seen_cards}
 use Rattle.scenario.proofs.CardParts.{cards_keep, card_names_differ}
 use Rattle.scenario.specs.CardRules.{IsNewCard}
 use Rattle.scenario.specs.Cards.{CardData}
-use Rattle.scenario.specs.declared.plan.NamedImage.{NamedImage}
+use Rattle.scenario.specs.declared.plan.NamedCard.{NamedCard}
 use Rattle.issuer_host.specs.declared.keys.HostKeys.{HostKeys}
 use Rattle.toml.proofs.Views.{items_view-drop}
 use Rattle.toml.specs.Data.{Data, Items, item}
@@ -22,7 +22,7 @@ cards_step : (keys : HostKeys) (front earlier : List CardData) (i : ℕ) (d : Da
     with_front (front ++ x ∷ []) (cards_from (i + 1) keys (earlier ++ x ∷ []) ds) ≡ with_front front (cards_from i keys earlier (item d ds))
 cards_step keys front earlier i d ds x is = rw is (front_moved front x (cards_from (i + 1) keys (earlier ++ x ∷ []) ds))
 
-cards_pushed : (keys : HostKeys) (i j : ℕ) (vs : List Value) (v : Value) (old new : List NamedImage) (x : NamedImage) (whole : Result (List CardData) ScenarioFault) →
+cards_pushed : (keys : HostKeys) (i j : ℕ) (vs : List Value) (v : Value) (old new : List NamedCard) (x : NamedCard) (whole : Result (List CardData) ScenarioFault) →
     i < length vs → v ≡ get_or vs i v → j ≡ i → new ≡ old ++ x ∷ [] → card_item j keys (seen_cards old) (view v) ≡ Ok (seen_card x) →
     with_front (seen_cards old) (cards_from i keys (seen_cards old) (items_view (drop i vs))) ≡ whole →
     with_front (seen_cards new) (cards_from (i + 1) keys (seen_cards new) (items_view (drop (i + 1) vs))) ≡ whole
@@ -35,13 +35,13 @@ cards_pushed keys i j vs v old new x whole inside item_is at pushed is before =
 
 pub loop-value-preserved : goal.loop-value-preserved
 loop-value-preserved c = record {
-  cards = cards_keep c.loop-value.cards.items c.push.new.self.items c.in_ok-card.card c.in_ok-push.ensures.items c.loop-value.invariant.cards (subst (λ (cards : List NamedImage). IsNewCard (seen_cards cards) (seen_card c.in_ok-card.card)) c.as_slice.ensures.value c.in_ok-card.ensures.new);
-  names = card_names_differ c.loop-value.cards.items c.push.new.self.items c.in_ok-card.card c.in_ok-push.ensures.items c.loop-value.invariant.names (subst (λ (cards : List NamedImage). IsNewCard (seen_cards cards) (seen_card c.in_ok-card.card)) c.as_slice.ensures.value c.in_ok-card.ensures.new);
+  cards = cards_keep c.loop-value.cards.items c.push.new.self.items c.in_ok-card.card c.in_ok-push.ensures.items c.loop-value.invariant.cards (subst (λ (cards : List NamedCard). IsNewCard (seen_cards cards) (seen_card c.in_ok-card.card)) c.as_slice.ensures.value c.in_ok-card.ensures.new);
+  names = card_names_differ c.loop-value.cards.items c.push.new.self.items c.in_ok-card.card c.in_ok-push.ensures.items c.loop-value.invariant.names (subst (λ (cards : List NamedCard). IsNewCard (seen_cards cards) (seen_card c.in_ok-card.card)) c.as_slice.ensures.value c.in_ok-card.ensures.new);
   count = search rules;
   read =
       cards_pushed c.args.keys.now c.loop-value.value-index c.len.result c.args.values.now
       c.value-item.result c.loop-value.cards.items c.push.new.self.items c.in_ok-card.card _
       c.loop-value-test.true c.value-item.is (omega (arith, c.len.ensures)) c.in_ok-push.ensures.items
-      (subst (λ (cards : List NamedImage). card_item c.len.result c.args.keys.now (seen_cards cards) (view c.value-item.result) ≡ Ok (seen_card c.in_ok-card.card)) c.as_slice.ensures.value c.in_ok-card.ensures.exact)
+      (subst (λ (cards : List NamedCard). card_item c.len.result c.args.keys.now (seen_cards cards) (view c.value-item.result) ≡ Ok (seen_card c.in_ok-card.card)) c.as_slice.ensures.value c.in_ok-card.ensures.exact)
       c.loop-value.invariant.read;
 }

@@ -7,7 +7,7 @@ use Rattle.card_state.specs.Totals.{totals}
 use Rattle.card_state.specs.declared.state.CardState.{CardState}
 use Rattle.report_text.specs.declared.line.Line.{Line}
 use Rattle.report_text.specs.declared.line.Line.TheVariants.{AuditPower}
-use Rattle.scenario.specs.Seen.{seen_card}
+use Rattle.scenario.specs.Seen.{image_of, seen_card}
 use Rattle.txn_replay.specs.Lines.{shown_state}
 use Rattle.txn_replay.proofs.audit.power.Goals as goal
 
@@ -16,8 +16,8 @@ unfolding seen_card
 returns-clause-powered g c = λ row rests same.
     let found = c.in-Ok.ensures.found row.kept row.pending (c.turn_off.ensures.off row rests) in
     let ds : List Decided = found_of row.kept row.pending found.0 in
-    let image : c.power_up.new.self.image ≡ c.args.card.now.image = c.power_up.ensures.image ∙ c.turn_off.ensures.image ∙ same in
-    let state : c.totals.result.now ≡ totals (opening_of c.args.card.now.image) ds =
+    let image : c.power_up.new.self.image ≡ image_of c.args.card.now.kind = c.power_up.ensures.image ∙ c.turn_off.ensures.image ∙ same in
+    let state : c.totals.result.now ≡ totals (opening_of (image_of c.args.card.now.kind)) ds =
     c.totals.ensures.totals [] ds None 0 found.1 ∙ ap (λ (apps : List AppData). totals (opening_of apps) ds) image in (
       found.0,
       found.1,

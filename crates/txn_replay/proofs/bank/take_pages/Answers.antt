@@ -1,39 +1,44 @@
-use Rattle.std.proofs.Common.{◌≡◌, ◌+◌, List, [], ◌∷◌, ◌++◌, length, map, slice_get, Some, sym, ap, ◌∙◌, subst, arith}
+use Rattle.std.proofs.Common.{◌≡◌, ◌+◌, List, [], ◌∷◌, ◌++◌, length, map, get_or, slice_get, Some, sym, ap, ◌∙◌, subst, arith}
 use Rattle.std.specs.List.{All}
-use Rattle.std.specs.Prelude.{option_map}
-use Rattle.std.proofs.lemmas.Option.{slice_get-map}
-use Rattle.card_app.specs.SeenChip.{ChipSeen}
+use Rattle.std.proofs.lemmas.Option.{slice_get_within, get_or_from_slice_get}
 use Rattle.emv_ports.specs.Memory.{IsBlank}
-use Rattle.scenario.specs.declared.plan.NamedImage.{NamedImage}
+use Rattle.scenario.specs.CardRules.{IsKind}
+use Rattle.scenario.specs.Cards.{CardData}
+use Rattle.scenario.specs.Seen.{seen_card, seen_cards}
 use Rattle.txn_replay.specs.Banked.{AreNew}
+use Rattle.txn_replay.specs.Slot.{SlotSeen}
 use Rattle.txn_replay.proofs.Banking.{one_new, first_blank, rest_blank, rest_drop}
+use Rattle.txn_replay.proofs.Checks.{seen_at}
 use Rattle.txn_replay.proofs.Lists.{found_at}
 use Rattle.txn_replay.proofs.bank.take_pages.Goals as goal
 
-pub new-requires-clause-off : goal.new-requires-clause-off
-new-requires-clause-off g c =
-    (first_blank g.P.Pages.memory c.loop-card.bank.items c.remove-pages.result (omega (arith, c.loop-card.bank.ok.0, c.remove-pages.ensures.len)) c.remove-pages.ensures.value
-    c.loop-card.invariant.blank).off
+pub new-requires-clause-kind : goal.new-requires-clause-kind
+new-requires-clause-kind g c =
+    let here : slice_get (seen_cards c.args.cards.now) c.loop-card.card-index ≡ Some (seen_card c.card-item.result) =
+    seen_at c.args.cards.now c.loop-card.card-index c.card-item.result
+    (found_at c.args.cards.now c.loop-card.card-index c.card-item.result c.loop-card-test.true c.card-item.is) in
+    let rules : IsKind (get_or (seen_cards c.args.cards.now) c.loop-card.card-index (seen_card c.card-item.result)).image
+    (get_or (seen_cards c.args.cards.now) c.loop-card.card-index (seen_card c.card-item.result)).canned =
+    c.loop-card.invariant.kinds c.loop-card.card-index (seen_card c.card-item.result)
+    (slice_get_within (seen_cards c.args.cards.now) c.loop-card.card-index (seen_card c.card-item.result) here) in
+    subst (λ (card : CardData). IsKind card.image card.canned)
+    (get_or_from_slice_get (seen_cards c.args.cards.now) c.loop-card.card-index (seen_card c.card-item.result) (seen_card c.card-item.result) here) rules
 
-pub new-requires-clause-plan : goal.new-requires-clause-plan
-new-requires-clause-plan g c =
-    (first_blank g.P.Pages.memory c.loop-card.bank.items c.remove-pages.result (omega (arith, c.loop-card.bank.ok.0, c.remove-pages.ensures.len)) c.remove-pages.ensures.value
-    c.loop-card.invariant.blank).plan
+pub new-requires-clause-blank : goal.new-requires-clause-blank
+new-requires-clause-blank g c =
+    first_blank g.P.Pages.memory c.loop-card.bank.items c.remove-pages.result (omega (arith, c.loop-card.bank.ok.0, c.remove-pages.ensures.len)) c.remove-pages.ensures.value
+    c.loop-card.invariant.blank
 
 pub loop-card-preserved : goal.loop-card-preserved
 loop-card-preserved g c =
-    let blank : IsBlank (g.P.Pages.memory c.remove-pages.result) =
-    first_blank g.P.Pages.memory c.loop-card.bank.items c.remove-pages.result (omega (arith, c.loop-card.bank.ok.0, c.remove-pages.ensures.len)) c.remove-pages.ensures.value
-    c.loop-card.invariant.blank in
-    let here : slice_get (map (λ (card : NamedImage). card.image) c.args.cards.now) (length c.loop-card.chips.items) ≡ Some c.card-item.result.image =
-    slice_get-map (λ (card : NamedImage). card.image) c.args.cards.now (length c.loop-card.chips.items)
-    ∙ ap (λ n. option_map (λ (card : NamedImage). card.image) (slice_get c.args.cards.now n)) (sym c.loop-card.chips.ok.0 ∙ c.loop-card.invariant.count)
-    ∙ ap (option_map (λ (card : NamedImage). card.image)) (found_at c.args.cards.now c.loop-card.card-index c.card-item.result c.loop-card-test.true c.card-item.is) in
-    let more : c.push.new.self.items ≡ c.loop-card.chips.items ++ c.new.result ∷ [] = c.in-Ok.ensures.items in
+    let here : slice_get (seen_cards c.args.cards.now) (length c.loop-card.slots.items) ≡ Some (seen_card c.card-item.result) =
+    ap (λ n. slice_get (seen_cards c.args.cards.now) n) (sym c.loop-card.slots.ok.0 ∙ c.loop-card.invariant.count)
+    ∙ seen_at c.args.cards.now c.loop-card.card-index c.card-item.result
+    (found_at c.args.cards.now c.loop-card.card-index c.card-item.result c.loop-card-test.true c.card-item.is) in
+    let more : c.push.new.self.items ≡ c.loop-card.slots.items ++ c.new.result ∷ [] = c.in-Ok.ensures.items in
     record {
-      new = subst (λ (chips : List ChipSeen). AreNew (map (λ (card : NamedImage). card.image) c.args.cards.now) chips) (sym more)
-          (one_new (map (λ (card : NamedImage). card.image) c.args.cards.now) c.loop-card.chips.items c.card-item.result.image c.new.result c.loop-card.invariant.new here
-          (record { off = c.new.ensures.off; image_is = c.new.ensures.image; losses = c.new.ensures.losses ∙ blank.losses }));
+      new = subst (λ (slots : List SlotSeen). AreNew (seen_cards c.args.cards.now) slots) (sym more)
+          (one_new (seen_cards c.args.cards.now) c.loop-card.slots.items (seen_card c.card-item.result) c.new.result c.loop-card.invariant.new here c.new.ensures.new);
       count = c.in-Ok.ensures.len ∙ ap (λ n. n + 1) c.loop-card.invariant.count;
       fits = omega (arith, c.loop-card.invariant.fits, c.push.ensures.capacity);
       spare =
@@ -42,6 +47,7 @@ loop-card-preserved g c =
       place = omega (arith, c.remove-pages.ensures.len, c.loop-card.invariant.place);
       pages = c.loop-card.invariant.pages;
       capacity = c.remove-pages.ensures.capacity ∙ c.loop-card.invariant.capacity;
+      kinds = c.loop-card.invariant.kinds;
       blank = subst (λ (xs : List g.row.P.Denot). All IsBlank (map g.P.Pages.memory xs)) (sym c.remove-pages.ensures.items)
           (rest_blank g.P.Pages.memory c.loop-card.bank.items c.loop-card.invariant.blank);
     }

@@ -25,10 +25,10 @@ returns-clause-led g c = λ replies part runs stood.
     let lines : c.hear.new.lines.items ≡ host_lines p.lane message reply = told.1 ∙ ap (λ (o : Option (List ℕ)). host_lines p.lane message o) is in
     let more : List Reply = replies ++ from_host reply ∷ [] in
     let after : Part = record part { messages = part.messages ++ delivered p.planned.link message } in
-    let on : PartRuns p c.hear.new.lane c.args.chip.now more after =
-    heard_on p c.args.lane.now c.hear.new.lane c.args.chip.now replies more part (part.messages ++ delivered p.planned.link message) runs stands in
+    let on : PartRuns p c.hear.new.lane c.args.slot.now more after =
+    heard_on p c.args.lane.now c.hear.new.lane c.args.slot.now replies more part (part.messages ++ delivered p.planned.link message) runs stands in
     record {
-      moved = subst (λ (xs : List Line). MovedTo p c.settle.new.lane c.settle.new.chip c.settle.new.lines.items (settled p more after xs)) lines
+      moved = subst (λ (xs : List Line). MovedTo p c.settle.new.lane c.settle.new.slot c.settle.new.lines.items (settled p more after xs)) lines
           (c.settle.ensures.moved p.issuer p.accounts more after on);
       counted = subst (λ (xs : List Line). IsCounted c.args.tally.now c.settle.new.tally part.lane.ended (settled p more after xs).part.lane.ended) lines
           (c.settle.ensures.counted p.issuer p.accounts more after on);

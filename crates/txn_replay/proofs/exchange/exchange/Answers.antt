@@ -1,6 +1,5 @@
 use Rattle.std.proofs.Common.{◌≡◌, ℕ, true, false, List, Some, None, refl, sym, ap, ◌∙◌, subst}
 use Rattle.std.proofs.lemmas.Option.{same_Some}
-use Rattle.card_app.specs.SeenChip.{is_on}
 use Rattle.issuer_host.specs.History.{HostStands}
 use Rattle.kernel.specs.Dialogue.{dialogue}
 use Rattle.kernel.specs.Kernel.{next_of, told_next, told_bytes}
@@ -8,6 +7,7 @@ use Rattle.kernel.specs.declared.kernel.Next.{Next}
 use Rattle.kernel.specs.declared.kernel.Next.TheVariants as next
 use Rattle.txn_replay.specs.Part.{Moved}
 use Rattle.txn_replay.specs.Payment.{deal_for}
+use Rattle.txn_replay.specs.Slot.{is_on}
 use Rattle.txn_replay.specs.Standing.{PartRests, SameLane, Led, seen_payment}
 use Rattle.txn_replay.specs.declared.lane.Lane.{Lane}
 use Rattle.txn_replay.proofs.Pieces.{Running, piece_begins, piece_card, piece_host, card_messages, begun_messages, none_runs, some_runs, free_from, rests_from, runs_from}
@@ -20,9 +20,9 @@ begin-requires-clause-off g c =
     let same : SameLane c.args.lane.now later =
     record { ended = refl; running = refl; log = c.reserve.ensures.items; captures = c.reserve-2.ensures.items; card = refl; ending = refl } in
     let none : c.args.lane.now.running ≡ None = none_runs c.args.lane.now.running next_of (sym c.waits_for.ensures.exact ∙ c.in-None.is) in
-    let off : is_on c.args.chip.now ≡ true → ⊥ = free_from c.args.lane.now.running (is_on c.args.chip.now) none c.requires.free in
-    let rests : PartRests p later c.args.chip.now c.requires.stands.0 =
-    rests_from p c.args.lane.now later c.args.chip.now c.requires.stands.0 c.requires.stands.1 same none off in
+    let off : is_on c.args.slot.now ≡ true → ⊥ = free_from c.args.lane.now.running (is_on c.args.slot.now) none c.requires.free in
+    let rests : PartRests p later c.args.slot.now c.requires.stands.0 =
+    rests_from p c.args.lane.now later c.args.slot.now c.requires.stands.0 c.requires.stands.1 same none off in
     (c.requires.stands.0.card.kept, c.requires.stands.0.card.pending, rests.off)
 
 pub returns-in-None-clause-led : goal.returns-in-None-clause-led
@@ -32,14 +32,14 @@ returns-in-None-clause-led g c = λ part stands stood.
     let same : SameLane c.args.lane.now later =
     record { ended = refl; running = refl; log = c.reserve.ensures.items; captures = c.reserve-2.ensures.items; card = refl; ending = refl } in
     let none : c.args.lane.now.running ≡ None = none_runs c.args.lane.now.running next_of (sym c.waits_for.ensures.exact ∙ c.in-None.is) in
-    let off : is_on c.args.chip.now ≡ true → ⊥ = free_from c.args.lane.now.running (is_on c.args.chip.now) none c.requires.free in
-    let rests : PartRests p later c.args.chip.now part = rests_from p c.args.lane.now later c.args.chip.now part stands same none off in
+    let off : is_on c.args.slot.now ≡ true → ⊥ = free_from c.args.lane.now.running (is_on c.args.slot.now) none c.requires.free in
+    let rests : PartRests p later c.args.slot.now part = rests_from p c.args.lane.now later c.args.slot.now part stands same none off in
     let led = c.begin.ensures.led c.args.host.now.keys c.args.host.now.accounts part rests in
     let is = piece_begins p part led.0 rests.rests rests.free in (
       led.0,
-      subst (λ (m : Moved). Led p c.begin.new.lane c.begin.new.chip c.args.tally.now c.begin.new.tally c.begin.new.lines.items part m) (sym is) led.1,
+      subst (λ (m : Moved). Led p c.begin.new.lane c.begin.new.slot c.args.tally.now c.begin.new.tally c.begin.new.lines.items part m) (sym is) led.1,
       subst (λ (ms : List (List ℕ)). HostStands c.args.host.now ms)
-          (sym (ap (λ (m : Moved). m.part.messages) is ∙ begun_messages p part led.0 _)) stood,
+          (sym (ap (λ (m : Moved). m.part.messages) is ∙ begun_messages p part led.0 p.card.canned)) stood,
     )
 
 pub returns-in-Some-ToCard-clause-led : goal.returns-in-Some-ToCard-clause-led
@@ -49,13 +49,13 @@ returns-in-Some-ToCard-clause-led g c = λ part stands stood.
     let same : SameLane c.args.lane.now later =
     record { ended = refl; running = refl; log = c.reserve.ensures.items; captures = c.reserve-2.ensures.items; card = refl; ending = refl } in
     let kernel = some_runs c.args.lane.now.running next_of next.ToCard (sym c.waits_for.ensures.exact ∙ c.in-Some-ToCard.is ∙ ap (λ (n : Next). Some n) c.in-Some-ToCard.field-0-is) in
-    let run : Running p c.args.lane.now later c.args.chip.now part stands same =
-    runs_from p c.args.lane.now later c.args.chip.now part stands same kernel.0 kernel.1 in
+    let run : Running p c.args.lane.now later c.args.slot.now part stands same =
+    runs_from p c.args.lane.now later c.args.slot.now part stands same kernel.0 kernel.1 in
     let waits : told_next (dialogue (deal_for p) run.replies) ≡ next.ToCard =
     same_Some (told_next (dialogue (deal_for p) run.replies)) next.ToCard (sym (c.waits_for.ensures.told p run.replies run.told) ∙ c.in-Some-ToCard.is ∙ ap (λ (n : Next). Some n) c.in-Some-ToCard.field-0-is) in
     let is = piece_card p part false run.replies run.ran waits in (
       false,
-      subst (λ (m : Moved). Led p c.ask_card.new.lane c.ask_card.new.chip c.args.tally.now c.ask_card.new.tally c.ask_card.new.lines.items part m) (sym is)
+      subst (λ (m : Moved). Led p c.ask_card.new.lane c.ask_card.new.slot c.args.tally.now c.ask_card.new.tally c.ask_card.new.lines.items part m) (sym is)
           (record {
             moved = c.ask_card.ensures.moved c.args.host.now.keys c.args.host.now.accounts run.replies part run.runs;
             counted = c.ask_card.ensures.counted c.args.host.now.keys c.args.host.now.accounts run.replies part run.runs;
@@ -71,13 +71,13 @@ returns-in_ok-ask_host-in-Some-ToHost-clause-led g c = λ part stands stood.
     let same : SameLane c.args.lane.now later =
     record { ended = refl; running = refl; log = c.reserve.ensures.items; captures = c.reserve-2.ensures.items; card = refl; ending = refl } in
     let kernel = some_runs c.args.lane.now.running next_of next.ToHost (sym c.waits_for.ensures.exact ∙ c.in-Some-ToHost.is ∙ ap (λ (n : Next). Some n) c.in-Some-ToHost.field-0-is) in
-    let run : Running p c.args.lane.now later c.args.chip.now part stands same =
-    runs_from p c.args.lane.now later c.args.chip.now part stands same kernel.0 kernel.1 in
+    let run : Running p c.args.lane.now later c.args.slot.now part stands same =
+    runs_from p c.args.lane.now later c.args.slot.now part stands same kernel.0 kernel.1 in
     let waits : told_next (dialogue (deal_for p) run.replies) ≡ next.ToHost =
     same_Some (told_next (dialogue (deal_for p) run.replies)) next.ToHost (sym (c.waits_for.ensures.told p run.replies run.told) ∙ c.in-Some-ToHost.is ∙ ap (λ (n : Next). Some n) c.in-Some-ToHost.field-0-is) in
     let is = piece_host p part false run.replies run.ran waits in (
       false,
-      subst (λ (m : Moved). Led p c.ask_host.new.lane c.ask_host.new.chip c.args.tally.now c.ask_host.new.tally c.ask_host.new.lines.items part m) (sym is)
+      subst (λ (m : Moved). Led p c.ask_host.new.lane c.ask_host.new.slot c.args.tally.now c.ask_host.new.tally c.ask_host.new.lines.items part m) (sym is)
           (c.in_ok-ask_host-in-Some-ToHost.ensures.led run.replies part run.runs stood),
       subst (λ (ms : List (List ℕ)). HostStands c.ask_host.new.host ms) (sym (ap (λ (m : Moved). m.part.messages) is))
           (c.in_ok-ask_host-in-Some-ToHost.ensures.messages run.replies part run.runs stood),

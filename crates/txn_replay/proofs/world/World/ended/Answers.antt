@@ -13,7 +13,7 @@ all_ended-requires g c =
     let stands = c.self.invariant.0.standing.1 in
     let v : WorldSeen = record {
       scenario = c.self.inside.scenario.now;
-      chips = c.self.inside.chips.items;
+      slots = c.self.inside.slots.items;
       lanes = c.self.inside.lanes.items;
       host = c.self.inside.host;
       tally = c.self.inside.tally;
@@ -29,7 +29,7 @@ pub returns : goal.returns
 returns g c = λ w stands.
     let v : WorldSeen = record {
       scenario = c.self.inside.scenario.now;
-      chips = c.self.inside.chips.items;
+      slots = c.self.inside.slots.items;
       lanes = c.self.inside.lanes.items;
       host = c.self.inside.host;
       tally = c.self.inside.tally;

@@ -7,7 +7,7 @@ pub returns : goal.returns
 returns g c = λ w stands.
     let v : WorldSeen = record {
       scenario = c.self.inside.scenario.now;
-      chips = c.self.inside.chips.items;
+      slots = c.self.inside.slots.items;
       lanes = c.self.inside.lanes.items;
       host = c.self.inside.host;
       tally = c.self.inside.tally;

@@ -8,7 +8,7 @@ pub returns-clause-cards : goal.returns-clause-cards
 returns-clause-cards g c = λ w stands.
     let v : WorldSeen = record {
       scenario = c.self.inside.scenario.now;
-      chips = c.self.inside.chips.items;
+      slots = c.self.inside.slots.items;
       lanes = c.self.inside.lanes.items;
       host = c.self.inside.host;
       tally = c.self.inside.tally;
@@ -16,4 +16,4 @@ returns-clause-cards g c = λ w stands.
     } in
     let seen : WorldStands v w = subst (λ (x : WorldSeen). WorldStands x w) (sym c.self.view_is) stands in
     subst (λ (x : WorldSeen). BankStands x.scenario w (map g.P.Pages.memory c.give_pages.result.items)) c.self.view_is
-    (given_stands v w (map g.P.Pages.memory c.give_pages.result.items) seen c.self.invariant.0.chip_count c.give_pages.ensures.given)
+    (given_stands v w (map g.P.Pages.memory c.give_pages.result.items) seen c.self.invariant.0.slot_count c.give_pages.ensures.given)

@@ -1,38 +1,52 @@
-use Rattle.std.proofs.Common.{◌≡◌, List, length, map, sym, ap, ◌∙◌, subst, arith}
+use Rattle.std.proofs.Common.{◌≡◌, ◌≤◌, List, length, map, drop, sym, ap, ◌∙◌, subst, arith}
+use Rattle.std.specs.List.{All}
 use Rattle.std.proofs.lemmas.List.{length-map}
-use Rattle.card_files.specs.Views.{AppData}
+use Rattle.scenario.specs.CardRules.{IsKind}
 use Rattle.scenario.specs.Cards.{CardData}
 use Rattle.scenario.specs.Plan.{ScenarioData}
 use Rattle.scenario.specs.Seen.{seen_card, seen_cards}
-use Rattle.scenario.specs.declared.plan.NamedImage.{NamedImage}
+use Rattle.scenario.specs.declared.plan.NamedCard.{NamedCard}
 use Rattle.txn_replay.specs.Banked.{AreNew}
 use Rattle.txn_replay.specs.Seen.{WorldSeen, WorldStands}
 use Rattle.txn_replay.specs.World.{first_world}
-use Rattle.txn_replay.proofs.Founding.{images_are, first_stands, fit_all}
+use Rattle.txn_replay.proofs.Founding.{first_stands, fit_all}
 use Rattle.txn_replay.proofs.world.World.new.Goals as goal
+
+pub take_pages-requires-clause-kinds : goal.take_pages-requires-clause-kinds
+take_pages-requires-clause-kinds g c =
+    let cards : seen_cards c.as_slice-cards.result.now ≡ c.args.scenario.now.cards =
+    ap (λ (xs : List NamedCard). seen_cards xs) c.as_slice-cards.ensures.value ∙ ap (λ (s : ScenarioData). s.cards) c.scenario.view_is in
+    subst (λ (xs : List CardData). All (λ card. IsKind card.image card.canned) xs) (sym cards) (λ k d within. (c.requires.scenario.tables.cards.each k d within).kind)
+
+pub take_pages-requires-clause-pages : goal.take_pages-requires-clause-pages
+take_pages-requires-clause-pages g c =
+    let cards : seen_cards c.as_slice-cards.result.now ≡ c.args.scenario.now.cards =
+    ap (λ (xs : List NamedCard). seen_cards xs) c.as_slice-cards.ensures.value ∙ ap (λ (s : ScenarioData). s.cards) c.scenario.view_is in
+    let count : length c.args.scenario.now.cards ≡ length c.as_slice-cards.result.now =
+    ap (λ (cs : List CardData). length cs) (sym cards) ∙ length-map c.as_slice-cards.result.now seen_card in
+    let few : length c.args.scenario.now.cards ≤ 64 = c.requires.scenario.tables.cards.few in
+    omega (arith, count, few, c.requires.pages, c.args.bank.ok.0)
 
 pub invariant_of-result : goal.invariant_of-result
 invariant_of-result g c =
     let v : WorldSeen = record {
       scenario = c.args.scenario.now;
-      chips = c.take_pages.new.chips.items;
+      slots = c.take_pages.new.slots.items;
       lanes = c.in-Ok-new_lanes.lanes.items;
       host = c.in-Ok.host;
       tally = c.new-2.result;
       spare = map g.P.Pages.memory c.take_pages.new.bank.items;
     } in
     let cards : seen_cards c.as_slice-cards.result.now ≡ c.args.scenario.now.cards =
-    ap (λ (xs : List NamedImage). seen_cards xs) c.as_slice-cards.ensures.value ∙ ap (λ (s : ScenarioData). s.cards) c.scenario.view_is in
-    let images : map (λ (card : NamedImage). card.image) c.as_slice-cards.result.now ≡ map (λ (card : CardData). card.image) v.scenario.cards =
-    images_are c.as_slice-cards.result.now ∙ ap (λ (cs : List CardData). map (λ (card : CardData). card.image) cs) cards in
+    ap (λ (xs : List NamedCard). seen_cards xs) c.as_slice-cards.ensures.value ∙ ap (λ (s : ScenarioData). s.cards) c.scenario.view_is in
     let stands : WorldStands v (first_world v.scenario) =
-    first_stands v (subst (λ (xs : List (List AppData)). AreNew xs c.take_pages.new.chips.items) images c.take_pages.ensures.new) c.in-Ok-new_lanes.ensures.new
+    first_stands v (subst (λ (xs : List CardData). AreNew xs c.take_pages.new.slots.items) cards c.take_pages.ensures.new) c.in-Ok-new_lanes.ensures.new
     c.in-Ok.ensures.stands c.new-2.ensures in
     let count : length v.scenario.cards ≡ length c.as_slice-cards.result.now =
     ap (λ (cs : List CardData). length cs) (sym cards) ∙ length-map c.as_slice-cards.result.now seen_card in (
       record {
         scenario = c.requires.scenario;
-        chip_count = sym c.take_pages.new.chips.ok.0 ∙ c.take_pages.ensures.count ∙ sym count;
+        slot_count = sym c.take_pages.new.slots.ok.0 ∙ c.take_pages.ensures.count ∙ sym count;
         lane_count =
             sym c.in-Ok-new_lanes.lanes.ok.0 ∙ c.in-Ok-new_lanes.ensures.count ∙ c.len.ensures ∙ c.scenario.inside.lanes.ok.0
             ∙ ap (λ (s : ScenarioData). length s.lanes) c.scenario.view_is;
@@ -48,17 +62,23 @@ pub returns-clause-stands : goal.returns-clause-stands
 returns-clause-stands g c =
     let v : WorldSeen = record {
       scenario = c.args.scenario.now;
-      chips = c.take_pages.new.chips.items;
+      slots = c.take_pages.new.slots.items;
       lanes = c.in-Ok-new_lanes.lanes.items;
       host = c.in-Ok.host;
       tally = c.new-2.result;
       spare = map g.P.Pages.memory c.take_pages.new.bank.items;
     } in
     let cards : seen_cards c.as_slice-cards.result.now ≡ c.args.scenario.now.cards =
-    ap (λ (xs : List NamedImage). seen_cards xs) c.as_slice-cards.ensures.value ∙ ap (λ (s : ScenarioData). s.cards) c.scenario.view_is in
-    let images : map (λ (card : NamedImage). card.image) c.as_slice-cards.result.now ≡ map (λ (card : CardData). card.image) v.scenario.cards =
-    images_are c.as_slice-cards.result.now ∙ ap (λ (cs : List CardData). map (λ (card : CardData). card.image) cs) cards in
+    ap (λ (xs : List NamedCard). seen_cards xs) c.as_slice-cards.ensures.value ∙ ap (λ (s : ScenarioData). s.cards) c.scenario.view_is in
     let stands : WorldStands v (first_world v.scenario) =
-    first_stands v (subst (λ (xs : List (List AppData)). AreNew xs c.take_pages.new.chips.items) images c.take_pages.ensures.new) c.in-Ok-new_lanes.ensures.new
+    first_stands v (subst (λ (xs : List CardData). AreNew xs c.take_pages.new.slots.items) cards c.take_pages.ensures.new) c.in-Ok-new_lanes.ensures.new
     c.in-Ok.ensures.stands c.new-2.ensures in
     stands
+
+pub returns-clause-spare : goal.returns-clause-spare
+returns-clause-spare g c =
+    let cards : seen_cards c.as_slice-cards.result.now ≡ c.args.scenario.now.cards =
+    ap (λ (xs : List NamedCard). seen_cards xs) c.as_slice-cards.ensures.value ∙ ap (λ (s : ScenarioData). s.cards) c.scenario.view_is in
+    let count : length c.args.scenario.now.cards ≡ length c.as_slice-cards.result.now =
+    ap (λ (cs : List CardData). length cs) (sym cards) ∙ length-map c.as_slice-cards.result.now seen_card in
+    c.take_pages.ensures.spare ∙ ap (λ n. drop n (map g.P.Pages.memory c.args.bank.items)) (sym count)

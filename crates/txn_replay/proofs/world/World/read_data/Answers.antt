@@ -10,7 +10,7 @@ pub returns-in-Some : goal.returns-in-Some
 returns-in-Some g c = λ w stands.
     let v : WorldSeen = record {
       scenario = c.self.inside.scenario.now;
-      chips = c.self.inside.chips.items;
+      slots = c.self.inside.slots.items;
       lanes = c.self.inside.lanes.items;
       host = c.self.inside.host;
       tally = c.self.inside.tally;
@@ -28,7 +28,7 @@ pub returns-in-None : goal.returns-in-None
 returns-in-None g c = λ w stands.
     let v : WorldSeen = record {
       scenario = c.self.inside.scenario.now;
-      chips = c.self.inside.chips.items;
+      slots = c.self.inside.slots.items;
       lanes = c.self.inside.lanes.items;
       host = c.self.inside.host;
       tally = c.self.inside.tally;

@@ -13,7 +13,7 @@ pub returns-in_default-clause-past : goal.returns-in_default-clause-past
 returns-in_default-clause-past g c = λ one w stands.
     let v : WorldSeen = record {
       scenario = c.self.inside.scenario.now;
-      chips = c.self.inside.chips.items;
+      slots = c.self.inside.slots.items;
       lanes = c.self.inside.lanes.items;
       host = c.self.inside.host;
       tally = c.self.inside.tally;
@@ -30,7 +30,7 @@ pub returns-in_default-clause-ok : goal.returns-in_default-clause-ok
 returns-in_default-clause-ok g c = λ w stands.
     let v : WorldSeen = record {
       scenario = c.self.inside.scenario.now;
-      chips = c.self.inside.chips.items;
+      slots = c.self.inside.slots.items;
       lanes = c.self.inside.lanes.items;
       host = c.self.inside.host;
       tally = c.self.inside.tally;
@@ -50,7 +50,7 @@ invariant_of-self-2 g c =
     let w = c.self.invariant.0.standing.0 in
     let v : WorldSeen = record {
       scenario = c.self.inside.scenario.now;
-      chips = c.self.inside.chips.items;
+      slots = c.self.inside.slots.items;
       lanes = c.self.inside.lanes.items;
       host = c.self.inside.host;
       tally = c.self.inside.tally;
@@ -77,7 +77,7 @@ invariant_of-self-2 g c =
     c.answer.new.out.items c.add_settlement.new.lines.items here reply lines in (
       record {
         scenario = c.self.invariant.0.scenario;
-        chip_count = c.self.invariant.0.chip_count;
+        slot_count = c.self.invariant.0.slot_count;
         lane_count = c.self.invariant.0.lane_count;
         fits = c.self.invariant.0.fits;
         keys = c.answer.ensures.keys ∙ c.self.invariant.0.keys;
@@ -91,7 +91,7 @@ pub returns-clause-ok : goal.returns-clause-ok
 returns-clause-ok g c = λ w stands.
     let v : WorldSeen = record {
       scenario = c.self.inside.scenario.now;
-      chips = c.self.inside.chips.items;
+      slots = c.self.inside.slots.items;
       lanes = c.self.inside.lanes.items;
       host = c.self.inside.host;
       tally = c.self.inside.tally;
@@ -122,7 +122,7 @@ pub returns-clause-there : goal.returns-clause-there
 returns-clause-there g c = λ one w stands.
     let v : WorldSeen = record {
       scenario = c.self.inside.scenario.now;
-      chips = c.self.inside.chips.items;
+      slots = c.self.inside.slots.items;
       lanes = c.self.inside.lanes.items;
       host = c.self.inside.host;
       tally = c.self.inside.tally;
@@ -144,7 +144,7 @@ returns-clause-few g c = λ one.
     let w = c.self.invariant.0.standing.0 in
     let v : WorldSeen = record {
       scenario = c.self.inside.scenario.now;
-      chips = c.self.inside.chips.items;
+      slots = c.self.inside.slots.items;
       lanes = c.self.inside.lanes.items;
       host = c.self.inside.host;
       tally = c.self.inside.tally;

@@ -3,7 +3,6 @@ use Rattle.std.specs.Prelude.{is_none}
 use Rattle.std.proofs.lemmas.List.{length-set}
 use Rattle.std.proofs.lemmas.List.Elements.{All-set}
 use Rattle.std.proofs.lemmas.Option.{same_Some}
-use Rattle.card_app.specs.SeenChip.{is_on}
 use Rattle.issuer_host.specs.History.{HostData}
 use Rattle.kernel.specs.Tally.{Counts}
 use Rattle.report_text.specs.declared.line.Line.{Line}
@@ -11,6 +10,7 @@ use Rattle.scenario_lanes.specs.Plan.{purchase_count}
 use Rattle.txn_replay.specs.Bounds.{purchases_in}
 use Rattle.txn_replay.specs.Payment.{payment_in, next_of}
 use Rattle.txn_replay.specs.Seen.{WorldSeen, WorldStands, Goes}
+use Rattle.txn_replay.specs.Slot.{is_on}
 use Rattle.txn_replay.specs.Sound.{IsIdle}
 use Rattle.txn_replay.specs.Standing.{PartStands, LaneFits, seen_payment}
 use Rattle.txn_replay.specs.Steps.{part_of}
@@ -28,7 +28,7 @@ pub returns-in_default-clause-ok : goal.returns-in_default-clause-ok
 returns-in_default-clause-ok g c = λ w stands.
     let v : WorldSeen = record {
       scenario = c.self.inside.scenario.now;
-      chips = c.self.inside.chips.items;
+      slots = c.self.inside.slots.items;
       lanes = c.self.inside.lanes.items;
       host = c.self.inside.host;
       tally = c.self.inside.tally;
@@ -49,7 +49,7 @@ pub returns-in_default-clause-idle : goal.returns-in_default-clause-idle
 returns-in_default-clause-idle g c = λ one w stands.
     let v : WorldSeen = record {
       scenario = c.self.inside.scenario.now;
-      chips = c.self.inside.chips.items;
+      slots = c.self.inside.slots.items;
       lanes = c.self.inside.lanes.items;
       host = c.self.inside.host;
       tally = c.self.inside.tally;
@@ -69,7 +69,7 @@ pub returns-then-is_held-clause-ok : goal.returns-then-is_held-clause-ok
 returns-then-is_held-clause-ok g c = λ w stands.
     let v : WorldSeen = record {
       scenario = c.self.inside.scenario.now;
-      chips = c.self.inside.chips.items;
+      slots = c.self.inside.slots.items;
       lanes = c.self.inside.lanes.items;
       host = c.self.inside.host;
       tally = c.self.inside.tally;
@@ -87,14 +87,14 @@ returns-then-is_held-clause-ok g c = λ w stands.
     ap (λ n. payment_in v.scenario l n) (sym ended)
     ∙ sym c.in-Some.ensures.payment
     ∙ (λ i. Some (seen_payment (sym c.self.invariant.0.keys i) (sym c.self.invariant.0.accounts i) c.in-Some.at)) in
-    let card_within : p.planned.card < length v.chips =
+    let card_within : p.planned.card < length v.slots =
     (let below : p.planned.card < length v.scenario.cards = c.in-Some.ensures.card in
-    let count : length v.chips ≡ length v.scenario.cards = c.self.invariant.0.chip_count in omega arith) in
+    let count : length v.slots ≡ length v.scenario.cards = c.self.invariant.0.slot_count in omega arith) in
     let lane_there : slice_get v.lanes l ≡ Some c.index-2.result.now = found_at v.lanes l c.index-2.result.now within c.index-2.ensures in
-    let chip_there : slice_get v.chips p.planned.card ≡ Some c.index-3.result.now =
-    found_at v.chips p.planned.card c.index-3.result.now card_within c.index-3.ensures in
+    let slot_there : slice_get v.slots p.planned.card ≡ Some c.index-3.result.now =
+    found_at v.slots p.planned.card c.index-3.result.now card_within c.index-3.ensures in
     let idle : IsIdle v.scenario w l =
-    idle_held v w seen l p is c.index-2.result.now c.index-3.result.now lane_there chip_there c.is_held.result c.is_held.ensures.exact c.if-is_held.true c.is_held.ensures.off in
+    idle_held v w seen l p is c.index-2.result.now c.index-3.result.now lane_there slot_there c.is_held.result c.is_held.ensures.exact c.if-is_held.true c.is_held.ensures.off in
     subst (λ (ls : List Line). Goes c.args.self.now w (event.Turn l) ls) (sym c.requires.empty)
     (subst (λ (x : WorldSeen). Goes x w (event.Turn l) []) c.self.view_is (idle_goes v w seen l idle))
 
@@ -102,7 +102,7 @@ pub returns-then-is_held-clause-idle : goal.returns-then-is_held-clause-idle
 returns-then-is_held-clause-idle g c = λ one w stands.
     let v : WorldSeen = record {
       scenario = c.self.inside.scenario.now;
-      chips = c.self.inside.chips.items;
+      slots = c.self.inside.slots.items;
       lanes = c.self.inside.lanes.items;
       host = c.self.inside.host;
       tally = c.self.inside.tally;
@@ -120,14 +120,14 @@ returns-then-is_held-clause-idle g c = λ one w stands.
     ap (λ n. payment_in v.scenario l n) (sym ended)
     ∙ sym c.in-Some.ensures.payment
     ∙ (λ i. Some (seen_payment (sym c.self.invariant.0.keys i) (sym c.self.invariant.0.accounts i) c.in-Some.at)) in
-    let card_within : p.planned.card < length v.chips =
+    let card_within : p.planned.card < length v.slots =
     (let below : p.planned.card < length v.scenario.cards = c.in-Some.ensures.card in
-    let count : length v.chips ≡ length v.scenario.cards = c.self.invariant.0.chip_count in omega arith) in
+    let count : length v.slots ≡ length v.scenario.cards = c.self.invariant.0.slot_count in omega arith) in
     let lane_there : slice_get v.lanes l ≡ Some c.index-2.result.now = found_at v.lanes l c.index-2.result.now within c.index-2.ensures in
-    let chip_there : slice_get v.chips p.planned.card ≡ Some c.index-3.result.now =
-    found_at v.chips p.planned.card c.index-3.result.now card_within c.index-3.ensures in
+    let slot_there : slice_get v.slots p.planned.card ≡ Some c.index-3.result.now =
+    found_at v.slots p.planned.card c.index-3.result.now card_within c.index-3.ensures in
     let idle : IsIdle v.scenario w l =
-    idle_held v w seen l p is c.index-2.result.now c.index-3.result.now lane_there chip_there c.is_held.result c.is_held.ensures.exact c.if-is_held.true c.is_held.ensures.off in
+    idle_held v w seen l p is c.index-2.result.now c.index-3.result.now lane_there slot_there c.is_held.result c.is_held.ensures.exact c.if-is_held.true c.is_held.ensures.off in
     subst (λ (x : WorldSeen). IsIdle x.scenario w l) c.self.view_is idle
 
 pub exchange-requires-clause-few : goal.exchange-requires-clause-few
@@ -135,7 +135,7 @@ exchange-requires-clause-few g c =
     let w = c.self.invariant.0.standing.0 in
     let v : WorldSeen = record {
       scenario = c.self.inside.scenario.now;
-      chips = c.self.inside.chips.items;
+      slots = c.self.inside.slots.items;
       lanes = c.self.inside.lanes.items;
       host = c.self.inside.host;
       tally = c.self.inside.tally;
@@ -153,9 +153,9 @@ exchange-requires-clause-few g c =
     ap (λ n. payment_in v.scenario l n) (sym ended)
     ∙ sym c.in-Some.ensures.payment
     ∙ (λ i. Some (seen_payment (sym c.self.invariant.0.keys i) (sym c.self.invariant.0.accounts i) c.in-Some.at)) in
-    let card_within : p.planned.card < length v.chips =
+    let card_within : p.planned.card < length v.slots =
     (let below : p.planned.card < length v.scenario.cards = c.in-Some.ensures.card in
-    let count : length v.chips ≡ length v.scenario.cards = c.self.invariant.0.chip_count in omega arith) in
+    let count : length v.slots ≡ length v.scenario.cards = c.self.invariant.0.slot_count in omega arith) in
     let lane_there : slice_get v.lanes l ≡ Some c.index_mut.result.now = found_at v.lanes l c.index_mut.result.now within c.index_mut.ensures.value in
     let count : c.index_mut.result.now.ended ≡ length (lane_at w l).ended = (seen.lanes l c.index_mut.result.now lane_there).keeps.ended in
     let below : length (lane_at w l).ended < purchases_in (slice_get v.scenario.lanes l) = inside_lane v.scenario l (length (lane_at w l).ended) p is in
@@ -167,7 +167,7 @@ pub exchange-requires-clause-fits : goal.exchange-requires-clause-fits
 exchange-requires-clause-fits g c =
     let v : WorldSeen = record {
       scenario = c.self.inside.scenario.now;
-      chips = c.self.inside.chips.items;
+      slots = c.self.inside.slots.items;
       lanes = c.self.inside.lanes.items;
       host = c.self.inside.host;
       tally = c.self.inside.tally;
@@ -185,7 +185,7 @@ exchange-requires-clause-stands g c =
     let w = c.self.invariant.0.standing.0 in
     let v : WorldSeen = record {
       scenario = c.self.inside.scenario.now;
-      chips = c.self.inside.chips.items;
+      slots = c.self.inside.slots.items;
       lanes = c.self.inside.lanes.items;
       host = c.self.inside.host;
       tally = c.self.inside.tally;
@@ -203,14 +203,14 @@ exchange-requires-clause-stands g c =
     ap (λ n. payment_in v.scenario l n) (sym ended)
     ∙ sym c.in-Some.ensures.payment
     ∙ (λ i. Some (seen_payment (sym c.self.invariant.0.keys i) (sym c.self.invariant.0.accounts i) c.in-Some.at)) in
-    let card_within : p.planned.card < length v.chips =
+    let card_within : p.planned.card < length v.slots =
     (let below : p.planned.card < length v.scenario.cards = c.in-Some.ensures.card in
-    let count : length v.chips ≡ length v.scenario.cards = c.self.invariant.0.chip_count in omega arith) in
+    let count : length v.slots ≡ length v.scenario.cards = c.self.invariant.0.slot_count in omega arith) in
     let lane_there : slice_get v.lanes l ≡ Some c.index_mut.result.now = found_at v.lanes l c.index_mut.result.now within c.index_mut.ensures.value in
-    let chip_there : slice_get v.chips p.planned.card ≡ Some c.index_mut-2.result.now =
-    found_at v.chips p.planned.card c.index_mut-2.result.now card_within c.index_mut-2.ensures.value in
+    let slot_there : slice_get v.slots p.planned.card ≡ Some c.index_mut-2.result.now =
+    found_at v.slots p.planned.card c.index_mut-2.result.now card_within c.index_mut-2.ensures.value in
     let part : PartStands p c.index_mut.result.now c.index_mut-2.result.now (part_of w l p.planned.card) =
-    part_stands v w seen l p is c.index_mut.result.now c.index_mut-2.result.now lane_there chip_there in
+    part_stands v w seen l p is c.index_mut.result.now c.index_mut-2.result.now lane_there slot_there in
     (part_of w l p.planned.card, part, seen.messages)
 
 pub invariant_of-self : goal.invariant_of-self
@@ -218,7 +218,7 @@ invariant_of-self g c =
     let w = c.self.invariant.0.standing.0 in
     let v : WorldSeen = record {
       scenario = c.self.inside.scenario.now;
-      chips = c.self.inside.chips.items;
+      slots = c.self.inside.slots.items;
       lanes = c.self.inside.lanes.items;
       host = c.self.inside.host;
       tally = c.self.inside.tally;
@@ -236,36 +236,36 @@ invariant_of-self g c =
     ap (λ n. payment_in v.scenario l n) (sym ended)
     ∙ sym c.in-Some.ensures.payment
     ∙ (λ i. Some (seen_payment (sym c.self.invariant.0.keys i) (sym c.self.invariant.0.accounts i) c.in-Some.at)) in
-    let card_within : p.planned.card < length v.chips =
+    let card_within : p.planned.card < length v.slots =
     (let below : p.planned.card < length v.scenario.cards = c.in-Some.ensures.card in
-    let count : length v.chips ≡ length v.scenario.cards = c.self.invariant.0.chip_count in omega arith) in
+    let count : length v.slots ≡ length v.scenario.cards = c.self.invariant.0.slot_count in omega arith) in
     let lane_there : slice_get v.lanes l ≡ Some c.index_mut.result.now = found_at v.lanes l c.index_mut.result.now within c.index_mut.ensures.value in
-    let chip_there : slice_get v.chips p.planned.card ≡ Some c.index_mut-2.result.now =
-    found_at v.chips p.planned.card c.index_mut-2.result.now card_within c.index_mut-2.ensures.value in
+    let slot_there : slice_get v.slots p.planned.card ≡ Some c.index_mut-2.result.now =
+    found_at v.slots p.planned.card c.index_mut-2.result.now card_within c.index_mut-2.ensures.value in
     let part : PartStands p c.index_mut.result.now c.index_mut-2.result.now (part_of w l p.planned.card) =
-    part_stands v w seen l p is c.index_mut.result.now c.index_mut-2.result.now lane_there chip_there in
+    part_stands v w seen l p is c.index_mut.result.now c.index_mut-2.result.now lane_there slot_there in
     let err = c.in_err-exchange.ensures.err in
     let same : WorldStands (record v {
-      chips = slice_set v.chips p.planned.card c.exchange.new.chip;
+      slots = slice_set v.slots p.planned.card c.exchange.new.slot;
       lanes = slice_set v.lanes l c.exchange.new.lane;
       host = c.exchange.new.host;
       tally = c.exchange.new.tally;
     }) w =
     subst (λ (h : HostData). WorldStands (record v {
-      chips = slice_set v.chips p.planned.card c.exchange.new.chip;
+      slots = slice_set v.slots p.planned.card c.exchange.new.slot;
       lanes = slice_set v.lanes l c.exchange.new.lane;
       host = h;
       tally = c.exchange.new.tally;
     }) w) (sym err.2)
     (subst (λ (t : Counts). WorldStands (record v {
-      chips = slice_set v.chips p.planned.card c.exchange.new.chip;
+      slots = slice_set v.slots p.planned.card c.exchange.new.slot;
       lanes = slice_set v.lanes l c.exchange.new.lane;
       tally = t;
     }) w) (sym err.3)
-    (same_stands v w seen l p.planned.card c.index_mut.result.now c.exchange.new.lane c.index_mut-2.result.now c.exchange.new.chip lane_there chip_there err.0 err.1)) in (
+    (same_stands v w seen l p.planned.card c.index_mut.result.now c.exchange.new.lane c.index_mut-2.result.now c.exchange.new.slot lane_there slot_there err.0 err.1)) in (
       record {
         scenario = c.self.invariant.0.scenario;
-        chip_count = length-set v.chips p.planned.card c.exchange.new.chip ∙ c.self.invariant.0.chip_count;
+        slot_count = length-set v.slots p.planned.card c.exchange.new.slot ∙ c.self.invariant.0.slot_count;
         lane_count = length-set v.lanes l c.exchange.new.lane ∙ c.self.invariant.0.lane_count;
         fits = All-set LaneFits v.lanes l c.exchange.new.lane c.exchange.ensures.fits c.self.invariant.0.fits;
         keys = c.exchange.ensures.keys ∙ c.self.invariant.0.keys;
@@ -280,7 +280,7 @@ returns-in_err-exchange-clause-err g c =
     on_err c.from_residual.result (λ w stands.
     let v : WorldSeen = record {
       scenario = c.self.inside.scenario.now;
-      chips = c.self.inside.chips.items;
+      slots = c.self.inside.slots.items;
       lanes = c.self.inside.lanes.items;
       host = c.self.inside.host;
       tally = c.self.inside.tally;
@@ -298,33 +298,33 @@ returns-in_err-exchange-clause-err g c =
     ap (λ n. payment_in v.scenario l n) (sym ended)
     ∙ sym c.in-Some.ensures.payment
     ∙ (λ i. Some (seen_payment (sym c.self.invariant.0.keys i) (sym c.self.invariant.0.accounts i) c.in-Some.at)) in
-    let card_within : p.planned.card < length v.chips =
+    let card_within : p.planned.card < length v.slots =
     (let below : p.planned.card < length v.scenario.cards = c.in-Some.ensures.card in
-    let count : length v.chips ≡ length v.scenario.cards = c.self.invariant.0.chip_count in omega arith) in
+    let count : length v.slots ≡ length v.scenario.cards = c.self.invariant.0.slot_count in omega arith) in
     let lane_there : slice_get v.lanes l ≡ Some c.index_mut.result.now = found_at v.lanes l c.index_mut.result.now within c.index_mut.ensures.value in
-    let chip_there : slice_get v.chips p.planned.card ≡ Some c.index_mut-2.result.now =
-    found_at v.chips p.planned.card c.index_mut-2.result.now card_within c.index_mut-2.ensures.value in
+    let slot_there : slice_get v.slots p.planned.card ≡ Some c.index_mut-2.result.now =
+    found_at v.slots p.planned.card c.index_mut-2.result.now card_within c.index_mut-2.ensures.value in
     let part : PartStands p c.index_mut.result.now c.index_mut-2.result.now (part_of w l p.planned.card) =
-    part_stands v w seen l p is c.index_mut.result.now c.index_mut-2.result.now lane_there chip_there in
+    part_stands v w seen l p is c.index_mut.result.now c.index_mut-2.result.now lane_there slot_there in
     let err = c.in_err-exchange.ensures.err in
     let same : WorldStands (record v {
-      chips = slice_set v.chips p.planned.card c.exchange.new.chip;
+      slots = slice_set v.slots p.planned.card c.exchange.new.slot;
       lanes = slice_set v.lanes l c.exchange.new.lane;
       host = c.exchange.new.host;
       tally = c.exchange.new.tally;
     }) w =
     subst (λ (h : HostData). WorldStands (record v {
-      chips = slice_set v.chips p.planned.card c.exchange.new.chip;
+      slots = slice_set v.slots p.planned.card c.exchange.new.slot;
       lanes = slice_set v.lanes l c.exchange.new.lane;
       host = h;
       tally = c.exchange.new.tally;
     }) w) (sym err.2)
     (subst (λ (t : Counts). WorldStands (record v {
-      chips = slice_set v.chips p.planned.card c.exchange.new.chip;
+      slots = slice_set v.slots p.planned.card c.exchange.new.slot;
       lanes = slice_set v.lanes l c.exchange.new.lane;
       tally = t;
     }) w) (sym err.3)
-    (same_stands v w seen l p.planned.card c.index_mut.result.now c.exchange.new.lane c.index_mut-2.result.now c.exchange.new.chip lane_there chip_there err.0 err.1)) in
+    (same_stands v w seen l p.planned.card c.index_mut.result.now c.exchange.new.lane c.index_mut-2.result.now c.exchange.new.slot lane_there slot_there err.0 err.1)) in
     same)
 
 pub invariant_of-self-2 : goal.invariant_of-self-2
@@ -332,7 +332,7 @@ invariant_of-self-2 g c =
     let w = c.self.invariant.0.standing.0 in
     let v : WorldSeen = record {
       scenario = c.self.inside.scenario.now;
-      chips = c.self.inside.chips.items;
+      slots = c.self.inside.slots.items;
       lanes = c.self.inside.lanes.items;
       host = c.self.inside.host;
       tally = c.self.inside.tally;
@@ -350,33 +350,33 @@ invariant_of-self-2 g c =
     ap (λ n. payment_in v.scenario l n) (sym ended)
     ∙ sym c.in-Some.ensures.payment
     ∙ (λ i. Some (seen_payment (sym c.self.invariant.0.keys i) (sym c.self.invariant.0.accounts i) c.in-Some.at)) in
-    let card_within : p.planned.card < length v.chips =
+    let card_within : p.planned.card < length v.slots =
     (let below : p.planned.card < length v.scenario.cards = c.in-Some.ensures.card in
-    let count : length v.chips ≡ length v.scenario.cards = c.self.invariant.0.chip_count in omega arith) in
+    let count : length v.slots ≡ length v.scenario.cards = c.self.invariant.0.slot_count in omega arith) in
     let lane_there : slice_get v.lanes l ≡ Some c.index_mut.result.now = found_at v.lanes l c.index_mut.result.now within c.index_mut.ensures.value in
-    let chip_there : slice_get v.chips p.planned.card ≡ Some c.index_mut-2.result.now =
-    found_at v.chips p.planned.card c.index_mut-2.result.now card_within c.index_mut-2.ensures.value in
+    let slot_there : slice_get v.slots p.planned.card ≡ Some c.index_mut-2.result.now =
+    found_at v.slots p.planned.card c.index_mut-2.result.now card_within c.index_mut-2.ensures.value in
     let part : PartStands p c.index_mut.result.now c.index_mut-2.result.now (part_of w l p.planned.card) =
-    part_stands v w seen l p is c.index_mut.result.now c.index_mut-2.result.now lane_there chip_there in
+    part_stands v w seen l p is c.index_mut.result.now c.index_mut-2.result.now lane_there slot_there in
     let lane_is : c.index-2.result.now ≡ c.index_mut.result.now =
     same_Some c.index-2.result.now c.index_mut.result.now (sym (found_at v.lanes l c.index-2.result.now within c.index-2.ensures) ∙ lane_there) in
-    let chip_is : c.index-3.result.now ≡ c.index_mut-2.result.now =
-    same_Some c.index-3.result.now c.index_mut-2.result.now (sym (found_at v.chips p.planned.card c.index-3.result.now card_within c.index-3.ensures) ∙ chip_there) in
+    let slot_is : c.index-3.result.now ≡ c.index_mut-2.result.now =
+    same_Some c.index-3.result.now c.index_mut-2.result.now (sym (found_at v.slots p.planned.card c.index-3.result.now card_within c.index-3.ensures) ∙ slot_there) in
     let free : (is_none c.index_mut.result.now.running && is_on c.index_mut-2.result.now) ≡ false =
-    (λ i. is_none (sym lane_is i).running && is_on (sym chip_is i)) ∙ sym c.is_held.ensures.exact ∙ c.if-is_held.false in
+    (λ i. is_none (sym lane_is i).running && is_on (sym slot_is i)) ∙ sym c.is_held.ensures.exact ∙ c.if-is_held.false in
     let led = c.in_ok-exchange.ensures.led (part_of w l p.planned.card) part seen.messages in
     let goes : Goes (record v {
-      chips = slice_set v.chips p.planned.card c.exchange.new.chip;
+      slots = slice_set v.slots p.planned.card c.exchange.new.slot;
       lanes = slice_set v.lanes l c.exchange.new.lane;
       host = c.exchange.new.host;
       tally = c.exchange.new.tally;
     }) w (event.Turn l) c.exchange.new.lines.items =
-    turn_goes v w seen l p is c.index_mut.result.now c.index_mut-2.result.now lane_there chip_there c.exchange.new.lane c.exchange.new.chip c.exchange.new.host
+    turn_goes v w seen l p is c.index_mut.result.now c.index_mut-2.result.now lane_there slot_there c.exchange.new.lane c.exchange.new.slot c.exchange.new.host
     c.exchange.new.tally c.exchange.new.lines.items led.0 led.1 led.2
-    (free_holder v w seen l p is c.index_mut.result.now c.index_mut-2.result.now lane_there chip_there part free) in (
+    (free_holder v w seen l p is c.index_mut.result.now c.index_mut-2.result.now lane_there slot_there part free) in (
       record {
         scenario = c.self.invariant.0.scenario;
-        chip_count = length-set v.chips p.planned.card c.exchange.new.chip ∙ c.self.invariant.0.chip_count;
+        slot_count = length-set v.slots p.planned.card c.exchange.new.slot ∙ c.self.invariant.0.slot_count;
         lane_count = length-set v.lanes l c.exchange.new.lane ∙ c.self.invariant.0.lane_count;
         fits = All-set LaneFits v.lanes l c.exchange.new.lane c.exchange.ensures.fits c.self.invariant.0.fits;
         keys = c.exchange.ensures.keys ∙ c.self.invariant.0.keys;
@@ -390,7 +390,7 @@ pub returns-clause-ok : goal.returns-clause-ok
 returns-clause-ok g c = λ w stands.
     let v : WorldSeen = record {
       scenario = c.self.inside.scenario.now;
-      chips = c.self.inside.chips.items;
+      slots = c.self.inside.slots.items;
       lanes = c.self.inside.lanes.items;
       host = c.self.inside.host;
       tally = c.self.inside.tally;
@@ -408,28 +408,28 @@ returns-clause-ok g c = λ w stands.
     ap (λ n. payment_in v.scenario l n) (sym ended)
     ∙ sym c.in-Some.ensures.payment
     ∙ (λ i. Some (seen_payment (sym c.self.invariant.0.keys i) (sym c.self.invariant.0.accounts i) c.in-Some.at)) in
-    let card_within : p.planned.card < length v.chips =
+    let card_within : p.planned.card < length v.slots =
     (let below : p.planned.card < length v.scenario.cards = c.in-Some.ensures.card in
-    let count : length v.chips ≡ length v.scenario.cards = c.self.invariant.0.chip_count in omega arith) in
+    let count : length v.slots ≡ length v.scenario.cards = c.self.invariant.0.slot_count in omega arith) in
     let lane_there : slice_get v.lanes l ≡ Some c.index_mut.result.now = found_at v.lanes l c.index_mut.result.now within c.index_mut.ensures.value in
-    let chip_there : slice_get v.chips p.planned.card ≡ Some c.index_mut-2.result.now =
-    found_at v.chips p.planned.card c.index_mut-2.result.now card_within c.index_mut-2.ensures.value in
+    let slot_there : slice_get v.slots p.planned.card ≡ Some c.index_mut-2.result.now =
+    found_at v.slots p.planned.card c.index_mut-2.result.now card_within c.index_mut-2.ensures.value in
     let part : PartStands p c.index_mut.result.now c.index_mut-2.result.now (part_of w l p.planned.card) =
-    part_stands v w seen l p is c.index_mut.result.now c.index_mut-2.result.now lane_there chip_there in
+    part_stands v w seen l p is c.index_mut.result.now c.index_mut-2.result.now lane_there slot_there in
     let lane_is : c.index-2.result.now ≡ c.index_mut.result.now =
     same_Some c.index-2.result.now c.index_mut.result.now (sym (found_at v.lanes l c.index-2.result.now within c.index-2.ensures) ∙ lane_there) in
-    let chip_is : c.index-3.result.now ≡ c.index_mut-2.result.now =
-    same_Some c.index-3.result.now c.index_mut-2.result.now (sym (found_at v.chips p.planned.card c.index-3.result.now card_within c.index-3.ensures) ∙ chip_there) in
+    let slot_is : c.index-3.result.now ≡ c.index_mut-2.result.now =
+    same_Some c.index-3.result.now c.index_mut-2.result.now (sym (found_at v.slots p.planned.card c.index-3.result.now card_within c.index-3.ensures) ∙ slot_there) in
     let free : (is_none c.index_mut.result.now.running && is_on c.index_mut-2.result.now) ≡ false =
-    (λ i. is_none (sym lane_is i).running && is_on (sym chip_is i)) ∙ sym c.is_held.ensures.exact ∙ c.if-is_held.false in
+    (λ i. is_none (sym lane_is i).running && is_on (sym slot_is i)) ∙ sym c.is_held.ensures.exact ∙ c.if-is_held.false in
     let led = c.in_ok-exchange.ensures.led (part_of w l p.planned.card) part seen.messages in
     let goes : Goes (record v {
-      chips = slice_set v.chips p.planned.card c.exchange.new.chip;
+      slots = slice_set v.slots p.planned.card c.exchange.new.slot;
       lanes = slice_set v.lanes l c.exchange.new.lane;
       host = c.exchange.new.host;
       tally = c.exchange.new.tally;
     }) w (event.Turn l) c.exchange.new.lines.items =
-    turn_goes v w seen l p is c.index_mut.result.now c.index_mut-2.result.now lane_there chip_there c.exchange.new.lane c.exchange.new.chip c.exchange.new.host
+    turn_goes v w seen l p is c.index_mut.result.now c.index_mut-2.result.now lane_there slot_there c.exchange.new.lane c.exchange.new.slot c.exchange.new.host
     c.exchange.new.tally c.exchange.new.lines.items led.0 led.1 led.2
-    (free_holder v w seen l p is c.index_mut.result.now c.index_mut-2.result.now lane_there chip_there part free) in
+    (free_holder v w seen l p is c.index_mut.result.now c.index_mut-2.result.now lane_there slot_there part free) in
     goes

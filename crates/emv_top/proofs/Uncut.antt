@@ -1,0 +1,84 @@
+-- A card whose power no tear cuts has no open decision behind an exchange.
+use Rattle.std.proofs.Common.{◌≡◌, ℕ, ◌+◌, Bool, true, false, List, [], ◌∷◌, ◌++◌, slice_get, Option, Some, None, option_map, refl, ap, ◌∙◌}
+use Rattle.card_app.specs.Answering.{card_answer}
+use Rattle.card_pages.specs.Cuts.{Cut, cut_of, behind_one}
+use Rattle.card_pages.specs.Pages.{found_of}
+use Rattle.card_pages.specs.Replies.{CardAnswer}
+use Rattle.card_state.specs.Decisions.{Decided}
+use Rattle.emv_ports.specs.Cut.{is_named}
+use Rattle.emv_ports.specs.declared.tear.Tear.{Tear}
+use Rattle.kernel.specs.Dialogue.{dialogue}
+use Rattle.kernel.specs.Ended.{EndData}
+use Rattle.kernel.specs.Reply.{Reply, CardSaid, CardGone, Deed, ToCard, ToHost, Over}
+use Rattle.report_text.specs.declared.line.Line.{Line}
+use Rattle.txn_replay.specs.Changes.{powered, exchanged, told_once}
+use Rattle.txn_replay.specs.Lines.{answer_lines, gone_lines}
+use Rattle.txn_replay.specs.Part.{Part, settled_by, cut_ends, answered, canned_by, asked_by, asked, begun, begun_by, begun_with, piece_by, piece}
+use Rattle.txn_replay.specs.Payment.{Payment, deal_for, end_at}
+use Rattle.txn_replay.specs.World.{Holder, CardRow}
+use Rattle.txn_replay.proofs.Moves.{this_one}
+
+abbrev pub IsSettled : CardRow → Type 0
+IsSettled row = row.pending ≡ None
+
+none_cut : (made : ℕ) (ds : List Decided) → cut_of None made ds ≡ None
+unfolding cut_of
+none_cut made [] = refl
+none_cut made (d ∷ ds) = ap (λ (o : Option Cut). option_map (behind_one d) o) (none_cut (made + 1) ds)
+
+module _ (p : Payment) (part : Part) (spared : p.card.canned ≡ None → p.planned.tear ≡ None) (before : IsSettled part.card) where
+  settled_card : (replies : List Reply) (card : CardRow) (messages : List (List ℕ)) (lines : List Line) (e : Option EndData) → IsSettled card
+      → IsSettled (settled_by p replies (record { lane = part.lane; card = card; messages = messages }) lines e).part.card
+  settled_card replies card messages lines None here = here
+  settled_card replies card messages lines (Some end) here = here
+
+  answer_card : (replies : List Reply) (command : List ℕ) (said : CardAnswer) (cut : Option Cut) → cut ≡ None → IsSettled (answered p replies command part said cut).part.card
+  answer_card replies command said None none =
+      settled_card (replies ++ CardSaid said.answer part.lane.log ∷ []) (exchanged p.card.image part.card command said) part.messages
+      (answer_lines p.lane command said.answer) (end_at p (replies ++ CardSaid said.answer part.lane.log ∷ [])) before
+  answer_card replies command said (Some cut) none = absurd (cc)
+
+  gone_card : (replies : List Reply) (lines : List Line) (e : Option EndData)
+      → IsSettled (cut_ends p replies part (record part { card = part.card }) lines e).part.card
+  gone_card replies lines None = before
+  gone_card replies lines (Some end) = before
+
+  tell_card : (replies : List Reply) (command : List ℕ) (o : Option (List ℕ)) → IsSettled (canned_by p replies command part o).part.card
+  tell_card replies command (Some answer) =
+      settled_card (replies ++ CardSaid answer part.lane.log ∷ []) (told_once part.card) part.messages (answer_lines p.lane command answer)
+      (end_at p (replies ++ CardSaid answer part.lane.log ∷ [])) before
+  tell_card replies command None = gone_card (replies ++ CardGone ∷ []) (gone_lines p.lane command) (end_at p (replies ++ CardGone ∷ []))
+
+  kind_card : (replies : List Reply) (command : List ℕ) (o : Option (List (List ℕ))) → p.card.canned ≡ o → IsSettled (asked_by p replies command part o).part.card
+  kind_card replies command None is =
+      answer_card replies command (card_answer p.card.image part.card.kept part.card.session command)
+      (cut_of p.planned.tear part.card.made (card_answer p.card.image part.card.kept part.card.session command).new)
+      (ap (λ (tear : Option Tear). cut_of tear part.card.made (card_answer p.card.image part.card.kept part.card.session command).new) (spared is)
+      ∙ none_cut part.card.made (card_answer p.card.image part.card.kept part.card.session command).new)
+  kind_card replies command (Some answers) is = tell_card replies command (slice_get answers part.card.told)
+
+  ask_card : (replies : List Reply) (deed : Deed) → IsSettled (asked p replies part deed).part.card
+  ask_card replies (ToCard command) = kind_card replies command p.card.canned refl
+  ask_card replies (ToHost message) = settled_card _ part.card _ _ _ before
+  ask_card replies (Over ending) = before
+
+  begin_card : (choice torn_there : Bool) → torn_there ≡ false → IsSettled (begun_by p part choice torn_there).part.card
+  begin_card choice true none = absurd (cc)
+  begin_card choice false none =
+      settled_card [] (powered part.card (found_of part.card.kept part.card.pending choice) (Some (this_one p part))) part.messages _ (end_at p []) refl
+
+  kind_begins : (choice : Bool) (o : Option (List (List ℕ))) → p.card.canned ≡ o → IsSettled (begun_with p part choice o).part.card
+  kind_begins choice None is = begin_card choice (is_named p.planned.tear 0) (ap (λ (tear : Option Tear). is_named tear 0) (spared is))
+  kind_begins choice (Some answers) is =
+      settled_card [] (powered part.card (found_of part.card.kept part.card.pending false) (Some (this_one p part))) part.messages _ (end_at p []) refl
+
+  pub piece_card : (choice : Bool) → IsSettled (piece p part choice).part.card
+  piece_card choice = by_lane part.lane.running
+    where
+      begins : (o : Option Holder) → IsSettled (begun p part choice o).part.card
+      begins None = kind_begins choice p.card.canned refl
+      begins (Some h) = before
+
+      by_lane : (o : Option (List Reply)) → IsSettled (piece_by p part choice o).part.card
+      by_lane None = begins part.card.holder
+      by_lane (Some replies) = ask_card replies (dialogue (deal_for p) replies).deed
