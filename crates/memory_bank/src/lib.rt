@@ -1,11 +1,11 @@
-//! A bank of pages in memory, for the cards of a run.
+//! Banks of pages in memory, for the cards of a run.
 #![tactic(auto)]
 
 ghost use Rattle.std.specs.Prelude.{◌≡◌, IfOk, length, map};
 ghost use Rattle.std.specs.List.{All};
 ghost use Rattle.emv_ports.specs.Memory.{IsBlank};
 
-use emv_ports::{Held, MemoryPages};
+use emv_ports::{Held, MemoryPages, RoughPages};
 use std::alloc::{AllocError, Global};
 
 /// A run has pages for so many cards.
@@ -20,6 +20,18 @@ pub fn blank_bank(alloc: Global) -> Result<Vec<Held<MemoryPages>>, AllocError>
     let mut bank = Vec::with_capacity(alloc, CARDS)?;
     for _card in 0..CARDS {
         bank.push(Held::new(alloc, MemoryPages::blank())?)?;
+    }
+    Ok(bank)
+}
+
+/// The same of pages whose unsure cells give bytes that follow from `word`, as `RoughPages` does.
+pub fn rough_bank(alloc: Global, word: u32) -> Result<Vec<Held<RoughPages>>, AllocError>
+    ensures pages { IfOk result (λ bank. length bank.items ≡ 64) }
+    ensures blank { IfOk result (λ bank. All IsBlank (map (λ pages. pages.memory) bank.items)) }
+{
+    let mut bank = Vec::with_capacity(alloc, CARDS)?;
+    for _card in 0..CARDS {
+        bank.push(Held::new(alloc, RoughPages::blank(word))?)?;
     }
     Ok(bank)
 }
