@@ -11,8 +11,8 @@ use Rattle.emv_ports.specs.Reading.{ReadsUpTo}
 use Rattle.emv_top.specs.Answers.{AnswersRead, AnswersWords, IsRefused, SinkCount, SourceCount}
 use Rattle.emv_top.specs.Input.{IsInput, served}
 use Rattle.emv_top.specs.StatusCode.{code_of}
-use Rattle.emv_top.specs.declared.top.Status.{Status}
-use Rattle.emv_top.specs.declared.top.Status.TheVariants.{Done, Refused, Usage, ReadFault, WriteFault, OutOfMemory}
+use Rattle.emv_top.specs.declared.status.Status.{Status}
+use Rattle.emv_top.specs.declared.status.Status.TheVariants.{Done, Refused, Usage, ReadFault, WriteFault, OutOfMemory}
 use Rattle.emv_top.specs.declared.words.Order.{Order}
 use Rattle.kernel.specs.Tally.{Counts}
 use Rattle.scenario.specs.Plan.{ScenarioData}

@@ -6,11 +6,11 @@ use Rattle.emv_ports.specs.Memory.{Memory}
 use Rattle.emv_ports.specs.Reading.{ReadsUpTo}
 use Rattle.emv_top.specs.Answers.{Answers, AnswersRead, AnswersWords, AreSettled, Completes, IsAccepted, IsCut, IsCutShort, IsRefused, IsStarved, IsWhole, Leaves, Plays, Refuses, SinkCount, SourceCount, Unbegun}
 use Rattle.emv_top.specs.Courses.{Replays, Reads, Stopped}
-use Rattle.emv_top.specs.Decided.{HasProfiles, RunsAreDecided}
+use Rattle.emv_top.specs.Decided.{DecidedRun, HasProfiles, RunsAreDecided}
 use Rattle.emv_top.specs.Input.{IsInput}
 use Rattle.emv_top.specs.StatusCode.{code_of}
-use Rattle.emv_top.specs.declared.top.Status.{Status}
-use Rattle.emv_top.specs.declared.top.Status.TheVariants.{Done, Refused, Usage, ReadFault, WriteFault, OutOfMemory}
+use Rattle.emv_top.specs.declared.status.Status.{Status}
+use Rattle.emv_top.specs.declared.status.Status.TheVariants.{Done, Refused, Usage, ReadFault, WriteFault, OutOfMemory}
 use Rattle.emv_top.specs.declared.words.Order.{Order}
 use Rattle.emv_top.specs.declared.words.Order.TheVariants.{Read, Replay}
 use Rattle.emv_top.proofs.Going.{stopped_with, completes_with}
@@ -28,23 +28,29 @@ use Rattle.txn_replay.specs.Run.{Finished, Run}
 use Rattle.txn_replay.specs.World.{World}
 use Rattle.txn_replay.specs.Seen.{WorldSeen, WorldStands}
 
+-- in a whole run purchases are decided, the laws are kept, and no decision is open
+pub decided_whole : (s : ScenarioData) (v : WorldSeen) (old new : Option (List ℕ)) → WholeRunsAreFair → RunsAreDecided → IsScenario s → HasProfiles s → Completes (Run s) (WorldStands v) old new
+    → Completes (DecidedRun s) (λ w. WorldStands v w × IsFair s w × AreSettled s w) old new
+decided_whole s v old new law decides fits profiles whole =
+    let run : Run s whole.lines whole.world = whole.run in
+    record {
+      lines = whole.lines;
+      world = whole.world;
+      run = (run, decides s Finished run.count run.choices run.reported whole.world run.reached fits profiles);
+      stands = (whole.stands, law s whole.lines whole.world run, run_settled s run.count run.choices run.reported whole.world run.reached);
+      written = whole.written;
+    }
+
 -- what a world leaves, in the scenario's words
 module _ (s : ScenarioData) (v : WorldSeen) (told : v.scenario ≡ s) (old new : Option (List ℕ)) (bank : List Memory) (tally : Counts)
     (leaves : (w : World) → WorldStands v w → IsFair v.scenario w → Leaves v.scenario bank tally w) where
   left : (w : World) → WorldStands v w → IsFair s w → Leaves s bank tally w
   left = subst (λ (t : ScenarioData). (w : World) → WorldStands v w → IsFair t w → Leaves t bank tally w) told leaves
 
-  pub whole_replay : WholeRunsAreFair → RunsAreDecided → IsScenario s → HasProfiles s → Completes (Run s) (WorldStands v) old new → IsWhole Replay s old new bank tally
-  whole_replay law decides fits profiles whole =
-      let run : Run s whole.lines whole.world = whole.run in
-      record {
-        lines = whole.lines;
-        world = whole.world;
-        run = (run, decides s Finished run.count run.choices run.reported whole.world run.reached fits profiles);
-        stands =
-            (left whole.world whole.stands (law s whole.lines whole.world run), run_settled s run.count run.choices run.reported whole.world run.reached);
-        written = whole.written;
-      }
+  pub whole_replay : Completes (DecidedRun s) (λ w. WorldStands v w × IsFair s w × AreSettled s w) old new → IsWhole Replay s old new bank tally
+  whole_replay whole =
+      completes_with (DecidedRun s) (λ w. WorldStands v w × IsFair s w × AreSettled s w) (λ w. Leaves s bank tally w × AreSettled s w) old new
+      (λ ls w run stands. (left w stands.0 stands.1, stands.2)) whole
 
   pub cut_replay : RunsAreFair → Stopped (Replays s) (WorldStands v) old new → IsCut Replay s old new bank tally
   cut_replay law stopped =

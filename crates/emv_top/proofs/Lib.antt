@@ -19,3 +19,6 @@ pub mod Fates
 pub mod Deciding
 pub mod Accepting
 pub mod Profiles
+pub mod Booked
+pub mod Drawn
+pub mod Summing

@@ -10,8 +10,8 @@ use Rattle.emv_top.specs.Courses.{Ends, Replays, Reads, Stopped}
 use Rattle.emv_top.specs.Decided.{DecidedRun}
 use Rattle.emv_top.specs.Input.{IsInput}
 use Rattle.emv_top.specs.Texts.{text_of}
-use Rattle.emv_top.specs.declared.top.Status.{Status}
-use Rattle.emv_top.specs.declared.top.Status.TheVariants.{Done, Refused, Usage, ReadFault, WriteFault, OutOfMemory}
+use Rattle.emv_top.specs.declared.status.Status.{Status}
+use Rattle.emv_top.specs.declared.status.Status.TheVariants.{Done, Refused, Usage, ReadFault, WriteFault, OutOfMemory}
 use Rattle.emv_top.specs.declared.words.Order.{Order}
 use Rattle.emv_top.specs.declared.words.Order.TheVariants.{Read, Replay}
 use Rattle.kernel.specs.Tally.{Counts}

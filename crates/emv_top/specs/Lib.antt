@@ -7,3 +7,4 @@ pub mod Input
 pub mod Courses
 pub mod Decided
 pub mod Answers
+pub mod Generating

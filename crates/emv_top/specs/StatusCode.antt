@@ -1,7 +1,7 @@
 -- The exit status of each ending.
 use Rattle.std.specs.Prelude.{ℕ}
-use Rattle.emv_top.specs.declared.top.Status.{Status}
-use Rattle.emv_top.specs.declared.top.Status.TheVariants.{Done, Refused, Usage, ReadFault, WriteFault, OutOfMemory}
+use Rattle.emv_top.specs.declared.status.Status.{Status}
+use Rattle.emv_top.specs.declared.status.Status.TheVariants.{Done, Refused, Usage, ReadFault, WriteFault, OutOfMemory}
 
 abbrev pub code_of : Status → ℕ
 code_of Done = 0

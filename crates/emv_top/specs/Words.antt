@@ -1,6 +1,7 @@
 -- The words of the command line.
-use Rattle.std.specs.Prelude.{ℕ, List, [], ◌∷◌, Option, Some, None, codes, if◌then◌else◌}
-use Rattle.std.specs.Str.{bytes_eq}
+use Rattle.std.specs.Prelude.{ℕ, nat_le, ◌==◌, Bool, not, ◌&&◌, List, [], ◌∷◌, Option, Some, None, codes, slice_index, if◌then◌else◌}
+use Rattle.std.specs.Str.{all_ascii_digits, bytes_eq}
+use Rattle.std.specs.Str.Parse.{digits_value}
 use Rattle.emv_top.specs.declared.words.Order.{Order}
 use Rattle.emv_top.specs.declared.words.Order.TheVariants.{Read, Replay}
 
@@ -18,3 +19,20 @@ order_named (word ∷ other ∷ words) = None
 
 unfoldable pub order_of : List (List ℕ) → Option Order
 order_of words = order_named (without_dashes words)
+
+-- a number from 1 to 10,000 in decimal digits, of which the first is no 0
+abbrev pub is_count : List ℕ → Bool
+is_count word =
+    all_ascii_digits word && not (slice_index word 0 == 48) && nat_le 1 (digits_value 10 word) && nat_le (digits_value 10 word) 10000
+
+-- `generate` and a count
+abbrev pub count_named : List (List ℕ) → Option ℕ
+count_named [] = None
+count_named (word ∷ []) = None
+count_named (word ∷ count ∷ []) =
+    if bytes_eq word (codes "generate") && is_count count then Some (digits_value 10 count) else None
+count_named (word ∷ count ∷ other ∷ words) = None
+
+-- how many purchases the words ask for
+unfoldable pub generate_of : List (List ℕ) → Option ℕ
+generate_of words = count_named (without_dashes words)

@@ -12,7 +12,7 @@ use crate::lines::emit;
 use crate::stop::Stop;
 use emv_ports::{Pages, Sink};
 use issuer_host::Account;
-use report_text::Line;
+use report_text::{Line, Text};
 use scenario::Scenario;
 use txn_replay::World;
 
@@ -20,6 +20,7 @@ use txn_replay::World;
 fn balance<P: Pages, K: Sink>(
     account: &Account,
     world: &World<'_, P>,
+    text: &mut Text,
     sink: &mut K,
 ) -> Result<(), Stop>
     ensures all { OnOk result ((w : Told) → WorldStands world.now w
@@ -34,7 +35,7 @@ fn balance<P: Pages, K: Sink>(
                 pan: account.pan.copy(),
                 amount,
             };
-            emit(&line, sink)
+            emit(&line, text, sink)
         }
         None => Ok(()),
     }
@@ -44,6 +45,7 @@ fn balance<P: Pages, K: Sink>(
 pub fn close<P: Pages, K: Sink>(
     scenario: &Scenario,
     world: &World<'_, P>,
+    text: &mut Text,
     sink: &mut K,
 ) -> Result<(), Stop>
     requires { world.now.scenario ≡ scenario.now }
@@ -52,7 +54,7 @@ pub fn close<P: Pages, K: Sink>(
     ensures stop { HasStop (K.faults sink.old) (K.faults sink.new) result }
 {
     for account in &scenario.accounts {
-        match balance(account, world, sink) {
+        match balance(account, world, text, sink) {
             Ok(()) => {}
             Err(stop) => return Err(stop),
         }
@@ -60,5 +62,5 @@ pub fn close<P: Pages, K: Sink>(
     let line = Line::Done {
         number: world.ended(),
     };
-    emit(&line, sink)
+    emit(&line, text, sink)
 }

@@ -8,16 +8,17 @@ ghost use Rattle.txn_replay.specs.World.{World as Told};
 ghost use Rattle.txn_replay.specs.declared.event.Event.{Event};
 ghost use Rattle.txn_replay.specs.Seen.{WorldStands, is_done, turns_left, IsNext};
 
-use crate::lines::{write_lines, write_shown};
+use crate::lines::{Room, write_lines, write_shown};
 use crate::stop::Stop;
 use emv_ports::{Pages, Sink};
 use std::alloc::AllocError;
-use txn_replay::{Lines, World};
+use txn_replay::World;
 
 /// One exchange of a lane; whether there was one.
 pub fn turn<P: Pages, K: Sink>(
     lane: usize,
     world: &mut World<'_, P>,
+    room: &mut Room,
     sink: &mut K,
 ) -> Result<bool, Stop>
     requires { lane < length world.old.scenario.lanes }
@@ -30,9 +31,9 @@ pub fn turn<P: Pages, K: Sink>(
     ensures spare { world.new.spare ≡ world.old.spare }
     ensures stop { HasStop (K.faults sink.old) (K.faults sink.new) result }
 {
-    let mut lines = Lines::new();
-    match world.turn(lane, &mut lines) {
-        Ok(went) => match write_lines(lines.as_slice(), sink) {
+    room.lines.clear();
+    match world.turn(lane, &mut room.lines) {
+        Ok(went) => match write_lines(room.lines.as_slice(), &mut room.text, sink) {
             Ok(()) => Ok(went),
             Err(stop) => Err(stop),
         },
@@ -41,7 +42,11 @@ pub fn turn<P: Pages, K: Sink>(
 }
 
 /// One exchange of the first lane, of which its end line isn't shown; whether there was one.
-pub fn read_turn<P: Pages, K: Sink>(world: &mut World<'_, P>, sink: &mut K) -> Result<bool, Stop>
+pub fn read_turn<P: Pages, K: Sink>(
+    world: &mut World<'_, P>,
+    room: &mut Room,
+    sink: &mut K,
+) -> Result<bool, Stop>
     requires { 0 < length world.old.scenario.lanes }
     ensures ok { OnOk result ((w : Told) → WorldStands world.old w → Makes world.new w (Event.Turn 0) shown_lines (K.held sink.old) (K.held sink.new)) }
     ensures err { OnErr result ((w : Told) → WorldStands world.old w → Fails world.old.scenario world.new w (Event.Turn 0) shown_lines (K.held sink.old) (K.held sink.new)) }
@@ -51,9 +56,9 @@ pub fn read_turn<P: Pages, K: Sink>(world: &mut World<'_, P>, sink: &mut K) -> R
     ensures spare { world.new.spare ≡ world.old.spare }
     ensures stop { HasStop (K.faults sink.old) (K.faults sink.new) result }
 {
-    let mut lines = Lines::new();
-    match world.turn(0, &mut lines) {
-        Ok(went) => match write_shown(lines.as_slice(), sink) {
+    room.lines.clear();
+    match world.turn(0, &mut room.lines) {
+        Ok(went) => match write_shown(room.lines.as_slice(), &mut room.text, sink) {
             Ok(()) => Ok(went),
             Err(stop) => Err(stop),
         },
@@ -65,6 +70,7 @@ pub fn read_turn<P: Pages, K: Sink>(world: &mut World<'_, P>, sink: &mut K) -> R
 pub fn settle<P: Pages, K: Sink>(
     number: u32,
     world: &mut World<'_, P>,
+    room: &mut Room,
     sink: &mut K,
 ) -> Result<bool, Stop>
     ensures ok { OnOk result ((w : Told) → WorldStands world.old w → Makes world.new w (Event.Settle number) all_lines (K.held sink.old) (K.held sink.new)) }
@@ -78,9 +84,9 @@ pub fn settle<P: Pages, K: Sink>(
     ensures spare { world.new.spare ≡ world.old.spare }
     ensures stop { HasStop (K.faults sink.old) (K.faults sink.new) result }
 {
-    let mut lines = Lines::new();
-    match world.settle(number, &mut lines) {
-        Ok(true) => match write_lines(lines.as_slice(), sink) {
+    room.lines.clear();
+    match world.settle(number, &mut room.lines) {
+        Ok(true) => match write_lines(room.lines.as_slice(), &mut room.text, sink) {
             Ok(()) => Ok(true),
             Err(stop) => Err(stop),
         },
@@ -93,6 +99,7 @@ pub fn settle<P: Pages, K: Sink>(
 pub fn audit<P: Pages, K: Sink>(
     number: u32,
     world: &mut World<'_, P>,
+    room: &mut Room,
     sink: &mut K,
 ) -> Result<bool, Stop>
     requires done { is_done world.old ≡ true }
@@ -109,11 +116,11 @@ pub fn audit<P: Pages, K: Sink>(
     ensures spare { world.new.spare ≡ world.old.spare }
     ensures stop { HasStop (K.faults sink.old) (K.faults sink.new) result }
 {
-    let mut lines = Lines::new();
-    if !world.audit(number, &mut lines) {
+    room.lines.clear();
+    if !world.audit(number, &mut room.lines) {
         return Ok(false);
     }
-    match write_lines(lines.as_slice(), sink) {
+    match write_lines(room.lines.as_slice(), &mut room.text, sink) {
         Ok(()) => Ok(true),
         Err(stop) => Err(stop),
     }

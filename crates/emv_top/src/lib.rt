@@ -4,12 +4,15 @@
 #![tactic(auto)]
 
 mod closing;
+mod ended;
 mod events;
+mod generating;
 mod input;
 mod laws;
 mod lines;
 mod reading;
 mod replaying;
+mod status;
 mod stop;
 mod top;
 mod words;

@@ -1,5 +1,5 @@
 //! The lines of a report, handed to the sink one by one.
-ghost use Rattle.std.specs.Prelude.{OnOk, OnErr};
+ghost use Rattle.std.specs.Prelude.{◌≡◌, [], OnOk, OnErr};
 ghost use Rattle.std.specs.List.{flat_map};
 ghost use Rattle.std.specs.Io.KnownBytes.{Appends};
 ghost use Rattle.emv_ports.specs.Growth.{AppendsFront};
@@ -11,15 +11,33 @@ ghost use Rattle.emv_top.specs.Texts.{text_of};
 use crate::stop::Stop;
 use emv_ports::{Failed, Sink, write_all};
 use report_text::{Line, Text, write_line};
+use txn_replay::Lines;
+
+/// Where the lines of an event and the text of a line are made: one for a whole run.
+#[derive(Drop)]
+pub struct Room {
+    pub lines: Lines,
+    pub text: Text,
+}
+
+impl Room {
+    pub fn new() -> Room
+        ensures { result.lines.items ≡ [] }
+    {
+        Room {
+            lines: Lines::new(),
+            text: Text::new(),
+        }
+    }
+}
 
 /// Hands a line to the sink, in one piece.
-pub fn emit<K: Sink>(line: &Line, sink: &mut K) -> Result<(), Stop>
+pub fn emit<K: Sink>(line: &Line, text: &mut Text, sink: &mut K) -> Result<(), Stop>
     ensures all { OnOk result (Appends (K.held sink.old) (K.held sink.new) (line_text line.now)) }
     ensures front { OnErr result (AppendsFront (K.held sink.old) (K.held sink.new) (line_text line.now)) }
     ensures stop { HasStop (K.faults sink.old) (K.faults sink.new) result }
 {
-    let mut text = Text::new();
-    write_line(line, &mut text);
+    write_line(line, text);
     match write_all(sink, text.as_slice()) {
         Ok(()) => Ok(()),
         Err(Failed) => Err(Stop::Sink),
@@ -27,13 +45,13 @@ pub fn emit<K: Sink>(line: &Line, sink: &mut K) -> Result<(), Stop>
 }
 
 /// Hands lines to the sink.
-pub fn write_lines<K: Sink>(lines: &[Line], sink: &mut K) -> Result<(), Stop>
+pub fn write_lines<K: Sink>(lines: &[Line], text: &mut Text, sink: &mut K) -> Result<(), Stop>
     ensures all { OnOk result (Appends (K.held sink.old) (K.held sink.new) (text_of lines.now)) }
     ensures front { OnErr result (AppendsFront (K.held sink.old) (K.held sink.new) (text_of lines.now)) }
     ensures stop { HasStop (K.faults sink.old) (K.faults sink.new) result }
 {
     for line in lines {
-        match emit(line, sink) {
+        match emit(line, text, sink) {
             Ok(()) => {}
             Err(stop) => return Err(stop),
         }
@@ -42,25 +60,25 @@ pub fn write_lines<K: Sink>(lines: &[Line], sink: &mut K) -> Result<(), Stop>
 }
 
 /// Hands a line to the sink that a reading shows: all but the end line.
-fn emit_shown<K: Sink>(line: &Line, sink: &mut K) -> Result<(), Stop>
+fn emit_shown<K: Sink>(line: &Line, text: &mut Text, sink: &mut K) -> Result<(), Stop>
     ensures all { OnOk result (Appends (K.held sink.old) (K.held sink.new) (text_of (without_end line.now))) }
     ensures front { OnErr result (AppendsFront (K.held sink.old) (K.held sink.new) (text_of (without_end line.now))) }
     ensures stop { HasStop (K.faults sink.old) (K.faults sink.new) result }
 {
     match line {
         Line::End { .. } => Ok(()),
-        other => emit(other, sink),
+        other => emit(other, text, sink),
     }
 }
 
 /// Hands the lines to the sink that a reading shows.
-pub fn write_shown<K: Sink>(lines: &[Line], sink: &mut K) -> Result<(), Stop>
+pub fn write_shown<K: Sink>(lines: &[Line], text: &mut Text, sink: &mut K) -> Result<(), Stop>
     ensures all { OnOk result (Appends (K.held sink.old) (K.held sink.new) (text_of (flat_map without_end lines.now))) }
     ensures front { OnErr result (AppendsFront (K.held sink.old) (K.held sink.new) (text_of (flat_map without_end lines.now))) }
     ensures stop { HasStop (K.faults sink.old) (K.faults sink.new) result }
 {
     for line in lines {
-        match emit_shown(line, sink) {
+        match emit_shown(line, text, sink) {
             Ok(()) => {}
             Err(stop) => return Err(stop),
         }

@@ -15,14 +15,14 @@ ghost use Rattle.txn_replay.specs.World.{World as Told, first_world};
 ghost use Rattle.txn_replay.specs.Seen.{WorldStands};
 
 use crate::events::read_turn;
-use crate::lines::emit;
+use crate::lines::{Room, emit};
 use crate::stop::Stop;
 use arrayvec::ArrayVec;
 use ber_tlv::Tag;
 use emv_ports::{Pages, Sink};
 use env_map::Env;
 use object_lists::CardData;
-use report_text::Line;
+use report_text::{Line, Text};
 use scenario::Scenario;
 use txn_replay::World;
 
@@ -48,18 +48,18 @@ fn object_line(tag: Tag, value: &[u8]) -> Line
 }
 
 /// The line of a data object.
-fn write_object<K: Sink>(tag: Tag, value: &[u8], sink: &mut K) -> Result<(), Stop>
+fn write_object<K: Sink>(tag: Tag, value: &[u8], text: &mut Text, sink: &mut K) -> Result<(), Stop>
     requires { length value.now ≤ 256 }
     ensures all { OnOk result (Appends (K.held sink.old) (K.held sink.new) (line_text (object_line (tag.0, value.now)))) }
     ensures front { OnErr result (AppendsFront (K.held sink.old) (K.held sink.new) (line_text (object_line (tag.0, value.now)))) }
     ensures stop { HasStop (K.faults sink.old) (K.faults sink.new) result }
 {
     let line = object_line(tag, value);
-    emit(&line, sink)
+    emit(&line, text, sink)
 }
 
 /// A line for each data object, by rising tag.
-fn write_objects<K: Sink>(env: &Env, sink: &mut K) -> Result<(), Stop>
+fn write_objects<K: Sink>(env: &Env, text: &mut Text, sink: &mut K) -> Result<(), Stop>
     requires { AllShort env.now }
     ensures all { OnOk result (Appends (K.held sink.old) (K.held sink.new) (text_of (map object_line env.now))) }
     ensures front { OnErr result (AppendsFront (K.held sink.old) (K.held sink.new) (text_of (map object_line env.now))) }
@@ -67,7 +67,7 @@ fn write_objects<K: Sink>(env: &Env, sink: &mut K) -> Result<(), Stop>
 {
     let mut last = None;
     while let Some((tag, value)) = env.after(last) {
-        match write_object(tag, value, sink) {
+        match write_object(tag, value, text, sink) {
             Ok(()) => last = Some(tag),
             Err(stop) => return Err(stop),
         }
@@ -76,20 +76,24 @@ fn write_objects<K: Sink>(env: &Env, sink: &mut K) -> Result<(), Stop>
 }
 
 /// The lines of a finished reading.
-fn write_card<K: Sink>(card: &CardData, sink: &mut K) -> Result<(), Stop>
+fn write_card<K: Sink>(card: &CardData, text: &mut Text, sink: &mut K) -> Result<(), Stop>
     requires { AllShort card.now.entries }
     ensures all { OnOk result (Appends (K.held sink.old) (K.held sink.new) (text_of (map object_line card.now.entries ++ Line.ReadOk ∷ []))) }
     ensures front { OnErr result (AppendsFront (K.held sink.old) (K.held sink.new) (text_of (map object_line card.now.entries ++ Line.ReadOk ∷ []))) }
     ensures stop { HasStop (K.faults sink.old) (K.faults sink.new) result }
 {
-    match write_objects(card.env(), sink) {
-        Ok(()) => emit(&Line::ReadOk, sink),
+    match write_objects(card.env(), text, sink) {
+        Ok(()) => emit(&Line::ReadOk, text, sink),
         Err(stop) => Err(stop),
     }
 }
 
 /// The lines behind the events of a reading.
-fn write_reading<P: Pages, K: Sink>(world: &World<'_, P>, sink: &mut K) -> Result<(), Stop>
+fn write_reading<P: Pages, K: Sink>(
+    world: &World<'_, P>,
+    text: &mut Text,
+    sink: &mut K,
+) -> Result<(), Stop>
     requires lane { 0 < length world.now.scenario.lanes }
     requires short { (w : Told) × WorldStands world.now w × IfSome (data_at world.now.scenario w 0) IsShort }
     ensures all { OnOk result ((w : Told) → WorldStands world.now w → Appends (K.held sink.old) (K.held sink.new)
@@ -99,9 +103,9 @@ fn write_reading<P: Pages, K: Sink>(world: &World<'_, P>, sink: &mut K) -> Resul
     ensures stop { HasStop (K.faults sink.old) (K.faults sink.new) result }
 {
     match world.read_data(0) {
-        Some(card) => write_card(card, sink),
+        Some(card) => write_card(card, text, sink),
         None => match world.ending(0) {
-            Some(ending) => emit(&Line::ReadEnded { ending }, sink),
+            Some(ending) => emit(&Line::ReadEnded { ending }, text, sink),
             None => Ok(()),
         },
     }
@@ -132,11 +136,12 @@ pub fn read_through<P: Pages, K: Sink>(
     ensures spare { world.new.spare ≡ world.old.spare }
     ensures stop { HasStop (K.faults sink.old) (K.faults sink.new) result }
 {
+    let mut room = Room::new();
     while !is_read(world) {
-        match read_turn(world, sink) {
+        match read_turn(world, &mut room, sink) {
             Ok(_) => {}
             Err(stop) => return Err(stop),
         }
     }
-    write_reading(world, sink)
+    write_reading(world, &mut room.text, sink)
 }

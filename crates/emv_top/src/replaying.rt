@@ -1,24 +1,36 @@
 //! The events of a whole run: the schedule, the rounds, the settlement and the audit.
-ghost use Rattle.std.specs.Prelude.{◌≡◌, ◌<◌, true, false, OnOk, OnErr, length};
-ghost use Rattle.emv_top.specs.Answers.{Completes};
+ghost use Rattle.std.specs.Prelude.{◌≡◌, ◌≢◌, ◌<◌, true, false, IfOk, IfErr, OnOk, OnErr, length, map};
+ghost use Rattle.std.specs.List.{All};
+ghost use Rattle.emv_ports.specs.Memory.{IsBlank};
+ghost use Rattle.emv_top.specs.Answers.{AreSettled, AreSpare, Completes, Plays, SinkCount};
+ghost use Rattle.emv_top.specs.Decided.{DecidedRun, HasProfiles};
 ghost use Rattle.emv_top.specs.Courses.{Carries, Halts, IsAt, Replays, Stopped};
 ghost use Rattle.emv_top.specs.Stops.{HasStop};
+ghost use Rattle.emv_top.specs.declared.status.Status.{Status};
+ghost use Rattle.emv_top.specs.declared.words.Order.{Order};
 ghost use Rattle.scenario.specs.Plan.{IsScenario};
+ghost use Rattle.txn_replay.specs.Laws.{IsFair};
 ghost use Rattle.txn_replay.specs.Run.{Reached, Scheduled, Round, Settling, Auditing, Finished, Run, all_over};
 ghost use Rattle.txn_replay.specs.World.{World as Told, first_world};
 ghost use Rattle.txn_replay.specs.Seen.{WorldStands, is_done, turns_left};
 
 use crate::closing::close;
+use crate::ended::{Ended, end_world, unbegun};
 use crate::events::{audit, settle, turn};
+use crate::laws::runs_are_decided;
+use crate::lines::Room;
+use crate::status::Status;
 use crate::stop::Stop;
 use emv_ports::{Pages, Sink};
 use scenario::Scenario;
-use txn_replay::World;
+use std::alloc::Global;
+use txn_replay::{NoWorld, World, runs_are_fair};
 
 /// The turns of the schedule.
 pub fn schedule<P: Pages, K: Sink>(
     scenario: &Scenario,
     world: &mut World<'_, P>,
+    room: &mut Room,
     sink: &mut K,
 ) -> Result<(), Stop>
     requires rules { IsScenario scenario.now }
@@ -30,7 +42,7 @@ pub fn schedule<P: Pages, K: Sink>(
     ensures stop { HasStop (K.faults sink.old) (K.faults sink.new) result }
 {
     for lane in &scenario.schedule {
-        match turn(usize::from(*lane), world, sink) {
+        match turn(usize::from(*lane), world, room, sink) {
             Ok(_) => {}
             Err(stop) => return Err(stop),
         }
@@ -42,6 +54,7 @@ pub fn schedule<P: Pages, K: Sink>(
 fn round<P: Pages, K: Sink>(
     scenario: &Scenario,
     world: &mut World<'_, P>,
+    room: &mut Room,
     sink: &mut K,
 ) -> Result<(), Stop>
     requires told { world.old.scenario ≡ scenario.now }
@@ -57,7 +70,7 @@ fn round<P: Pages, K: Sink>(
     let lanes = scenario.lanes.as_slice();
     let mut lane = 0;
     while lane < lanes.len() {
-        match turn(lane, world, sink) {
+        match turn(lane, world, room, sink) {
             Ok(_) => lane += 1,
             Err(stop) => return Err(stop),
         }
@@ -69,6 +82,7 @@ fn round<P: Pages, K: Sink>(
 pub fn rounds<P: Pages, K: Sink>(
     scenario: &Scenario,
     world: &mut World<'_, P>,
+    room: &mut Room,
     sink: &mut K,
 ) -> Result<(), Stop>
     requires told { world.old.scenario ≡ scenario.now }
@@ -81,7 +95,7 @@ pub fn rounds<P: Pages, K: Sink>(
     ensures stop { HasStop (K.faults sink.old) (K.faults sink.new) result }
 {
     while !world.done() {
-        match round(scenario, world, sink) {
+        match round(scenario, world, room, sink) {
             Ok(()) => {}
             Err(stop) => return Err(stop),
         }
@@ -93,6 +107,7 @@ pub fn rounds<P: Pages, K: Sink>(
 pub fn settlement<P: Pages, K: Sink>(
     scenario: &Scenario,
     world: &mut World<'_, P>,
+    room: &mut Room,
     sink: &mut K,
 ) -> Result<(), Stop>
     requires told { world.old.scenario ≡ scenario.now }
@@ -105,7 +120,7 @@ pub fn settlement<P: Pages, K: Sink>(
 {
     let mut number: u32 = 0;
     loop {
-        match settle(number, world, sink) {
+        match settle(number, world, room, sink) {
             Ok(true) => number += 1,
             Ok(false) => return Ok(()),
             Err(stop) => return Err(stop),
@@ -117,6 +132,7 @@ pub fn settlement<P: Pages, K: Sink>(
 pub fn audits<P: Pages, K: Sink>(
     scenario: &Scenario,
     world: &mut World<'_, P>,
+    room: &mut Room,
     sink: &mut K,
 ) -> Result<(), Stop>
     requires told { world.old.scenario ≡ scenario.now }
@@ -129,7 +145,7 @@ pub fn audits<P: Pages, K: Sink>(
 {
     let mut number: u32 = 0;
     loop {
-        match audit(number, world, sink) {
+        match audit(number, world, room, sink) {
             Ok(true) => number += 1,
             Ok(false) => return Ok(()),
             Err(stop) => return Err(stop),
@@ -141,6 +157,7 @@ pub fn audits<P: Pages, K: Sink>(
 fn events<P: Pages, K: Sink>(
     scenario: &Scenario,
     world: &mut World<'_, P>,
+    room: &mut Room,
     sink: &mut K,
 ) -> Result<(), Stop>
     requires rules { IsScenario scenario.now }
@@ -152,10 +169,10 @@ fn events<P: Pages, K: Sink>(
     ensures spare { world.new.spare ≡ world.old.spare }
     ensures stop { HasStop (K.faults sink.old) (K.faults sink.new) result }
 {
-    schedule(scenario, world, sink)?;
-    rounds(scenario, world, sink)?;
-    settlement(scenario, world, sink)?;
-    audits(scenario, world, sink)
+    schedule(scenario, world, room, sink)?;
+    rounds(scenario, world, room, sink)?;
+    settlement(scenario, world, room, sink)?;
+    audits(scenario, world, room, sink)
 }
 
 /// All events of a run, and the lines behind them.
@@ -173,8 +190,44 @@ pub fn replay_through<P: Pages, K: Sink>(
     ensures spare { world.new.spare ≡ world.old.spare }
     ensures stop { HasStop (K.faults sink.old) (K.faults sink.new) result }
 {
-    match events(scenario, world, sink) {
-        Ok(()) => close(scenario, world, sink),
+    let mut room = Room::new();
+    match events(scenario, world, &mut room, sink) {
+        Ok(()) => close(scenario, world, &mut room.text, sink),
         Err(stop) => Err(stop),
+    }
+}
+
+/// A whole run of a scenario: the world that it leads to, or how it ended before.
+pub fn replay_whole<'s, P: Pages, K: Sink>(
+    alloc: Global,
+    scenario: &'s Scenario,
+    bank: Vec<P>,
+    sink: &mut K,
+) -> Result<World<'s, P>, Ended<P>>
+    requires rules { IsScenario scenario.now }
+    requires profiles { HasProfiles scenario.now }
+    requires pages { length bank.items ≡ 64 }
+    requires blank { All IsBlank (map P.memory bank.items) }
+    ensures whole { IfOk result (λ world. Completes (DecidedRun scenario.now)
+        (λ w. WorldStands world w × IsFair scenario.now w × AreSettled scenario.now w) (K.held sink.old) (K.held sink.new)) }
+    ensures told { IfOk result (λ world. world.scenario ≡ scenario.now) }
+    ensures spare { IfOk result (λ world. AreSpare (length world.scenario.cards) world.spare) }
+    ensures calm { OnOk result (K.faults sink.new ≡ K.faults sink.old) }
+    ensures cut { IfErr result (λ ended. Plays Order.Replay scenario.now (K.held sink.old) (K.held sink.new) (map P.memory ended.bank.items) ended.tally ended.status) }
+    ensures unfinished { IfErr result (λ ended. ended.status ≢ Status.Done) }
+    ensures count { IfErr result (λ ended. SinkCount (K.faults sink.old) (K.faults sink.new) ended.status) }
+{
+    runs_are_fair();
+    runs_are_decided();
+    match World::new(alloc, scenario, bank) {
+        Ok(world) => {
+            let mut world = world;
+            match replay_through(scenario, &mut world, sink) {
+                Ok(()) => Ok(world),
+                Err(Stop::Sink) => Err(end_world(Status::WriteFault, world)),
+                Err(Stop::OutOfMemory) => Err(end_world(Status::OutOfMemory, world)),
+            }
+        }
+        Err(NoWorld { bank }) => Err(unbegun(Status::OutOfMemory, bank)),
     }
 }

@@ -6,103 +6,32 @@ ghost use Rattle.emv_ports.specs.Causes.{Rose};
 ghost use Rattle.emv_ports.specs.Growth.{AppendsFront};
 ghost use Rattle.emv_ports.specs.Memory.{IsBlank};
 ghost use Rattle.emv_ports.specs.Reading.{ReadsUpTo};
-ghost use Rattle.emv_top.specs.Answers.{Answers, AnswersRead, AnswersWords, AreSpare, IsAccepted, IsCutShort, IsRefused, IsStarved, IsWhole, Leaves, Plays, Refuses, SinkCount, SourceCount, TellsUsage, Unbegun};
+ghost use Rattle.emv_top.specs.Answers.{Answers, AnswersRead, AnswersWords, IsAccepted, IsCutShort, IsRefused, IsStarved, IsWhole, Plays, Refuses, SinkCount, SourceCount, TellsUsage, Unbegun};
 ghost use Rattle.emv_top.specs.Decided.{HasProfiles};
+ghost use Rattle.emv_top.specs.Generating.{AnswersAsked, IsSummed, IsSummedShort, IsUnsummed};
 ghost use Rattle.emv_top.specs.Input.{IsInput, first_purchases};
-ghost use Rattle.emv_top.specs.StatusCode.{code_of};
-ghost use Rattle.emv_top.specs.Words.{order_of};
+ghost use Rattle.emv_top.specs.Words.{generate_of, order_of};
+ghost use Rattle.emv_top.specs.declared.status.Status.{Status};
 ghost use Rattle.emv_top.specs.declared.words.Order.{Order};
 ghost use Rattle.report_text.specs.CommandLine.{usage_line};
 ghost use Rattle.scenario.specs.Plan.{IsScenario, ScenarioData};
 ghost use Rattle.scenario_fields.specs.Line.{refused_line};
-ghost use Rattle.txn_replay.specs.Laws.{IsFair};
 ghost use Rattle.txn_replay.specs.Reading.{to_read};
-ghost use Rattle.txn_replay.specs.World.{World as Told};
-ghost use Rattle.txn_replay.specs.Seen.{WorldStands};
 
+use crate::ended::{Ended, end_world, unbegun};
+use crate::generating::generate;
 use crate::input::{read_input, take_tear};
-use crate::laws::runs_are_decided;
 use crate::reading::read_through;
-use crate::replaying::replay_through;
+use crate::replaying::replay_whole;
+use crate::status::Status;
 use crate::stop::Stop;
-use crate::words::{Order, read_words};
+use crate::words::{Order, read_count, read_words};
 use emv_ports::{Failed, Pages, ReadFault, Sink, Source, read_up_to, write_all};
 use kernel::Tally;
 use report_text::usage;
 use scenario::{MOST_BYTES, Scenario, ScenarioFault};
 use std::alloc::Global;
 use txn_replay::{NoWorld, World, runs_are_fair};
-
-/// How the program ends.
-#[derive(Clone, Copy, PartialEq, Eq, Debug)]
-pub enum Status {
-    /// The report was written.
-    Done,
-    /// The input is refused, and the refusal's line was written.
-    Refused,
-    /// The words are not in the grammar, and the usage line was written.
-    Usage,
-    /// The source failed.
-    ReadFault,
-    /// The sink failed.
-    WriteFault,
-    /// There was no memory.
-    OutOfMemory,
-}
-
-impl Status {
-    /// The exit status of the program.
-    pub fn code(self) -> u8
-        ensures { result ≡ code_of self }
-    {
-        match self {
-            Status::Done => 0,
-            Status::Refused => 1,
-            Status::Usage => 2,
-            Status::ReadFault => 3,
-            Status::WriteFault => 4,
-            Status::OutOfMemory => 5,
-        }
-    }
-}
-
-/// How a run ended, the cards' pages, and what the terminals counted.
-#[derive(Drop)]
-struct Ended<P: Drop> {
-    status: Status,
-    bank: Vec<P>,
-    tally: Tally,
-}
-
-/// The end before a world was made.
-fn unbegun<P: Pages>(status: Status, bank: Vec<P>) -> Ended<P>
-    requires pages { length bank.items ≡ 64 }
-    requires blank { All IsBlank (map P.memory bank.items) }
-    ensures status { result.status ≡ status }
-    ensures unbegun { Unbegun (map P.memory result.bank.items) result.tally }
-    ensures bank { result.bank ≡ bank }
-{
-    Ended {
-        status,
-        bank,
-        tally: Tally::new(),
-    }
-}
-
-/// The end of a world.
-fn end_world<P: Pages>(status: Status, world: World<'_, P>) -> Ended<P>
-    requires { AreSpare (length world.scenario.cards) world.spare }
-    ensures status { result.status ≡ status }
-    ensures leaves { (w : Told) → WorldStands world.entry w → IsFair world.entry.scenario w
-        → Leaves world.entry.scenario (map P.memory result.bank.items) result.tally w }
-{
-    let (bank, tally) = world.into_bank();
-    Ended {
-        status,
-        bank,
-        tally,
-    }
-}
 
 /// The run of a scenario.
 fn replay<P: Pages, K: Sink>(
@@ -118,18 +47,9 @@ fn replay<P: Pages, K: Sink>(
     ensures plays { Plays Order.Replay scenario.now (K.held sink.old) (K.held sink.new) (map P.memory result.bank.items) result.tally result.status }
     ensures count { SinkCount (K.faults sink.old) (K.faults sink.new) result.status }
 {
-    runs_are_fair();
-    runs_are_decided();
-    match World::new(alloc, scenario, bank) {
-        Ok(world) => {
-            let mut world = world;
-            match replay_through(scenario, &mut world, sink) {
-                Ok(()) => end_world(Status::Done, world),
-                Err(Stop::Sink) => end_world(Status::WriteFault, world),
-                Err(Stop::OutOfMemory) => end_world(Status::OutOfMemory, world),
-            }
-        }
-        Err(NoWorld { bank }) => unbegun(Status::OutOfMemory, bank),
+    match replay_whole(alloc, scenario, bank, sink) {
+        Ok(world) => end_world(Status::Done, world),
+        Err(ended) => ended,
     }
 }
 
@@ -263,7 +183,7 @@ fn write_usage<P: Pages, K: Sink>(bank: Vec<P>, sink: &mut K) -> Ended<P>
     }
 }
 
-/// The answer to these words.
+/// The answer to words that ask for no generated scenario.
 fn end_of<P: Pages, S: Source, K: Sink>(
     alloc: Global,
     words: &[String],
@@ -286,6 +206,30 @@ fn end_of<P: Pages, S: Source, K: Sink>(
     }
 }
 
+/// The answer to these words.
+fn end_asked<P: Pages, S: Source, K: Sink>(
+    alloc: Global,
+    words: &[String],
+    bank: Vec<P>,
+    source: &mut S,
+    sink: &mut K,
+) -> Ended<P>
+    requires pages { length bank.items ≡ 64 }
+    requires blank { All IsBlank (map P.memory bank.items) }
+    ensures answers { AnswersAsked (generate_of (map string_bytes words.now)) (order_of (map string_bytes words.now)) (S.left source.old) (S.left source.new)
+        (K.held sink.old) (K.held sink.new) (map P.memory result.bank.items) result.tally result.status }
+    ensures unread { result.status ≡ Status.Usage → source.new ≡ source.old }
+    ensures generated { generate_of (map string_bytes words.now) ≢ None → source.new ≡ source.old }
+    ensures unwritten { result.status ≡ Status.ReadFault → sink.new ≡ sink.old }
+    ensures source { SourceCount (S.faults source.old) (S.faults source.new) result.status }
+    ensures sink { SinkCount (K.faults sink.old) (K.faults sink.new) result.status }
+{
+    match read_count(words) {
+        Some(count) => generate(alloc, count, bank, sink),
+        None => end_of(alloc, words, bank, source, sink),
+    }
+}
+
 /// What the top call leaves.
 #[derive(Drop)]
 pub struct Finished<P: Drop> {
@@ -299,12 +243,14 @@ pub struct Finished<P: Drop> {
 
 /// Answers these words, reading from `source` where they ask for it and writing to `sink`.
 ///
-/// The words are those behind the program's name. Both orders read a scenario, a TOML document of at most
-/// 4,194,304 bytes. `replay` makes all its purchases, by the schedule and then lane by lane, then the
+/// The words are those behind the program's name. `read` and `replay` read a scenario, a TOML document of
+/// at most 4,194,304 bytes. `replay` makes all its purchases, by the schedule and then lane by lane, then the
 /// settlement and an audit of each card, and reports each exchange, each end, the balances and how many
 /// purchases ended. `read` makes the first lane's first purchase, without its tear, up to the end of
 /// reading, and reports the exchanges and the card's data objects. Each line is handed to the sink as soon
-/// as it is made. The bank has 64 blank pages that are off, for the cards in their order.
+/// as it is made. `generate N` reads nothing: it replays the generated scenario of N purchases, from 1 to
+/// 10,000, and in place of its report sums up how many were approved, declined or ended otherwise, and what
+/// the accounts paid. The bank has 64 blank pages that are off, for the cards in their order.
 pub fn run<P: Pages, S: Source, K: Sink>(
     alloc: Global,
     words: &[String],
@@ -319,7 +265,8 @@ pub fn run<P: Pages, S: Source, K: Sink>(
     // stand for its cards' decisions, and the tally is its count. No counter serves two purchases, power-ups
     // find prefixes, and no transaction is booked twice. In a whole run each purchase without a tear whose card
     // has applications and was well-formed at its power-up is approved or declined.
-    ensures done { result.status ≡ 0 → (order : Order) × (order_of (map string_bytes words.now) ≡ Some order) × (bytes : List ℕ)
+    ensures done { generate_of (map string_bytes words.now) ≡ None → result.status ≡ 0
+        → (order : Order) × (order_of (map string_bytes words.now) ≡ Some order) × (bytes : List ℕ)
         × ReadsUpTo 4194305 (S.left source.old) (S.left source.new) bytes
         × IsAccepted order bytes (λ s. IsWhole order s (K.held sink.old) (K.held sink.new) (map P.memory result.bank.items) result.tally) }
 
@@ -329,7 +276,7 @@ pub fn run<P: Pages, S: Source, K: Sink>(
         × (line : List ℕ) × IsRefused order bytes line × Appends (K.held sink.old) (K.held sink.new) line × Unbegun (map P.memory result.bank.items) result.tally }
 
     // 2: the words are not in the grammar, and the sink got the usage line; nothing was read or begun.
-    ensures usage { result.status ≡ 2 → (order_of (map string_bytes words.now) ≡ None)
+    ensures usage { result.status ≡ 2 → (order_of (map string_bytes words.now) ≡ None) × (generate_of (map string_bytes words.now) ≡ None)
         × Appends (K.held sink.old) (K.held sink.new) usage_line × Unbegun (map P.memory result.bank.items) result.tally }
     ensures unread { result.status ≡ 2 → source.new ≡ source.old }
 
@@ -341,12 +288,27 @@ pub fn run<P: Pages, S: Source, K: Sink>(
     // 4: the sink failed, and got a front of the usage line, of a refusal's line, or of the lines of a run up
     // to some event, which lacks at most those of that event and those behind all events.
     ensures write_fault { result.status ≡ 4 → Rose (K.faults sink.old) (K.faults sink.new) }
-    ensures front { result.status ≡ 4 → IsCutShort (order_of (map string_bytes words.now)) (S.left source.old) (S.left source.new)
+    ensures front { generate_of (map string_bytes words.now) ≡ None → result.status ≡ 4
+        → IsCutShort (order_of (map string_bytes words.now)) (S.left source.old) (S.left source.new)
         (K.held sink.old) (K.held sink.new) (map P.memory result.bank.items) result.tally }
 
     // 5: there was no memory: before anything began, or in a run, of whose lines a front was written as for 4.
-    ensures memory { result.status ≡ 5 → (order : Order) × (order_of (map string_bytes words.now) ≡ Some order)
+    ensures memory { generate_of (map string_bytes words.now) ≡ None → result.status ≡ 5
+        → (order : Order) × (order_of (map string_bytes words.now) ≡ Some order)
         × IsStarved order (S.left source.old) (S.left source.new) (K.held sink.old) (K.held sink.new) (map P.memory result.bank.items) result.tally }
+
+    // `generate N`: the source is left as it is. 0: one whole run of the generated scenario of N purchases was
+    // made, and the sink got exactly its summary; of that very run are the pages and the tally, as for `replay`.
+    ensures generated { (n : ℕ) → generate_of (map string_bytes words.now) ≡ Some n → result.status ≡ 0
+        → IsSummed n (K.held sink.old) (K.held sink.new) (map P.memory result.bank.items) result.tally }
+    // 4: the run was made all the same, and the sink, which failed, got a front of its summary.
+    ensures generated_front { (n : ℕ) → generate_of (map string_bytes words.now) ≡ Some n → result.status ≡ 4
+        → IsSummedShort n (K.held sink.old) (K.held sink.new) (map P.memory result.bank.items) result.tally }
+    // 5: there was no memory: before anything began, or in the run; nothing was written.
+    ensures generated_memory { (n : ℕ) → generate_of (map string_bytes words.now) ≡ Some n → result.status ≡ 5
+        → IsUnsummed n (K.held sink.old) (K.held sink.new) (map P.memory result.bank.items) result.tally }
+    ensures generated_known { generate_of (map string_bytes words.now) ≢ None → (result.status ≡ 0) ⊎ ((result.status ≡ 4) ⊎ (result.status ≡ 5)) }
+    ensures generated_unread { generate_of (map string_bytes words.now) ≢ None → source.new ≡ source.old }
 
     // The source's count stays but for 3, and the sink's but for 4.
     ensures source_calm { result.status ≢ 3 → S.faults source.new ≡ S.faults source.old }
@@ -359,7 +321,7 @@ pub fn run<P: Pages, S: Source, K: Sink>(
         → (Rose (S.faults source.old) (S.faults source.new) → ⊥) → (Rose (K.faults sink.old) (K.faults sink.new) → ⊥)
         → (result.status ≡ 0) ⊎ (result.status ≡ 5) }
 {
-    let ended = end_of(alloc, words, bank, source, sink);
+    let ended = end_asked(alloc, words, bank, source, sink);
     Finished {
         status: ended.status.code(),
         bank: ended.bank,

@@ -1,6 +1,6 @@
 use Rattle.std.proofs.Common.{map, subst, sym, inr}
 use Rattle.emv_top.specs.Answers.{Plays}
-use Rattle.emv_top.specs.declared.top.Status.{Status}
+use Rattle.emv_top.specs.declared.status.Status.{Status}
 use Rattle.emv_top.specs.declared.words.Order.TheVariants.{Read}
 use Rattle.emv_top.proofs.Answering.{whole_reading, cut_reading}
 use Rattle.emv_top.proofs.Banks.{are_spare}

@@ -1,41 +1,12 @@
-use Rattle.std.proofs.Common.{map, subst, sym, inr}
+use Rattle.std.proofs.Common.{map, subst, sym}
 use Rattle.emv_top.specs.Answers.{Plays}
-use Rattle.emv_top.specs.declared.top.Status.{Status}
+use Rattle.emv_top.specs.declared.status.Status.{Status}
 use Rattle.emv_top.specs.declared.words.Order.TheVariants.{Replay}
-use Rattle.emv_top.proofs.Answering.{whole_replay, cut_replay}
-use Rattle.emv_top.proofs.Banks.{are_spare}
+use Rattle.emv_top.proofs.Answering.{whole_replay}
 use Rattle.emv_top.proofs.top.replay.Goals as goal
 
-pub returns-in-Ok-replay_through-clause-plays : goal.returns-in-Ok-replay_through-clause-plays
-returns-in-Ok-replay_through-clause-plays g c =
-    subst (λ (st : Status). Plays Replay c.args.scenario.now (g.K.Sink.held c.args.sink.now) (g.K.Sink.held c.replay_through.new.sink)
+pub returns-in-Ok-clause-plays : goal.returns-in-Ok-clause-plays
+returns-in-Ok-clause-plays g c =
+    subst (λ (st : Status). Plays Replay c.args.scenario.now (g.K.Sink.held c.args.sink.now) (g.K.Sink.held c.replay_whole.new.sink)
     (map g.P.Pages.memory c.end_world.result.bank.items) c.end_world.result.tally st) (sym c.end_world.ensures.status)
-    (whole_replay c.args.scenario.now c.replay_through.new.world c.replay_through.ensures.told _ _ _ _ c.end_world.ensures.leaves c.runs_are_fair.ensures.whole c.runs_are_decided.ensures c.requires.rules c.requires.profiles
-    c.in-Ok-replay_through.ensures.ok)
-
-pub returns-in-Err-Sink-clause-plays : goal.returns-in-Err-Sink-clause-plays
-returns-in-Err-Sink-clause-plays g c =
-    subst (λ (st : Status). Plays Replay c.args.scenario.now (g.K.Sink.held c.args.sink.now) (g.K.Sink.held c.replay_through.new.sink)
-    (map g.P.Pages.memory c.end_world-in-Err-Sink.result.bank.items) c.end_world-in-Err-Sink.result.tally st) (sym c.end_world-in-Err-Sink.ensures.status)
-    (cut_replay c.args.scenario.now c.replay_through.new.world c.replay_through.ensures.told _ _ _ _ c.end_world-in-Err-Sink.ensures.leaves c.runs_are_fair.ensures.reached c.in-Err-Sink.ensures.err)
-
-pub returns-in-Err-OutOfMemory-clause-plays : goal.returns-in-Err-OutOfMemory-clause-plays
-returns-in-Err-OutOfMemory-clause-plays g c =
-    subst (λ (st : Status). Plays Replay c.args.scenario.now (g.K.Sink.held c.args.sink.now) (g.K.Sink.held c.replay_through.new.sink)
-    (map g.P.Pages.memory c.end_world-in-Err-OutOfMemory.result.bank.items) c.end_world-in-Err-OutOfMemory.result.tally st) (sym c.end_world-in-Err-OutOfMemory.ensures.status)
-    (inr (cut_replay c.args.scenario.now c.replay_through.new.world c.replay_through.ensures.told _ _ _ _ c.end_world-in-Err-OutOfMemory.ensures.leaves c.runs_are_fair.ensures.reached c.in-Err-OutOfMemory.ensures.err))
-
-pub end_world-requires : goal.end_world-requires
-end_world-requires g c =
-    are_spare g.P.Pages.memory c.args.bank.items c.requires.pages c.requires.blank c.args.scenario.now c.in-Ok.world c.replay_through.new.world c.requires.rules
-    c.in-Ok.ensures.spare c.replay_through.ensures.told c.replay_through.ensures.spare
-
-pub end_world-requires-in-Err-Sink : goal.end_world-requires-in-Err-Sink
-end_world-requires-in-Err-Sink g c =
-    are_spare g.P.Pages.memory c.args.bank.items c.requires.pages c.requires.blank c.args.scenario.now c.in-Ok.world c.replay_through.new.world c.requires.rules
-    c.in-Ok.ensures.spare c.replay_through.ensures.told c.replay_through.ensures.spare
-
-pub end_world-requires-in-Err-OutOfMemory : goal.end_world-requires-in-Err-OutOfMemory
-end_world-requires-in-Err-OutOfMemory g c =
-    are_spare g.P.Pages.memory c.args.bank.items c.requires.pages c.requires.blank c.args.scenario.now c.in-Ok.world c.replay_through.new.world c.requires.rules
-    c.in-Ok.ensures.spare c.replay_through.ensures.told c.replay_through.ensures.spare
+    (whole_replay c.args.scenario.now c.in-Ok.world c.in-Ok.ensures.told _ _ _ _ c.end_world.ensures.leaves c.in-Ok.ensures.whole)

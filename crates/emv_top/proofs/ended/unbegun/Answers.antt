@@ -1,6 +1,6 @@
 use Rattle.std.proofs.Common.{◌∙◌}
 use Rattle.std.proofs.lemmas.List.{length-map}
-use Rattle.emv_top.proofs.top.unbegun.Goals as goal
+use Rattle.emv_top.proofs.ended.unbegun.Goals as goal
 
 pub returns-clause-unbegun : goal.returns-clause-unbegun
 returns-clause-unbegun g c = record {

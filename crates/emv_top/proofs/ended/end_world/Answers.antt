@@ -2,7 +2,7 @@ use Rattle.std.proofs.Common.{List, subst, sym, ◌∙◌}
 use Rattle.std.specs.List.{All}
 use Rattle.emv_ports.specs.Memory.{Memory, IsBlank}
 use Rattle.emv_top.proofs.Banks.{all_back}
-use Rattle.emv_top.proofs.top.end_world.Goals as goal
+use Rattle.emv_top.proofs.ended.end_world.Goals as goal
 
 pub returns-clause-leaves : goal.returns-clause-leaves
 returns-clause-leaves g c = λ w stands fair. record {

@@ -1,0 +1,10 @@
+use Rattle.std.proofs.Common.{sym, arith, map, string_bytes}
+use Rattle.std.proofs.lemmas.List.{length-map}
+use Rattle.emv_top.proofs.WordLemmas.{no_count, too_few}
+use Rattle.emv_top.proofs.words.read_count.Goals as goal
+
+pub returns-in-len4-up-clause-exact : goal.returns-in-len4-up-clause-exact
+returns-in-len4-up-clause-exact c = sym (no_count (map string_bytes c.args.words.now) (let same = length-map c.args.words.now string_bytes in omega (arith, same, c.in-len4-up.len_at_least)))
+
+pub returns-in-empty-clause-exact : goal.returns-in-empty-clause-exact
+returns-in-empty-clause-exact c = sym (too_few (map string_bytes c.args.words.now) (let same = length-map c.args.words.now string_bytes in omega (arith, same, c.in-empty.len_below)))

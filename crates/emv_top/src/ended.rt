@@ -1,0 +1,51 @@
+//! What a run leaves: a status, the pages and the tally.
+ghost use Rattle.std.specs.Prelude.{◌≡◌, map, length};
+ghost use Rattle.std.specs.List.{All};
+ghost use Rattle.emv_ports.specs.Memory.{IsBlank};
+ghost use Rattle.emv_top.specs.Answers.{AreSpare, Leaves, Unbegun};
+ghost use Rattle.txn_replay.specs.Laws.{IsFair};
+ghost use Rattle.txn_replay.specs.World.{World as Told};
+ghost use Rattle.txn_replay.specs.Seen.{WorldStands};
+
+use crate::status::Status;
+use emv_ports::Pages;
+use kernel::Tally;
+use txn_replay::World;
+
+/// How a run ended, the cards' pages, and what the terminals counted.
+#[derive(Drop)]
+pub struct Ended<P: Drop> {
+    pub status: Status,
+    pub bank: Vec<P>,
+    pub tally: Tally,
+}
+
+/// The end before a world was made.
+pub fn unbegun<P: Pages>(status: Status, bank: Vec<P>) -> Ended<P>
+    requires pages { length bank.items ≡ 64 }
+    requires blank { All IsBlank (map P.memory bank.items) }
+    ensures status { result.status ≡ status }
+    ensures unbegun { Unbegun (map P.memory result.bank.items) result.tally }
+    ensures bank { result.bank ≡ bank }
+{
+    Ended {
+        status,
+        bank,
+        tally: Tally::new(),
+    }
+}
+
+/// The end of a world.
+pub fn end_world<P: Pages>(status: Status, world: World<'_, P>) -> Ended<P>
+    requires { AreSpare (length world.scenario.cards) world.spare }
+    ensures status { result.status ≡ status }
+    ensures leaves { (w : Told) → WorldStands world.entry w → IsFair world.entry.scenario w
+        → Leaves world.entry.scenario (map P.memory result.bank.items) result.tally w }
+{
+    let (bank, tally) = world.into_bank();
+    Ended {
+        status,
+        bank,
+        tally,
+    }
+}
