@@ -7,6 +7,7 @@ use std::test::Fail;
 
 mod documents;
 mod faults;
+mod generating;
 mod rows;
 
 use rows::{BASE, BASE_READ, BASE_REPORT};
@@ -109,12 +110,6 @@ fn other_words_give_the_usage_line(rt: HostRuntime) -> Result<(), Fail> {
         &["--help"],
         &["Read"],
         &["generate"],
-        &["generate", "0"],
-        &["generate", "01"],
-        &["generate", "10001"],
-        &["generate", "+1"],
-        &["generate", "1", "1"],
-        &["generate", "99999999999999999999"],
     ] {
         let ended = run_of(rt.alloc(), words, BASE.as_bytes(), (&[1], &[]))?;
         assert_eq!(rt; ended.status, 2);
@@ -123,27 +118,6 @@ fn other_words_give_the_usage_line(rt: HostRuntime) -> Result<(), Fail> {
             b"usage: emvrun read|replay|generate N\n".as_slice()
         );
         assert_eq!(rt; ended.marks, 0);
-    }
-    Ok(())
-}
-
-/// The one purchase of the generated scenario of one, 43.90 without a tear, is approved offline.
-#[test]
-fn a_generated_scenario_is_summed_up(rt: HostRuntime) -> Result<(), Fail> {
-    for words in [
-        ["generate", "1"].as_slice(),
-        &["--", "generate", "1"],
-        &["generate", "--", "1"],
-    ] {
-        let ended = run_of(rt.alloc(), words, BASE.as_bytes(), (&[1], &[]))?;
-        assert_eq!(rt; ended.status, 0);
-        assert_eq!(rt;
-            ended.text.as_slice(),
-            b"generated 1\napproved 1 declined 0 other 0\nbooked 4390\n".as_slice()
-        );
-        assert_eq!(rt; ended.tally.counts(), [1, 0, 0, 10]);
-        assert_eq!(rt; ended.marks, 4);
-        assert_eq!(rt; ended.cards, 64);
     }
     Ok(())
 }

@@ -94,15 +94,6 @@ fn a_refusal_may_fail(rt: HostRuntime) -> Result<(), Fail> {
     Ok(())
 }
 
-#[test]
-fn a_summary_may_fail(rt: HostRuntime) -> Result<(), Fail> {
-    let unwritten = run_of(rt.alloc(), &["generate", "1"], b"", (&[], &[1]))?;
-    assert_eq!(rt; unwritten.status, 4);
-    assert!(rt; unwritten.text.is_empty());
-    assert_eq!(rt; unwritten.tally.counts(), [1, 0, 0, 10]);
-    Ok(())
-}
-
 /// How a run over ports that move a byte a call ended, and what the sink holds.
 #[derive(Drop)]
 struct Slow {
