@@ -123,16 +123,24 @@ fn a_byte_a_call_gives_the_same_report(rt: HostRuntime) -> Result<(), Fail> {
     Ok(())
 }
 
+fn byte_count(text: &str) -> u32 {
+    let mut count: u32 = 0;
+    for _ in text.as_bytes() {
+        count = count.saturating_add(1);
+    }
+    count
+}
+
 /// The first call, one in the middle and the last one of so many.
-fn calls(count: usize) -> [usize; 3] {
+fn calls(count: u32) -> [u32; 3] {
     [1, count / 2, count]
 }
 
 /// The first bytes of a report, so many.
-fn first_bytes(report: &str, count: usize) -> &[u8] {
+fn first_bytes(report: &str, count: u32) -> &[u8] {
     let bytes = report.as_bytes();
-    if count <= bytes.len() {
-        &bytes[..count]
+    if count as usize <= bytes.len() {
+        &bytes[..count as usize]
     } else {
         bytes
     }
@@ -141,8 +149,8 @@ fn first_bytes(report: &str, count: usize) -> &[u8] {
 #[test]
 fn a_source_may_fail_at_a_byte(rt: HostRuntime) -> Result<(), Fail> {
     // The call behind the last byte finds the end.
-    for call in calls(BASE.len().saturating_add(1)) {
-        let ended = slow_run(rt.alloc(), (&[call as u32], &[]))?;
+    for call in calls(byte_count(BASE).saturating_add(1)) {
+        let ended = slow_run(rt.alloc(), (&[call], &[]))?;
         assert_eq!(rt; ended.status, 3);
         assert!(rt; ended.text.is_empty());
     }
@@ -151,8 +159,8 @@ fn a_source_may_fail_at_a_byte(rt: HostRuntime) -> Result<(), Fail> {
 
 #[test]
 fn a_sink_may_fail_at_a_byte(rt: HostRuntime) -> Result<(), Fail> {
-    for call in calls(BASE_REPORT.len()) {
-        let ended = slow_run(rt.alloc(), (&[], &[call as u32]))?;
+    for call in calls(byte_count(BASE_REPORT)) {
+        let ended = slow_run(rt.alloc(), (&[], &[call]))?;
         assert_eq!(rt; ended.status, 4);
         let front = first_bytes(BASE_REPORT, call.saturating_sub(1));
         assert_eq!(rt; ended.text.as_slice(), front);
