@@ -10,7 +10,7 @@ use Rattle.std.specs.Prelude.{if◌then◌else◌, nat_lt}
 use Rattle.std.specs.List.{AllZip}
 use Rattle.emv_ports.specs.Memory.{torn_page}
 use Rattle.emv_ports.specs.PageReading.{Agrees, Reading}
-use Rattle.emv_ports.specs.Cell.{sure_of, given_of, torn_over, all_torn_over, settled, settled_from, gives_byte, is_page}
+use Rattle.emv_ports.specs.Cell.{sure_of, given_of, is_sure, torn_over, all_torn_over, settled, settled_from, gives_byte, is_page}
 use Rattle.emv_ports.specs.declared.memory_pages.Cell.{Cell}
 use Rattle.emv_ports.specs.declared.memory_pages.Cell.TheVariants.{Sure, Unsure}
 
@@ -27,6 +27,11 @@ pub settled_from-push : (power_up n i : ℕ) (cells : List Cell) (cell : Cell) �
 settled_from-push power_up n i [] cell at = let here : n ≡ i = omega arith in rw here refl
 settled_from-push power_up n i (c ∷ cells) cell at =
     ap (λ rest. settled ((n + power_up) % 2 == 0) c ∷ rest) (settled_from-push power_up (n + 1) i cells cell (omega arith))
+
+pub settled_from-sure : (power_up n : ℕ) (cells : List Cell) → IsTrue (list_all is_sure cells) → settled_from power_up n cells ≡ cells
+settled_from-sure power_up n [] sure = refl
+settled_from-sure power_up n (Sure byte ∷ cells) sure = ap (λ (l : List Cell). Sure byte ∷ l) (settled_from-sure power_up (n + 1) cells sure)
+settled_from-sure power_up n (Unsure torn given ∷ cells) sure = (cc)
 
 pub torn_step : (i : ℕ) (torn cells : List Cell) (bytes : List ℕ) (cell d : Cell) → i < length torn → i < length cells → i < length bytes
     → take i torn ≡ all_torn_over (take i cells) (take i bytes) → cell ≡ torn_over (get_or cells i d) (get_or bytes i 0)

@@ -1,5 +1,5 @@
 -- A cell of pages that live in memory.
-use Rattle.std.specs.Prelude.{ℕ, ◌+◌, ◌%◌, Bool, ◌&&◌, List, [], ◌∷◌, length, Option, Some, None, ◌==◌, nat_lt, if◌then◌else◌}
+use Rattle.std.specs.Prelude.{ℕ, ◌+◌, ◌%◌, Bool, true, false, ◌&&◌, List, [], ◌∷◌, length, Option, Some, None, ◌==◌, nat_lt, if◌then◌else◌}
 use Rattle.std.specs.List.{list_all}
 use Rattle.emv_ports.specs.declared.memory_pages.Cell.{Cell}
 use Rattle.emv_ports.specs.declared.memory_pages.Cell.TheVariants.{Sure, Unsure}
@@ -7,6 +7,10 @@ use Rattle.emv_ports.specs.declared.memory_pages.Cell.TheVariants.{Sure, Unsure}
 abbrev pub sure_of : Cell → Option ℕ
 sure_of (Sure byte) = Some byte
 sure_of (Unsure torn given) = None
+
+abbrev pub is_sure : Cell → Bool
+is_sure (Sure byte) = true
+is_sure (Unsure torn given) = false
 
 -- the byte that the cell gives until the next power-up
 abbrev pub given_of : Cell → ℕ

@@ -2,7 +2,7 @@
 ghost use Rattle.std.specs.Prelude.{◌≡◌, ◌<◌, map, length, unwrap_or, IsTrue};
 ghost use Rattle.std.specs.List.{list_all};
 ghost use Rattle.emv_ports.specs.Cut.{is_plan, write_cut, release_cut};
-ghost use Rattle.emv_ports.specs.Cell.{sure_of, given_of, gives_byte, is_page};
+ghost use Rattle.emv_ports.specs.Cell.{sure_of, given_of, is_sure, gives_byte, is_page};
 ghost use Rattle.emv_ports.specs.Cell.{settled, settled_from, torn_over, all_torn_over};
 ghost use Rattle.emv_ports.specs.Rough.{rough_byte, rough_page, rough_pages};
 ghost use Rattle.emv_ports.specs.declared.memory_pages.Cell.TheVariants.{Sure};
@@ -20,6 +20,13 @@ enum Cell {
 }
 
 impl Cell {
+    fn is_sure(self) -> bool
+        ensures sure { result ≡ is_sure self }
+        ensures byte { IsTrue (gives_byte self) }
+    {
+        matches!(self, Cell::Sure(_))
+    }
+
     fn given(self) -> u8
         ensures { result ≡ given_of self }
     {
@@ -111,6 +118,29 @@ fn settled_cells(cells: &[Cell; 64], power_up: u8) -> [Cell; 64]
     settled
 }
 
+fn are_sure(cells: &[Cell; 64]) -> bool
+    ensures sure { IsTrue result → IsTrue (list_all is_sure cells.now) }
+    ensures page { IsTrue result → IsTrue (is_page cells.now) }
+{
+    for i in 0..64 {
+        if !cells[i].is_sure() {
+            return false;
+        }
+    }
+    true
+}
+
+/// Most pages have no unsure cell, and are left as they stand.
+fn settle_page(cells: &mut [Cell; 64], power_up: u8)
+    requires { power_up < 2 }
+    ensures cells { cells.new ≡ settled_from power_up 0 cells.old }
+    ensures page { IsTrue (is_page cells.new) }
+{
+    if !are_sure(cells) {
+        *cells = settled_cells(cells, power_up);
+    }
+}
+
 fn settle(pages: &mut [[Cell; 64]; 64], power_up: u8)
     requires { power_up < 2 }
     ensures cells { pages.new ≡ map (settled_from power_up 0) pages.old }
@@ -118,7 +148,7 @@ fn settle(pages: &mut [[Cell; 64]; 64], power_up: u8)
     ensures pages { IsTrue (list_all is_page pages.new) }
 {
     for page in 0..64 {
-        pages[page] = settled_cells(&pages[page], power_up);
+        settle_page(&mut pages[page], power_up);
     }
 }
 

@@ -1,10 +1,8 @@
 //! The run of a generated scenario, and its summary in place of a report.
-ghost use Rattle.std.specs.Prelude.{◌≡◌, ◌≤◌, ◌+◌, ◌++◌, ℕ, List, [], decimal, length, map, None, IfOk};
+ghost use Rattle.std.specs.Prelude.{◌≡◌, ◌≤◌, ℕ, List, [], length, map, None, IfOk};
 ghost use Rattle.std.specs.declared.option.Option.{Option};
-ghost use Rattle.std.specs.Fmt.{signed_decimal};
 ghost use Rattle.std.specs.Io.{WritesAtMost};
 ghost use Rattle.std.specs.List.{All};
-ghost use Rattle.arrayvec.specs.ArrayVec.{array_vec_len};
 ghost use Rattle.emv_ports.specs.Memory.{IsBlank};
 ghost use Rattle.emv_top.specs.Answers.{AreSettled, AreSpare, Completes, SinkCount};
 ghost use Rattle.emv_top.specs.Decided.{DecidedRun, HasProfiles};
@@ -21,9 +19,9 @@ use crate::status::Status;
 use emv_ports::{Failed, Pages, Sink, write_all};
 use generated::generated;
 use issuer_host::Account;
-use itoa::Buffer;
 use kernel::Tally;
 use report_text::Text;
+use report_text::pieces::{amount, append, number};
 use scenario::Scenario;
 use std::alloc::{AllocError, Global};
 use txn_replay::World;
@@ -40,34 +38,6 @@ impl Sink for Unheard {
     fn write(&mut self, piece: &[u8]) -> Result<usize, Failed> {
         Ok(piece.len())
     }
-}
-
-fn append(out: &mut Text, bytes: &[u8])
-    requires { array_vec_len out.old + length bytes.now ≤ 8192 }
-    ensures text { out.new.items ≡ out.old.items ++ bytes.now }
-    ensures len { array_vec_len out.new ≡ array_vec_len out.old + length bytes.now }
-{
-    if out.try_extend_from_slice(bytes).is_err() {
-        unreachable!();
-    }
-}
-
-fn number(out: &mut Text, number: u64)
-    requires { array_vec_len out.old + 40 ≤ 8192 }
-    ensures text { out.new.items ≡ out.old.items ++ decimal number }
-    ensures len { array_vec_len out.new ≤ array_vec_len out.old + 40 }
-{
-    let mut buffer = Buffer::new();
-    append(out, buffer.format(number).as_bytes());
-}
-
-fn amount(out: &mut Text, amount: i128)
-    requires { array_vec_len out.old + 40 ≤ 8192 }
-    ensures text { out.new.items ≡ out.old.items ++ signed_decimal amount }
-    ensures len { array_vec_len out.new ≤ array_vec_len out.old + 40 }
-{
-    let mut buffer = Buffer::new();
-    append(out, buffer.format(amount).as_bytes());
 }
 
 /// The summary of so many purchases.

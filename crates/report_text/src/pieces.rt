@@ -12,7 +12,8 @@ use ber_tlv::{Tag, tag_bytes};
 use emv_dict::Digits;
 use itoa::Buffer;
 
-pub(crate) fn append(out: &mut Text, bytes: &[u8])
+/// Bytes as they are, for which there is room.
+pub fn append(out: &mut Text, bytes: &[u8])
     requires { array_vec_len out.old + length bytes.now ≤ 8192 }
     ensures text { out.new.items ≡ out.old.items ++ bytes.now }
     ensures len { array_vec_len out.new ≡ array_vec_len out.old + length bytes.now }
@@ -22,8 +23,8 @@ pub(crate) fn append(out: &mut Text, bytes: &[u8])
     }
 }
 
-/// A number in decimal.
-pub(crate) fn number(out: &mut Text, number: u64)
+/// A number in decimal, for which there are 40 bytes of room.
+pub fn number(out: &mut Text, number: u64)
     requires { array_vec_len out.old + 40 ≤ 8192 }
     ensures text { out.new.items ≡ out.old.items ++ decimal number }
     ensures len { array_vec_len out.new ≤ array_vec_len out.old + 40 }
@@ -32,8 +33,8 @@ pub(crate) fn number(out: &mut Text, number: u64)
     append(out, buffer.format(number).as_bytes());
 }
 
-/// An amount in decimal, with a minus sign below zero.
-pub(crate) fn amount(out: &mut Text, amount: i128)
+/// An amount in decimal, with a minus sign below zero, for which there are 40 bytes of room.
+pub fn amount(out: &mut Text, amount: i128)
     requires { array_vec_len out.old + 40 ≤ 8192 }
     ensures text { out.new.items ≡ out.old.items ++ signed_decimal amount }
     ensures len { array_vec_len out.new ≤ array_vec_len out.old + 40 }
@@ -42,19 +43,33 @@ pub(crate) fn amount(out: &mut Text, amount: i128)
     append(out, buffer.format(amount).as_bytes());
 }
 
-/// At most 2,048 bytes in hexadecimal.
+fn hex_within<const ROOM: usize>(out: &mut Text, bytes: &[u8])
+    requires small { ROOM ≤ 4096 }
+    requires few { 2 * length bytes.now ≤ ROOM }
+    requires room { array_vec_len out.old + 2 * length bytes.now ≤ 8192 }
+    ensures text { out.new.items ≡ out.old.items ++ encode_lower bytes.now }
+    ensures len { array_vec_len out.new ≡ array_vec_len out.old + 2 * length bytes.now }
+{
+    let mut room = [0u8; ROOM];
+    let count = 2 * bytes.len();
+    if hex::encode_to_slice(bytes, &mut room[..count]).is_err() {
+        unreachable!();
+    }
+    append(out, &room[..count]);
+}
+
+/// At most 2,048 bytes in hexadecimal. Most have little, and little room is zeroed for them.
 pub(crate) fn hex(out: &mut Text, bytes: &[u8])
     requires few { length bytes.now ≤ 2048 }
     requires room { array_vec_len out.old + 2 * length bytes.now ≤ 8192 }
     ensures text { out.new.items ≡ out.old.items ++ encode_lower bytes.now }
     ensures len { array_vec_len out.new ≡ array_vec_len out.old + 2 * length bytes.now }
 {
-    let mut room = [0u8; 4096];
-    let count = 2 * bytes.len();
-    if hex::encode_to_slice(bytes, &mut room[..count]).is_err() {
-        unreachable!();
+    if bytes.len() <= 256 {
+        hex_within::<512>(out, bytes);
+    } else {
+        hex_within::<4096>(out, bytes);
     }
-    append(out, &room[..count]);
 }
 
 /// At most 2,048 bytes in hexadecimal, or a dash where there are none.

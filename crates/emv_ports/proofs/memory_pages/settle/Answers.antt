@@ -3,8 +3,8 @@ use Rattle.emv_ports.proofs.memory_pages.settle.Goals as goal
 
 pub loop-page-preserved : goal.loop-page-preserved
 loop-page-preserved c =
-    settling_step c.args.power_up c.loop-page.page c.args.pages.now c.loop-page.pages c.settled_cells.result
-    c.loop-page-test.true c.told-pages c.loop-page.invariant c.settled_cells.ensures.cells c.settled_cells.ensures.page
+    settling_step c.args.power_up c.loop-page.page c.args.pages.now c.loop-page.pages c.settle_page.new.cells
+    c.loop-page-test.true c.told-pages c.loop-page.invariant c.settle_page.ensures.cells c.settle_page.ensures.page
 
 pub returns : goal.returns
 returns c =
