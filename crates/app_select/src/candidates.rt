@@ -83,6 +83,13 @@ impl<'s> Candidates<'s> {
         }
     }
 
+    /// Lets go of all candidates, for another selection.
+    pub fn clear(&mut self)
+        ensures { self.new ≡ [] }
+    {
+        self.list.clear();
+    }
+
     /// Adds an application that was found.
     pub(crate) fn push(&mut self, candidate: Candidate<'s>)
         requires { length self.old < 256 }

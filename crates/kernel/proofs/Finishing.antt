@@ -1,19 +1,24 @@
 -- The end of a kernel's dialogue.
-use Rattle.std.proofs.Common.{◌≡◌, refl, sym, ap, ◌∙◌, List, [], ◌++◌, Some, None}
+use Rattle.std.proofs.Common.{◌≡◌, ℕ, ◌-◌, ◌^◌, arith, refl, sym, ap, ◌∙◌, List, [], ◌++◌, Some, None}
 use Rattle.std.proofs.lemmas.List.{append-nil}
+use Rattle.std.proofs.lemmas.Option.{same_Some}
+use Rattle.std.specs.Prelude.{min}
 use Rattle.std.specs.declared.option.Option.{Option}
 use Rattle.emv_dict.specs.declared.ending.Ending.{Ending}
+use Rattle.emv_dict.specs.declared.ending.Ending.TheVariants.{Approved, Declined, Terminated, CutOff}
 use Rattle.emv_dict.specs.declared.purchase.Logged.{Logged}
 use Rattle.env_map.specs.Entries.{Entries}
 use Rattle.object_lists.specs.CardRead.{ReadCard}
+use Rattle.object_lists.specs.CardRead.{ReadCard}
 use Rattle.kernel.specs.Course.{Standing, stands}
 use Rattle.kernel.specs.Dialogue.{Trade, dialogue}
-use Rattle.kernel.specs.Ended.{end_with, end_of}
+use Rattle.kernel.specs.Ended.{EndData, capture, presentment, reversal, end_with, end_of}
 use Rattle.kernel.specs.Kernel.{KernelData, KernelFits, StageFits, KernelStands, StageGoes, deal_in}
 use Rattle.kernel.specs.Marks.{Mark, MomentData, moment, latest, card_of}
 use Rattle.kernel.specs.Reply.{Reply, Deed, Over}
 use Rattle.kernel.specs.Stages.{OpeningStands, TradingStands}
 use Rattle.kernel.specs.Shown.{opening_over, trading_over, stage_over}
+use Rattle.kernel.specs.Tally.{Counts, plus, raised}
 use Rattle.kernel.specs.Terminal.{Deal}
 use Rattle.kernel.specs.declared.stage.Opening.{Opening}
 use Rattle.kernel.specs.declared.stage.Opening.TheVariants as opening
@@ -100,3 +105,32 @@ pub kernel_stays : (k : KernelData) → (replies more : List Reply) → (ending 
 kernel_stays k replies more ending is over =
     stage_stays k k.stage is.log (λ later. dialogue (deal_in k) (replies ++ later)) ending is.goes over more
     ∙ ap (λ (all : List Reply). dialogue (deal_in k) all) (append-nil replies)
+
+-- a count of replies that stops at the greatest number raises a tally as the replies do
+plus_taken : (a taken n : ℕ) → taken ≡ min n (2 ^ 64 - 1) → plus a taken ≡ plus a n
+plus_taken a taken n is = rw is (grind arith)
+
+pub raised_taken : (counts : Counts) (ending : Ending) (taken n : ℕ) → taken ≡ min n (2 ^ 64 - 1) → raised counts ending taken ≡ raised counts ending n
+raised_taken counts (Approved online) taken n is =
+    ap (λ r. record counts { approved = plus counts.approved 1; replies = r }) (plus_taken counts.replies taken n is)
+raised_taken counts (Declined online) taken n is =
+    ap (λ r. record counts { declined = plus counts.declined 1; replies = r }) (plus_taken counts.replies taken n is)
+raised_taken counts (Terminated step cause) taken n is =
+    ap (λ r. record counts { other = plus counts.other 1; replies = r }) (plus_taken counts.replies taken n is)
+raised_taken counts (CutOff step) taken n is =
+    ap (λ r. record counts { other = plus counts.other 1; replies = r }) (plus_taken counts.replies taken n is)
+
+pub ends_with_card : (k : KernelData) (replies : List Reply) (end : EndData) (ending : Ending) → KernelFits k → KernelStands k replies → stage_over k.stage ≡ Some ending
+    → end_of (deal_in k) (dialogue (deal_in k) replies) ≡ Some end → end.card ≡ k.card
+ends_with_card k replies end ending fits is over ends =
+    let same : Some end ≡ Some (end_with (deal_in k) ending k.card k.table.moment) = sym ends ∙ kernel_ends k replies ending fits is over in
+    ap (λ (e : EndData). e.card) (same_Some end (end_with (deal_in k) ending k.card k.table.moment) same)
+
+-- before the first step nothing is captured
+pub nothing_captured : (deal : Deal) (ending : Ending) (card : Option ReadCard) (m : MomentData) → m ≡ moment [] → capture deal ending card m ≡ None
+unfolding presentment reversal
+nothing_captured deal ending None m is = refl
+nothing_captured deal (Approved online) (Some card) m is = rw is refl
+nothing_captured deal (Declined online) (Some card) m is = rw is refl
+nothing_captured deal (Terminated step cause) (Some card) m is = rw is refl
+nothing_captured deal (CutOff step) (Some card) m is = rw is refl

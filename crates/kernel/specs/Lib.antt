@@ -1,3 +1,4 @@
+pub mod BeginEnd
 pub mod Trades
 pub mod Reply
 pub mod Course

@@ -11,27 +11,30 @@ use Rattle.kernel.specs.declared.stage.Stage.TheVariants as stage
 use Rattle.kernel.specs.declared.stage.Trading.{Trading}
 use Rattle.kernel.specs.declared.stage.Trading.TheVariants as trading
 
--- the account number and the card's data are there where reading is finished; `capture` are the bytes of the message
-pub record EndedData : Type 0 where
+-- the account number is there where reading is finished; `capture` are the bytes of the message
+pub record EndShown : Type 0 where
   pub ending : Ending
   pub tvr : ℕ
   pub tsi : ℕ
   pub cvm : List ℕ
   pub pan : Option (List ℕ)
-  pub card : Option ReadCard
   pub code : Option (List ℕ)
   pub last : Option AcData
   pub scripts : List (List ℕ)
   pub capture : Option (List ℕ)
 
-abbrev pub shown : EndData → EndedData
+-- with the card's data, which are there where reading is finished
+pub record EndedData : Type 0 where
+  pub shown : EndShown
+  pub card : Option ReadCard
+
+abbrev pub shown : EndData → EndShown
 shown end = record {
   ending = end.ending;
   tvr = end.moment.tvr;
   tsi = end.moment.tsi;
   cvm = end.moment.results;
   pan = option_map (λ card. card.pan) end.card;
-  card = end.card;
   code = end.moment.code;
   last = end.moment.last;
   scripts = end.moment.scripts;

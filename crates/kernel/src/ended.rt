@@ -46,8 +46,8 @@ impl Capture {
     }
 }
 
-/// The end of a dialogue. The card and its account number are there where reading is finished.
-pub struct Ended {
+/// The end of a dialogue. The account number is there where reading is finished.
+pub struct EndRecord {
     pub ending: Ending,
     /// The terminal verification results (95).
     pub tvr: Tvr,
@@ -57,7 +57,6 @@ pub struct Ended {
     pub cvm: [u8; 3],
     /// The primary account number.
     pub pan: Option<Digits>,
-    pub card: Option<CardData>,
     /// The authorisation response code (8A).
     pub code: Option<[u8; 2]>,
     /// The card's last cryptogram.
@@ -68,10 +67,10 @@ pub struct Ended {
     pub capture: Option<Capture>,
 }
 
-impl Model for Ended {
-    ghost use Rattle.kernel.specs.Shown.{EndedData};
+impl Model for EndRecord {
+    ghost use Rattle.kernel.specs.Shown.{EndShown};
 
-    ghost Value = { EndedData };
+    ghost Value = { EndShown };
 
     ghost view = { λ e. record {
       ending = e.ending;
@@ -79,12 +78,76 @@ impl Model for Ended {
       tsi = e.tsi.0;
       cvm = e.cvm;
       pan = e.pan;
-      card = e.card;
       code = e.code;
       last = e.last;
       scripts = e.scripts.items;
       capture = e.capture;
     } };
+}
+
+/// An end record with the card's data, which are there where reading is finished.
+pub struct Ended {
+    pub ending: Ending,
+    pub tvr: Tvr,
+    pub tsi: Tsi,
+    pub cvm: [u8; 3],
+    pub pan: Option<Digits>,
+    pub card: Option<CardData>,
+    pub code: Option<[u8; 2]>,
+    pub last: Option<Ac>,
+    pub scripts: ArrayVec<[u8; 5], 8>,
+    pub capture: Option<Capture>,
+}
+
+impl Model for Ended {
+    ghost use Rattle.kernel.specs.Shown.{EndedData};
+
+    ghost Value = { EndedData };
+
+    ghost view = { λ e. record {
+      shown = record {
+        ending = e.ending;
+        tvr = e.tvr.0;
+        tsi = e.tsi.0;
+        cvm = e.cvm;
+        pan = e.pan;
+        code = e.code;
+        last = e.last;
+        scripts = e.scripts.items;
+        capture = e.capture;
+      };
+      card = e.card;
+    } };
+}
+
+/// An end record with the card's data.
+pub(crate) fn with_card(end: EndRecord, card: Option<CardData>) -> Ended
+    ensures shown { result.shown ≡ end }
+    ensures card { result.card ≡ card }
+{
+    let EndRecord {
+        ending,
+        tvr,
+        tsi,
+        cvm,
+        pan,
+        code,
+        last,
+        scripts,
+        capture,
+    } = end;
+    Ended {
+        ending,
+        tvr,
+        tsi,
+        cvm,
+        pan,
+        card,
+        code,
+        last,
+        scripts,
+        capture,
+    }
 }
 
 /// How a stage ended that did.
@@ -118,25 +181,13 @@ pub(crate) fn end_record(
     settings: &Settings,
     purchase: &Purchase,
     moment: Moment,
-    card: Option<CardData>,
+    card: Option<&CardData>,
     ending: Ending,
-) -> Ended
+) -> EndRecord
     requires { IsPurchase purchase.now }
-    ensures { result ≡ shown (spec.end_with (record { settings = settings.now; purchase = purchase.now }) ending card moment) }
+    ensures { result ≡ shown (spec.end_with (record { settings = settings.now; purchase = purchase.now }) ending (option_map (λ card. card.now) card.entry) moment) }
 {
-    let capture = captured(settings, purchase, &moment, &card, ending);
-    with_capture(moment, card, ending, capture)
-}
-
-/// The same with what is captured.
-fn with_capture(
-    moment: Moment,
-    card: Option<CardData>,
-    ending: Ending,
-    capture: Option<Capture>,
-) -> Ended
-    ensures { result ≡ shown (record { ending = ending; moment = moment; card = card; capture = capture }) }
-{
+    let capture = captured(settings, purchase, &moment, card, ending);
     let Moment {
         tvr,
         tsi,
@@ -151,13 +202,12 @@ fn with_capture(
         tvr_when_second: _,
         scripts,
     } = moment;
-    Ended {
+    EndRecord {
         ending,
         tvr,
         tsi,
         cvm: results,
-        pan: account_number(&card),
-        card,
+        pan: account_number(card),
         code,
         last,
         scripts,
@@ -165,8 +215,8 @@ fn with_capture(
     }
 }
 
-fn account_number(card: &Option<CardData>) -> Option<Digits>
-    ensures { result ≡ option_map (λ card. card.pan) card.now }
+fn account_number(card: Option<&CardData>) -> Option<Digits>
+    ensures { result ≡ option_map (λ card. card.now.pan) card.entry }
 {
     match card {
         Some(card) => Some(card.pan.copy()),
@@ -179,11 +229,11 @@ fn captured(
     settings: &Settings,
     purchase: &Purchase,
     moment: &Moment,
-    card: &Option<CardData>,
+    card: Option<&CardData>,
     ending: Ending,
 ) -> Option<Capture>
     requires { IsPurchase purchase.now }
-    ensures { result ≡ spec.capture (record { settings = settings.now; purchase = purchase.now }) ending card.now moment.now }
+    ensures { result ≡ spec.capture (record { settings = settings.now; purchase = purchase.now }) ending (option_map (λ card. card.now) card.entry) moment.now }
 {
     let Some(card) = card else {
         return None;

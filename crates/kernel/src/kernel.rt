@@ -6,6 +6,7 @@ ghost use Rattle.emv_dict.specs.declared.purchase.Logged.{Logged as LoggedRow};
 ghost use Rattle.kernel.specs.Course.{Standing};
 ghost use Rattle.kernel.specs.Fits.{OpeningFits};
 ghost use Rattle.kernel.specs.Dialogue.{dialogue};
+ghost use Rattle.kernel.specs.BeginEnd.{HasBegun};
 ghost use Rattle.kernel.specs.Kernel.{KernelStands, StageFits, StageGoes, deal_in, next_of, told_next, told_bytes};
 ghost use Rattle.kernel.specs.Kernel as spec;
 ghost use Rattle.kernel.specs.Rank.{rank_of};
@@ -14,6 +15,7 @@ ghost use Rattle.kernel.specs.Stages.{OpeningStands};
 ghost use Rattle.kernel.specs.Table.{IsDeal, deal_of};
 ghost use Rattle.kernel.specs.Reply.{Reply, CardSaid, CardGone, HostSaid, HostSilent};
 
+use crate::held::HeldCard;
 use crate::moment::Moment;
 use crate::opening;
 use crate::opening::OpeningNext;
@@ -49,7 +51,7 @@ pub struct Kernel<'s> {
     table: Table<'s>,
     /// The card's objects while it is read.
     objects: Env,
-    card: Option<CardData>,
+    card: HeldCard,
     stage: Stage<'s>,
     /// How many replies were taken, which stops at the greatest number.
     taken: u64,
@@ -70,11 +72,7 @@ impl<'s> Kernel<'s> {
     pub fn begin(settings: &'s Settings, purchase: &'s Purchase) -> Kernel<'s>
         requires settings { IsSettings settings.now }
         requires purchase { IsPurchase purchase.now }
-        ensures stands { KernelStands result [] }
-        ensures deal { deal_in result ≡ record { settings = settings.now; purchase = purchase.now } }
-        ensures waits { next_of result ≡ Next.ToCard }
-        // A dialogue ends after at most 20,000 replies and one more for each PIN entry.
-        ensures few { rank_of result ≤ 20000 + length purchase.now.pins }
+        ensures { HasBegun (record { settings = settings.now; purchase = purchase.now }) result }
     {
         let mut command = Out::new();
         let opening = opening::begin(settings, purchase, &mut command);
@@ -90,10 +88,25 @@ impl<'s> Kernel<'s> {
                 message: ArrayVec::new(),
             },
             objects: Env::new(),
-            card: None,
+            card: HeldCard::none(),
             stage: Stage::Opening(opening),
             taken: 0,
         }
+    }
+
+    /// As `begin`, in the place of an earlier dialogue, of which nothing is left. Its large parts are
+    /// cleared and not made anew.
+    pub fn begin_again(&mut self, settings: &'s Settings, purchase: &'s Purchase)
+        requires settings { IsSettings settings.now }
+        requires purchase { IsPurchase purchase.now }
+        ensures { HasBegun (record { settings = settings.now; purchase = purchase.now }) self.new }
+    {
+        self.objects.clear();
+        self.card.let_go();
+        self.table.clear_for(settings, purchase);
+        let opening = opening::begin(settings, purchase, &mut self.table.command);
+        self.stage = Stage::Opening(opening);
+        self.taken = 0;
     }
 
     /// What the terminal waits for.
@@ -116,10 +129,11 @@ impl<'s> Kernel<'s> {
 
     /// What reading gave, where it is finished.
     pub fn data(&self) -> Option<&CardData>
-        ensures { (replies : List Reply) → KernelStands self.now replies
+        ensures exact { option_map (λ card. card.now) result ≡ self.now.card }
+        ensures told { (replies : List Reply) → KernelStands self.now replies
             → option_map (λ card. card.now) result ≡ latest card_of None (dialogue (deal_in self.now) replies).marks }
     {
-        self.card.as_ref()
+        self.card.get()
     }
 }
 

@@ -3,6 +3,7 @@
 #![tactic(auto)]
 
 pub mod ended;
+mod held;
 mod issuer_scripts;
 pub mod kernel;
 pub mod laws;
@@ -18,6 +19,6 @@ mod terminal;
 mod trading;
 mod turns;
 
-pub use ended::{Capture, Ended};
+pub use ended::{Capture, EndRecord, Ended};
 pub use kernel::{Kernel, Next};
 pub use tally::Tally;

@@ -1,6 +1,8 @@
 //! What lies on the terminal's table while a dialogue goes on: what was dealt, what is known, and the
 //! buffers that are lent to the steps.
 ghost use Rattle.std.specs.Prelude.{◌≡◌, []};
+ghost use Rattle.kernel.specs.Marks.{moment};
+ghost use Rattle.kernel.specs.Table.{deal_of};
 
 use crate::moment::{IssuerData, Moment};
 use apdu_core::Out;
@@ -44,6 +46,23 @@ pub(crate) struct Table<'s> {
     pub reply: HostReply,
     pub command: Out,
     pub message: Message,
+}
+
+impl<'s> Table<'s> {
+    /// The table for another dialogue. The command stays until the next one is asked.
+    pub(crate) fn clear_for(&mut self, settings: &'s Settings, purchase: &'s Purchase)
+        ensures deal { deal_of self.new ≡ record { settings = settings.now; purchase = purchase.now } }
+        ensures candidates { self.new.candidates ≡ [] }
+        ensures moment { self.new.moment ≡ moment [] }
+        ensures scripts { self.new.reply.scripts ≡ [] }
+    {
+        self.settings = settings;
+        self.purchase = purchase;
+        self.candidates.clear();
+        self.moment = Moment::new();
+        self.reply = HostReply::none();
+        self.message.clear();
+    }
 }
 
 impl HostReply {

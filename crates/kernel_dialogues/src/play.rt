@@ -8,10 +8,29 @@ use crate::names::text_of;
 use arrayvec::ArrayVec;
 use auth_message::Message;
 use emv_dict::{Logged, Purchase, Settings};
-use kernel::{Capture, Ended, Kernel, Next, Tally};
+use kernel::{Capture, EndRecord, Kernel, Next, Tally};
 use online_step::Ac;
 use report_text::{EndParts, Line, Text, write_line};
 use std::alloc::Global;
+
+/// Room that is made once for all dialogues.
+#[derive(Drop)]
+pub struct Room {
+    bytes: Message,
+    captured: Message,
+    text: Text,
+}
+
+impl Room {
+    /// Empty room.
+    pub fn new() -> Room {
+        Room {
+            bytes: Message::new(),
+            captured: Message::new(),
+            text: Text::new(),
+        }
+    }
+}
 
 /// The line of a dialogue in its parts.
 #[derive(Clone, Copy)]
@@ -26,35 +45,55 @@ struct Parts<'t> {
 /// base, `: `, the commands and the messages with their replies between ` > `, ` = `, the end as a report
 /// prints it, and behind ` | ` what is captured. Bytes are hexadecimal digits or a name, and `-` stands for
 /// none. A host's exchange begins with `host`; a card can be `gone`, and a silent host says `none`.
-pub fn play(alloc: Global, line: &str) -> Result<(), Difference> {
+/// Behind it the dialogue is played `again` times more in the same terminal.
+pub fn play(alloc: Global, line: &str, again: u32, room: &mut Room) -> Result<(), Difference> {
     let parts = parts_of(line)?;
     let deal = Deal::read(parts.deal);
     let settings = deal.settings(alloc)?;
     let purchase = deal.purchase(alloc)?;
     let log = deal.log(alloc)?;
-    go_through(&settings, &purchase, &log, &parts)
+    go_through(&settings, &purchase, &log, &parts, again, room)
 }
 
-/// Goes through a dialogue, and compares its end.
+/// Goes through a dialogue, and so often again in the same terminal.
 fn go_through(
     settings: &Settings,
     purchase: &Purchase,
     log: &[Logged],
     parts: &Parts<'_>,
+    again: u32,
+    room: &mut Room,
 ) -> Result<(), Difference>
     requires settings { IsSettings settings.now }
     requires purchase { IsPurchase purchase.now }
     requires log { All (λ logged. logged.amount ≤ most_amount) log.now }
 {
     let mut kernel = Kernel::begin(settings, purchase);
-    let replies = exchange_all(&mut kernel, parts.exchanges, log)?;
+    play_out(&mut kernel, log, parts, room)?;
+    for _ in 0..again {
+        kernel.begin_again(settings, purchase);
+        play_out(&mut kernel, log, parts, room)?;
+    }
+    Ok(())
+}
+
+/// Goes through the dialogue that has begun, and compares its end.
+fn play_out(
+    kernel: &mut Kernel<'_>,
+    log: &[Logged],
+    parts: &Parts<'_>,
+    room: &mut Room,
+) -> Result<(), Difference>
+    requires log { All (λ logged. logged.amount ≤ most_amount) log.now }
+{
+    let replies = exchange_all(kernel, parts.exchanges, log, &mut room.bytes)?;
     match kernel.next() {
         Next::Ended => {}
         Next::ToCard | Next::ToHost => return Err(Difference::Deed(replies)),
     }
     let mut tally = Tally::new();
-    let ended = kernel.into_ended(&mut tally);
-    compare(ended, parts)?;
+    let ended = kernel.end(&mut tally);
+    compare(ended, parts, room)?;
     if tally.counts() == counts_of(parts.end, replies) {
         Ok(())
     } else {
@@ -79,14 +118,18 @@ fn parts_of(line: &str) -> Result<Parts<'_>, Difference> {
 }
 
 /// Goes through all exchanges, and counts them.
-fn exchange_all(kernel: &mut Kernel<'_>, exchanges: &str, log: &[Logged]) -> Result<u64, Difference>
+fn exchange_all(
+    kernel: &mut Kernel<'_>,
+    exchanges: &str,
+    log: &[Logged],
+    bytes: &mut Message,
+) -> Result<u64, Difference>
     requires { All (λ logged. logged.amount ≤ most_amount) log.now }
 {
-    let mut bytes = Message::new();
     let mut count = 0u64;
     for word in exchanges.split(" > ") {
         for exchange in text_of(word).split(" > ") {
-            if !is_taken(kernel, exchange, log, &mut bytes) {
+            if !is_taken(kernel, exchange, log, bytes) {
                 return Err(Difference::Deed(count));
             }
             count = count.saturating_add(1);
@@ -120,20 +163,19 @@ fn is_taken(kernel: &mut Kernel<'_>, exchange: &str, log: &[Logged], bytes: &mut
 }
 
 /// Compares the end record.
-fn compare(ended: Ended, parts: &Parts<'_>) -> Result<(), Difference> {
-    let Ended {
+fn compare(ended: EndRecord, parts: &Parts<'_>, room: &mut Room) -> Result<(), Difference> {
+    let EndRecord {
         ending,
         tvr,
         tsi,
         cvm,
         pan: _,
-        card: _,
         code,
         last,
         scripts,
         capture,
     } = ended;
-    if !is_captured(capture, parts.capture) {
+    if !is_captured(capture, parts.capture, room) {
         return Err(Difference::Capture);
     }
     let end = EndParts {
@@ -145,7 +187,7 @@ fn compare(ended: Ended, parts: &Parts<'_>) -> Result<(), Difference> {
         atc_ac: counter_and_cryptogram(&last),
         scripts,
     };
-    if is_end(end, parts.end) {
+    if is_end(end, parts.end, &mut room.text) {
         Ok(())
     } else {
         Err(Difference::End)
@@ -163,25 +205,23 @@ fn counter_and_cryptogram(last: &Option<Ac>) -> Option<(u16, [u8; 8])> {
 }
 
 /// Whether this is what is captured, nothing where there is none.
-fn is_captured(capture: Option<Capture>, text: &str) -> bool {
-    let mut message = Message::new();
-    let mut bytes = Message::new();
+fn is_captured(capture: Option<Capture>, text: &str, room: &mut Room) -> bool {
+    room.captured.clear();
     if let Some(capture) = capture {
-        capture.into_message(&mut message);
+        capture.into_message(&mut room.captured);
     }
-    put_bytes(&mut bytes, text_of(text));
-    message.as_slice() == bytes.as_slice()
+    put_bytes(&mut room.bytes, text_of(text));
+    room.captured.as_slice() == room.bytes.as_slice()
 }
 
 /// Whether a report prints the end so.
-fn is_end(parts: EndParts, end: &str) -> bool {
-    let mut text = Text::new();
+fn is_end(parts: EndParts, end: &str, text: &mut Text) -> bool {
     let line = Line::End {
         lane: 0,
         number: 1,
         parts,
     };
-    write_line(&line, &mut text);
+    write_line(&line, text);
     text.as_slice().trim_ascii_end().strip_prefix(b"L0 end 1 ") == Some(end.as_bytes())
 }
 

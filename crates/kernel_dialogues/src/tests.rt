@@ -1,12 +1,13 @@
 mod table;
 
-use crate::play::play;
+use crate::play::{Room, play};
 use std::alloc::AllocGlobal;
 use std::process::Abort;
 
 fn play_all(rt: &(impl AllocGlobal + Abort), lines: &str) {
+    let mut room = Room::new();
     for line in lines.lines() {
-        assert_eq!(rt; play(rt.alloc(), line), Ok(()), "{line}");
+        assert_eq!(rt; play(rt.alloc(), line, 1, &mut room), Ok(()), "{line}");
     }
 }
 

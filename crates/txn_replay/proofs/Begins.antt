@@ -1,5 +1,6 @@
 -- A purchase begins: its card is powered up, or the tear cuts its power.
 use Rattle.std.proofs.Common.{◌≡◌, ◌+◌, Bool, ℕ, List, [], ◌∷◌, length, Option, Some, None, refl, sym, subst}
+use Rattle.std.specs.Global.{Box}
 use Rattle.std.specs.Prelude.{IsSomeAnd}
 use Rattle.card_pages.specs.Pages.{found_of}
 use Rattle.kernel.specs.Ended.{EndData}
@@ -19,21 +20,21 @@ use Rattle.txn_replay.specs.declared.lane.Lane.{Lane}
 use Rattle.txn_replay.proofs.Moves.{this_one}
 
 -- a lane with another terminal in it
-pub kept_on : (lane later : Lane) (row : LaneRow) → IsSomeAnd later.running (λ kernel. later ≡ record lane { running = Some kernel }) → LaneKeeps lane row
+pub kept_on : (lane later : Lane) (row : LaneRow) → IsSomeAnd later.running (λ kernel. later ≡ record lane { running = Some kernel; place = later.place }) → LaneKeeps lane row
     → (replies : List Reply) → LaneKeeps later (record row { running = Some replies })
 kept_on lane later row same keeps replies = by later.running same
   where
-    with_it : (kernel : KernelData) → LaneKeeps (record lane { running = Some kernel }) (record row { running = Some replies })
+    with_it : (kernel : Box KernelData) → LaneKeeps (record lane { running = Some kernel; place = later.place }) (record row { running = Some replies })
     with_it kernel = record {
       ended = keeps.ended;
       log = keeps.log;
       amounts = keeps.amounts;
       captures = keeps.captures;
-      card = keeps.card;
+      card = λ none. cc;
       ending = keeps.ending;
     }
 
-    by : (o : Option KernelData) → IsSomeAnd o (λ kernel. later ≡ record lane { running = Some kernel }) → LaneKeeps later (record row { running = Some replies })
+    by : (o : Option (Box KernelData)) → IsSomeAnd o (λ kernel. later ≡ record lane { running = Some kernel; place = later.place }) → LaneKeeps later (record row { running = Some replies })
     by None some = absurd some
     by (Some kernel) is = subst (λ (x : Lane). LaneKeeps x (record row { running = Some replies })) (sym is) (with_it kernel)
 
@@ -43,7 +44,7 @@ module _ (p : Payment) (lane : Lane) (slot next : SlotSeen) (part : Part) (rests
   begun_part choice = record part { card = powered part.card (found_of part.card.kept part.card.pending choice) (Some (this_one p part)) }
 
   pub powered_runs : (later : Lane) (choice : Bool) → IsPowered next p.card part.card p.planned.tear choice → HasLost next part.card.losses
-      → IsSomeAnd later.running (λ kernel. later ≡ record lane { running = Some kernel }) → RunStands later.running p (Some [])
+      → IsSomeAnd later.running (λ kernel. later ≡ record lane { running = Some kernel; place = later.place }) → RunStands later.running p (Some [])
       → PartRuns p later next [] (begun_part choice)
   powered_runs later choice up losses same told = record {
     lane_is = record { keeps = kept_on lane later part.lane same rests.keeps []; running = told };

@@ -1,5 +1,6 @@
 -- An exchange with the card: it answers, or is gone.
 use Rattle.std.proofs.Common.{◌≡◌, ℕ, ◌+◌, List, [], ◌∷◌, ◌++◌, length, Option, Some, None, refl, sym, ap, ◌∙◌, subst}
+use Rattle.std.specs.Global.{Box}
 use Rattle.card_app.specs.Answering.{card_answer}
 use Rattle.card_pages.specs.Cuts.{Cut}
 use Rattle.kernel.specs.Ended.{EndData}
@@ -19,8 +20,8 @@ use Rattle.txn_replay.specs.World.{CardRow, LaneRow}
 use Rattle.txn_replay.specs.declared.lane.Lane.{Lane}
 
 -- the lane with a terminal that was told one reply more
-pub lane_on : (p : Payment) (lane : Lane) (row : LaneRow) (replies more : List Reply) (kernel : KernelData)
-    → LaneStands lane p (record row { running = Some replies }) → KernelStands kernel more → deal_in kernel ≡ deal_for p
+pub lane_on : (p : Payment) (lane : Lane) (row : LaneRow) (replies more : List Reply) (kernel : Box KernelData)
+    → LaneStands lane p (record row { running = Some replies }) → KernelStands kernel.value more → deal_in kernel.value ≡ deal_for p
     → LaneStands (record lane { running = Some kernel }) p (record row { running = Some more })
 lane_on p lane row replies more kernel stands told deal = record {
   keeps = record {
@@ -28,7 +29,7 @@ lane_on p lane row replies more kernel stands told deal = record {
     log = stands.keeps.log;
     amounts = stands.keeps.amounts;
     captures = stands.keeps.captures;
-    card = stands.keeps.card;
+    card = λ none. cc;
     ending = stands.keeps.ending;
   };
   running = (told, deal);
@@ -67,8 +68,8 @@ module _ (p : Payment) (lane : Lane) (slot next : SlotSeen) (replies : List Repl
       by (Some answers) said = ap (λ (o : Option (List ℕ)). canned_by p replies command part o) said
 
   -- and its purchase runs on
-  pub runs_on : (answer : List ℕ) (kernel : KernelData) → IsAnswered next p.card part.card p.planned.tear command answer
-      → KernelStands kernel (replies ++ CardSaid answer part.lane.log ∷ []) → deal_in kernel ≡ deal_for p → HasLost next part.card.losses
+  pub runs_on : (answer : List ℕ) (kernel : Box KernelData) → IsAnswered next p.card part.card p.planned.tear command answer
+      → KernelStands kernel.value (replies ++ CardSaid answer part.lane.log ∷ []) → deal_in kernel.value ≡ deal_for p → HasLost next part.card.losses
       → PartRuns p (record lane { running = Some kernel }) next (replies ++ CardSaid answer part.lane.log ∷ []) answered_part
   runs_on answer kernel answered told deal losses = record {
     lane_is = lane_on p lane part.lane replies (replies ++ CardSaid answer part.lane.log ∷ []) kernel runs.lane_is told deal;

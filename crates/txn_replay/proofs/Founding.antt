@@ -1,5 +1,6 @@
 -- The value of a run before its first event.
 use Rattle.std.proofs.Common.{◌≡◌, ℕ, List, [], ◌∷◌, length, map, get_or, slice_get, Option, Some, None, refl, sym, ap, ◌∙◌, subst, inl, arith}
+use Rattle.std.specs.Global.{Box}
 use Rattle.std.specs.List.{All, flat_map}
 use Rattle.std.proofs.lemmas.Option.{slice_get_within, get_or_from_slice_get}
 use Rattle.issuer_host.specs.History.{HostStands}
@@ -13,7 +14,7 @@ use Rattle.txn_replay.specs.Counting.{counts_of, counts}
 use Rattle.txn_replay.specs.Payment.{Payment, payment_in}
 use Rattle.txn_replay.specs.Seen.{WorldSeen, SlotStands, RunFor, LaneAt, WorldStands, IsNewLane}
 use Rattle.txn_replay.specs.Slot.{SlotSeen}
-use Rattle.txn_replay.specs.Standing.{RunStands, LaneKeeps, LaneFits, is_over}
+use Rattle.txn_replay.specs.Standing.{RunStands, LaneKeeps, LaneFits, is_over, card_in}
 use Rattle.txn_replay.specs.World.{CardRow, LaneRow, World, new_card, new_lane, first_world, card_at, lane_at}
 use Rattle.txn_replay.specs.declared.lane.Lane.{Lane}
 use Rattle.txn_replay.proofs.Few.{first_few}
@@ -71,13 +72,13 @@ first_stands v new_slots lanes host tally = record {
       log = new.log;
       amounts = λ k d within. absurd (omega arith);
       captures = ap (λ ms. map (λ message. message.items) ms) new.captures;
-      card = new.card;
+      card = λ none. ap card_in new.place;
       ending = new.ending;
     }
 
     runs : (lane : Lane) → IsNewLane lane → (o : Option Payment) → RunFor lane new_lane o
     runs lane new None = new.running
-    runs lane new (Some p) = subst (λ (k : Option KernelData). RunStands k p None) (sym new.running) tt
+    runs lane new (Some p) = subst (λ (k : Option (Box KernelData)). RunStands k p None) (sym new.running) tt
 
     lane_stands : (l : ℕ) (lane : Lane) → slice_get v.lanes l ≡ Some lane → LaneAt v.scenario l lane (lane_at (first_world v.scenario) l)
     lane_stands l lane there =

@@ -1,5 +1,6 @@
 -- Which part of an exchange a lane's turn is.
 use Rattle.std.proofs.Common.{◌≡◌, ℕ, Bool, true, false, ◌&&◌, List, [], ◌∷◌, ◌++◌, length, map, slice_get, Option, Some, None, refl, sym, ap, ◌∙◌, subst}
+use Rattle.std.specs.Global.{Box}
 use Rattle.std.specs.Bool.{⊤}
 use Rattle.std.specs.Prelude.{is_none, option_map}
 use Rattle.arrayvec.specs.declared.array_vec.ArrayVec.{ArrayVec}
@@ -10,7 +11,7 @@ use Rattle.card_pages.specs.Replies.{CardAnswer}
 use Rattle.emv_ports.specs.Cut.{is_named}
 use Rattle.kernel.specs.Dialogue.{dialogue}
 use Rattle.kernel.specs.Ended.{EndData}
-use Rattle.kernel.specs.Kernel.{KernelData, told_next, told_bytes, deed_next, deed_bytes}
+use Rattle.kernel.specs.Kernel.{KernelData, next_of, told_next, told_bytes, deed_next, deed_bytes}
 use Rattle.kernel.specs.Reply.{Reply, CardSaid, CardGone, Deed, ToCard, ToHost, Over}
 use Rattle.kernel.specs.declared.kernel.Next.TheVariants as next
 use Rattle.report_text.specs.declared.line.Line.{Line}
@@ -110,31 +111,35 @@ keeps_same lane later row same keeps = record {
   log = same.log ∙ keeps.log;
   amounts = keeps.amounts;
   captures = ap (λ (ms : List (ArrayVec ℕ 2048 ⊤)). map (λ m. m.items) ms) same.captures ∙ keeps.captures;
-  card = same.card ∙ keeps.card;
+  card = λ none. same.card ∙ keeps.card (sym same.running ∙ none);
   ending = same.ending ∙ keeps.ending;
 }
 
 -- nothing waits where nothing runs
-pub none_runs : (o : Option KernelData) (f : KernelData → next.the_data) → option_map f o ≡ None → o ≡ None
+pub none_runs : (o : Option (Box KernelData)) (f : KernelData → next.the_data) → option_map (λ kernel. f kernel.value) o ≡ None → o ≡ None
 none_runs None f is = refl
 none_runs (Some kernel) f is = cc
 
-pub some_runs : (o : Option KernelData) (f : KernelData → next.the_data) (n : next.the_data) → option_map f o ≡ Some n → (kernel : KernelData) × (o ≡ Some kernel)
+pub some_runs : (o : Option (Box KernelData)) (f : KernelData → next.the_data) (n : next.the_data) → option_map (λ kernel. f kernel.value) o ≡ Some n → (kernel : Box KernelData) × (o ≡ Some kernel)
 some_runs None f n is = cc
 some_runs (Some kernel) f n is = (kernel, refl)
 
+pub waits_same : (before now : Option (Box KernelData)) → now ≡ before
+    → option_map (λ kernel. next_of kernel.value) before ≡ option_map (λ kernel. next_of kernel.value) now
+waits_same before now same = ap (λ (o : Option (Box KernelData)). option_map (λ kernel. next_of kernel.value) o) (sym same)
+
 -- a card that isn't on where nothing runs
-pub free_from : (o : Option KernelData) (on : Bool) → o ≡ None → (is_none o && on) ≡ false → on ≡ true → ⊥
+pub free_from : (o : Option (Box KernelData)) (on : Bool) → o ≡ None → (is_none o && on) ≡ false → on ≡ true → ⊥
 free_from None true is held on = cc
 free_from None false is held on = cc
 free_from (Some kernel) on is held is_on = cc
 
-rests_by : (running : Option KernelData) (p : Payment) (replies : Option (List Reply)) → running ≡ None → RunStands running p replies → replies ≡ None
+rests_by : (running : Option (Box KernelData)) (p : Payment) (replies : Option (List Reply)) → running ≡ None → RunStands running p replies → replies ≡ None
 rests_by None p None is stands = refl
 rests_by None p (Some replies) is stands = absurd stands
 rests_by (Some kernel) p replies is stands = cc
 
-runs_by : (running : Option KernelData) (p : Payment) (replies : Option (List Reply)) (kernel : KernelData) → running ≡ Some kernel → RunStands running p replies
+runs_by : (running : Option (Box KernelData)) (p : Payment) (replies : Option (List Reply)) (kernel : Box KernelData) → running ≡ Some kernel → RunStands running p replies
     → (told : List Reply) × (replies ≡ Some told)
 runs_by None p replies kernel is stands = cc
 runs_by (Some other) p None kernel is stands = absurd stands
@@ -168,7 +173,7 @@ module _ (p : Payment) (lane later : Lane) (slot : SlotSeen) (part : Part) (stan
     pub told : RunStands lane.running p (Some replies)
     pub runs : PartRuns p later slot replies part
 
-  pub runs_from : (kernel : KernelData) → lane.running ≡ Some kernel → Running
+  pub runs_from : (kernel : Box KernelData) → lane.running ≡ Some kernel → Running
   runs_from kernel is = by told.0 told.1
     where
       told : (replies : List Reply) × (part.lane.running ≡ Some replies)
@@ -192,7 +197,7 @@ module _ (p : Payment) (lane later : Lane) (slot : SlotSeen) (part : Part) (stan
             runs = record {
               lane_is = record {
                 keeps = record { ended = keeps.ended; log = keeps.log; amounts = keeps.amounts; captures = keeps.captures; card = keeps.card; ending = keeps.ending };
-                running = subst (λ (k : Option KernelData). RunStands k p (Some replies)) (sym same.running) now;
+                running = subst (λ (k : Option (Box KernelData)). RunStands k p (Some replies)) (sym same.running) now;
               };
               holder = at.0;
               has = at.1;

@@ -1,5 +1,6 @@
 -- A turn of a lane, by the values.
 use Rattle.std.proofs.Common.{◌≡◌, ℕ, Bool, true, false, ◌&&◌, List, [], set, slice_get, Option, Some, None, Result, Ok, Err, refl, sym, ap, ◌∙◌, subst, inl, inr}
+use Rattle.std.specs.Global.{Box}
 use Rattle.std.specs.Prelude.{is_none, OnErr}
 use Rattle.std.proofs.lemmas.Bool.{cases_eq, both_ways}
 use Rattle.std.proofs.lemmas.Option.{same_Some}
@@ -50,7 +51,7 @@ both_true true true is = (refl, refl)
 both_true true false is = cc
 both_true false b is = cc
 
-none_is : (o : Option KernelData) → is_none o ≡ true → o ≡ None
+none_is : (o : Option (Box KernelData)) → is_none o ≡ true → o ≡ None
 none_is None is = refl
 none_is (Some kernel) is = cc
 
@@ -75,7 +76,7 @@ module _ (v : WorldSeen) (w : World) (stands : WorldStands v w) (l : ℕ) (p : P
       → (card_at w p.planned.card).holder ≡ Some h → h ≡ this_one p (part_of w l p.planned.card)
   free_holder part free h has = by (lane_at w l).running refl
     where
-      waits : (running : Option KernelData) → lane.running ≡ running → (lane_at w l).running ≡ None → RunStands running p None → is_on slot ≡ true → ⊥
+      waits : (running : Option (Box KernelData)) → lane.running ≡ running → (lane_at w l).running ≡ None → RunStands running p None → is_on slot ≡ true → ⊥
       waits None none rests run on =
           let held : (is_none lane.running && is_on slot) ≡ true = (λ i. is_none (none i) && on i) in both_ways (is_none lane.running && is_on slot) free held
       waits (Some kernel) some rests run on = absurd run
@@ -113,7 +114,7 @@ same_stands v w stands l i lane later slot next lane_there slot_there same uncha
 
     run_same : (o : Option Payment) → RunFor lane (lane_at w l) o → RunFor later (lane_at w l) o
     run_same None none = same.running ∙ none
-    run_same (Some p) run = subst (λ (k : Option KernelData). RunStands k p (lane_at w l).running) (sym same.running) run
+    run_same (Some p) run = subst (λ (k : Option (Box KernelData)). RunStands k p (lane_at w l).running) (sym same.running) run
 
     lanes : (k : ℕ) (other : Lane) → slice_get (set v.lanes l later) k ≡ Some other → LaneAt v.scenario k other (lane_at w k)
     lanes k other there =

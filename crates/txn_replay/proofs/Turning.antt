@@ -1,5 +1,6 @@
 -- A value and its world before and after an exchange of a lane.
 use Rattle.std.proofs.Common.{◌≡◌, ◌⊎◌, ℕ, zero, suc, ◌<◌, Bool, true, false, ◌&&◌, List, length, set, slice_get, Option, Some, None, refl, sym, ap, ◌∙◌, subst, inl, inr, arith}
+use Rattle.std.specs.Global.{Box}
 use Rattle.std.specs.Prelude.{is_none, is_some}
 use Rattle.std.proofs.lemmas.Bool.{cases_eq}
 use Rattle.std.proofs.lemmas.List.{get_or-set_same, get_or-set_other}
@@ -210,7 +211,7 @@ module _ (v : WorldSeen) (w : World) (stands : WorldStands v w) (l : ℕ) (p : P
         → RunStands later.running p running → RunFor later m.part.lane o
     run_after o next_is None ran none = by o
       where
-        rests : (kernel : Option KernelData) → later.running ≡ kernel → RunStands kernel p None → later.running ≡ None
+        rests : (kernel : Option (Box KernelData)) → later.running ≡ kernel → RunStands kernel p None → later.running ≡ None
         rests None k is_none = k
         rests (Some kernel) k is_none = absurd is_none
 
@@ -218,7 +219,7 @@ module _ (v : WorldSeen) (w : World) (stands : WorldStands v w) (l : ℕ) (p : P
         by None = rests later.running refl none
         by (Some q) =
             subst (λ (r : Option (List Reply)). RunStands later.running q r) (sym ran)
-            (subst (λ (k : Option KernelData). RunStands k q None) (sym (rests later.running refl none)) tt)
+            (subst (λ (k : Option (Box KernelData)). RunStands k q None) (sym (rests later.running refl none)) tt)
     run_after o next_is (Some replies) ran on =
         let same : o ≡ Some p = sym next_is ∙ ap (λ k. payment_in v.scenario l k) (goes_on replies ran) ∙ is in
         subst (λ (x : Option Payment). RunFor later m.part.lane x) (sym same)

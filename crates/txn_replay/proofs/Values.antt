@@ -1,5 +1,6 @@
 -- What the values of a run tell of its world.
 use Rattle.std.proofs.Common.{◌≡◌, ◌≢◌, ◌⊎◌, ℕ, zero, suc, ◌+◌, ◌-◌, ◌≤◌, ◌<◌, true, false, ◌&&◌, eqb, List, [], ◌∷◌, length, get_or, slice_get, Option, Some, None, refl, sym, ap, ◌∙◌, subst, inl, inr, arith}
+use Rattle.std.specs.Global.{Box}
 use Rattle.std.specs.List.{sum_by}
 use Rattle.std.specs.Prelude.{◌==◌, is_none, option_map, option_and_then}
 use Rattle.std.proofs.lemmas.Bool.{cases_order}
@@ -30,7 +31,7 @@ use Rattle.txn_replay.specs.Run.{lane_over, all_below, all_over, ended_count}
 use Rattle.txn_replay.specs.Seen.{WorldSeen, RunFor, LaneAt, WorldStands, is_lane_done, done_below, is_done, PagesAre, BankStands, plan_for}
 use Rattle.txn_replay.specs.Slot.{SlotSeen, OfApps, OfCanned, SlotOn, SlotOff, IsSlotOf, HasLost}
 use Rattle.txn_replay.specs.Sound.{RunsIn}
-use Rattle.txn_replay.specs.Standing.{RunStands, PlaceStands}
+use Rattle.txn_replay.specs.Standing.{RunStands, PlaceStands, card_in}
 use Rattle.txn_replay.specs.World.{Holder, CardRow, LaneRow, World, new_lane, card_at, lane_at}
 use Rattle.txn_replay.specs.declared.lane.Lane.{Lane}
 use Rattle.txn_replay.proofs.Few.{sum_below}
@@ -90,22 +91,22 @@ module _ (v : WorldSeen) (w : World) (stands : WorldStands v w) where
             let both : None ≡ Some runs.payment = sym is ∙ runs.is in cc
         by_payment replies (Some p) is ran =
             let run : RunStands lane.running p (lane_at w l).running = subst (λ (o : Option Payment). RunFor lane (lane_at w l) o) is at.runs in
-            subst (λ (k : Option KernelData). RunStands k p (Some replies)) none (subst (λ (o : Option (List Reply)). RunStands lane.running p o) ran run)
+            subst (λ (k : Option (Box KernelData)). RunStands k p (Some replies)) none (subst (λ (o : Option (List Reply)). RunStands lane.running p o) ran run)
 
         by : (o : Option (List Reply)) → (lane_at w l).running ≡ o → (lane_at w l).running ≡ None
         by None ran = ran
         by (Some replies) ran = absurd (by_payment replies (next_of v.scenario w l) refl ran)
 
     -- the purchase of a terminal that runs, and what it was told
-    pub record Told (kernel : KernelData) : Type 0 where
+    pub record Told (kernel : Box KernelData) : Type 0 where
       pub payment : Payment
       pub replies : List Reply
       pub is : next_of v.scenario w l ≡ Some payment
       pub ran : (lane_at w l).running ≡ Some replies
-      pub told : KernelStands kernel replies
-      pub deal : deal_in kernel ≡ deal_for payment
+      pub told : KernelStands kernel.value replies
+      pub deal : deal_in kernel.value ≡ deal_for payment
 
-    pub lane_told : (kernel : KernelData) → lane.running ≡ Some kernel → Told kernel
+    pub lane_told : (kernel : Box KernelData) → lane.running ≡ Some kernel → Told kernel
     lane_told kernel runs = by_payment (next_of v.scenario w l) refl
       where
         by_replies : (p : Payment) → next_of v.scenario w l ≡ Some p → (o : Option (List Reply)) → (lane_at w l).running ≡ o → RunStands (Some kernel) p o → Told kernel
@@ -118,13 +119,13 @@ module _ (v : WorldSeen) (w : World) (stands : WorldStands v w) where
             let both : None ≡ Some kernel = sym none ∙ runs in cc
         by_payment (Some p) is =
             let run : RunStands lane.running p (lane_at w l).running = subst (λ (o : Option Payment). RunFor lane (lane_at w l) o) is at.runs in
-            by_replies p is (lane_at w l).running refl (subst (λ (k : Option KernelData). RunStands k p (lane_at w l).running) runs run)
+            by_replies p is (lane_at w l).running refl (subst (λ (k : Option (Box KernelData)). RunStands k p (lane_at w l).running) runs run)
 
-    pub rests_data : lane.running ≡ None → lane.card ≡ data_at v.scenario w l
-    rests_data none = at.keeps.card ∙ sym (ap (λ (o : Option (List Reply)). data_by v.scenario w l o) (lane_rests none))
+    pub rests_data : lane.running ≡ None → card_in lane.place ≡ data_at v.scenario w l
+    rests_data none = at.keeps.card none ∙ sym (ap (λ (o : Option (List Reply)). data_by v.scenario w l o) (lane_rests none))
 
-    pub told_data : (kernel : KernelData) (given : Option ReadCard) → lane.running ≡ Some kernel
-        → ((replies : List Reply) → KernelStands kernel replies → given ≡ latest card_of None (dialogue (deal_in kernel) replies).marks)
+    pub told_data : (kernel : Box KernelData) (given : Option ReadCard) → lane.running ≡ Some kernel
+        → ((replies : List Reply) → KernelStands kernel.value replies → given ≡ latest card_of None (dialogue (deal_in kernel.value) replies).marks)
         → given ≡ data_at v.scenario w l
     told_data kernel given runs gives =
         let run : Told kernel = lane_told kernel runs in
@@ -141,7 +142,7 @@ module _ (v : WorldSeen) (w : World) (stands : WorldStands v w) where
         subst (λ (o : Option LaneData). length (lane_at w l).ended ≤ purchases_in o) is (stands.few l).ended in
         (λ i. running lane.running refl i && ended within i)
       where
-        running : (o : Option KernelData) → lane.running ≡ o → is_none lane.running ≡ is_none (lane_at w l).running
+        running : (o : Option (Box KernelData)) → lane.running ≡ o → is_none lane.running ≡ is_none (lane_at w l).running
         running None none = ap is_none none ∙ sym (ap is_none (lane_rests none))
         running (Some kernel) some = ap is_none some ∙ sym (ap is_none (lane_told kernel some).ran)
 

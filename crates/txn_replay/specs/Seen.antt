@@ -144,5 +144,5 @@ pub record IsNewLane (lane : Lane) : Type 0 where
   pub running : lane.running ≡ None
   pub log : lane.log.items ≡ []
   pub captures : lane.captures.items ≡ []
-  pub card : lane.card ≡ None
+  pub place : lane.place ≡ None
   pub ending : lane.ending ≡ None

@@ -1,5 +1,6 @@
 -- What a value stands for of a run.
 use Rattle.std.specs.Prelude.{◌≡◌, ⊤, ℕ, ◌+◌, ◌*◌, ◌-◌, ◌≤◌, Bool, true, false, List, ◌++◌, length, map, fold, Option, Some, None, option_and_then}
+use Rattle.std.specs.Global.{Box}
 use Rattle.std.specs.List.{All}
 use Rattle.emv_dict.specs.Settings.{most_amount}
 use Rattle.emv_ports.specs.declared.tear.Tear.{Tear}
@@ -11,6 +12,7 @@ use Rattle.kernel.specs.Reply.{Reply}
 use Rattle.kernel.specs.Tally.{Counts, raised}
 use Rattle.kernel.specs.declared.kernel.Next.{Next}
 use Rattle.kernel.specs.declared.kernel.Next.TheVariants as next
+use Rattle.object_lists.specs.CardRead.{ReadCard}
 use Rattle.report_text.specs.declared.line.Line.{Line}
 use Rattle.scenario.specs.Cards.{CardData}
 use Rattle.scenario.specs.Seen.{seen_card}
@@ -34,19 +36,24 @@ seen_payment issuer accounts at = record {
 }
 
 -- a terminal that has taken these replies, or none that runs
-abbrev pub RunStands : Option KernelData → Payment → Option (List Reply) → Type 0
+abbrev pub RunStands : Option (Box KernelData) → Payment → Option (List Reply) → Type 0
 RunStands None p None = ⊤
-RunStands (Some kernel) p (Some replies) = KernelStands kernel replies × (deal_in kernel ≡ deal_for p)
+RunStands (Some kernel) p (Some replies) = KernelStands kernel.value replies × (deal_in kernel.value ≡ deal_for p)
 RunStands None p (Some replies) = ⊥
 RunStands (Some kernel) p None = ⊥
 
--- what a lane keeps of the purchases that have ended
+-- what reading gave in the dialogue that ended last
+abbrev pub card_in : Option (Box KernelData) → Option ReadCard
+card_in None = None
+card_in (Some place) = place.value.card
+
+-- what a lane keeps of the purchases that have ended; where one runs, it is read itself
 pub record LaneKeeps (lane : Lane) (row : LaneRow) : Type 0 where
   pub ended : lane.ended ≡ length row.ended
   pub log : lane.log.items ≡ row.log
   pub amounts : All (λ logged. logged.amount ≤ most_amount) row.log
   pub captures : map (λ message. message.items) lane.captures.items ≡ row.captures
-  pub card : lane.card ≡ option_and_then past_card (last_past row.ended)
+  pub card : lane.running ≡ None → card_in lane.place ≡ option_and_then past_card (last_past row.ended)
   pub ending : lane.ending ≡ latest_ending row.ended
 
 pub record LaneStands (lane : Lane) (p : Payment) (row : LaneRow) : Type 0 where
@@ -78,9 +85,9 @@ is_ended next.ToCard = false
 is_ended next.ToHost = false
 is_ended next.Ended = true
 
-abbrev pub is_over : Option KernelData → Bool
+abbrev pub is_over : Option (Box KernelData) → Bool
 is_over None = false
-is_over (Some kernel) = is_ended (next_of kernel)
+is_over (Some kernel) = is_ended (next_of kernel.value)
 
 -- purchases that have ended are counted
 abbrev pub count_past : Counts → Past → Counts
@@ -133,19 +140,19 @@ pub record PartStands (p : Payment) (lane : Lane) (slot : SlotSeen) (part : Part
   pub is : IsSlotOf slot p.card
   pub losses : HasLost slot part.card.losses
 
--- a lane whose vectors alone may have more room
+-- a lane that may only have more room: in its vectors, or for a dialogue
 pub record SameLane (old new : Lane) : Type 0 where
   pub ended : new.ended ≡ old.ended
   pub running : new.running ≡ old.running
   pub log : new.log.items ≡ old.log.items
   pub captures : new.captures.items ≡ old.captures.items
-  pub card : new.card ≡ old.card
+  pub card : card_in new.place ≡ card_in old.place
   pub ending : new.ending ≡ old.ending
 
 -- how many exchanges a lane has left at most: those of the purchase that runs, or that is next, and of those behind it
-abbrev pub rank_in : Option KernelData → ℕ
+abbrev pub rank_in : Option (Box KernelData) → ℕ
 rank_in None = 20099
-rank_in (Some kernel) = rank_of kernel
+rank_in (Some kernel) = rank_of kernel.value
 
 abbrev pub lane_left : Lane → ℕ
 lane_left lane = 20100 * (10000 - lane.ended) + rank_in lane.running

@@ -1,5 +1,5 @@
 //! One exchange of a lane, on what it touches: the lane, its card, and the host.
-ghost use Rattle.std.specs.Prelude.{◌≡◌, ◌+◌, ◌≤◌, ◌<◌, ◌++◌, ◌∷◌, [], ℕ, List, Bool, length, true, false, ◌&&◌, is_none, IsSomeAnd, IfSome, IfOk, Some, None, Option, OnOk, OnErr, option_map, IsTrue};
+ghost use Rattle.std.specs.Prelude.{◌≡◌, ◌+◌, ◌≤◌, ◌<◌, ◌++◌, ◌∷◌, [], ℕ, List, Bool, length, true, false, ◌&&◌, is_none, IsSome, IsSomeAnd, IfSome, IfOk, Some, None, Option, OnOk, OnErr, option_map, IsTrue};
 ghost use Rattle.std.specs.List.{All};
 ghost use Rattle.std.specs.Vec.{vec_len, vec_capacity};
 ghost use Rattle.card_state.specs.Decisions.{Decided};
@@ -20,7 +20,7 @@ ghost use Rattle.txn_replay.specs.Standing.{PartRests, PartRuns, PartStands, Led
 ghost use Rattle.txn_replay.specs.Slot.{SlotOff, is_on as has_power};
 ghost use Rattle.txn_replay.specs.World.{LaneRow};
 
-use crate::lane::{Lane, finish};
+use crate::lane::{Lane, finish, make_room};
 use crate::lines::{Lines, add_answer, add_host, add_power_torn};
 use crate::link::deliver;
 use crate::payment::Payment;
@@ -33,7 +33,7 @@ use kernel::{Kernel, Next, Tally};
 use std::alloc::AllocError;
 
 /// Whether the dialogue of a purchase that runs is over.
-fn is_over(running: &Option<Kernel<'_>>) -> bool
+fn is_over(running: &Option<Box<Kernel<'_>>>) -> bool
     ensures exact { result ≡ over_test running.now }
     ensures told { (p : Paid) (replies : List Reply) → RunStands running.now p (Some replies)
         → result ≡ is_ended (told_next (dialogue (deal_for p) replies)) }
@@ -92,7 +92,7 @@ fn ask_card<'s, P: Pages>(
     requires captures { vec_len lane.old.captures < vec_capacity lane.old.captures }
     requires amount { at.now.planned.now.purchase.amount ≤ most_amount }
     requires amounts { All (λ logged. logged.amount ≤ most_amount) lane.old.log.items }
-    requires waits { IsSomeAnd lane.old.running (λ kernel. next_of kernel ≡ next.ToCard) }
+    requires waits { IsSomeAnd lane.old.running (λ kernel. next_of kernel.value ≡ next.ToCard) }
     requires on { has_power slot.old ≡ true }
     requires lines { lines.old.items ≡ [] }
     ensures moved { (issuer : HostKeys) (accounts : List AccountData) (replies : List Reply) (part : Part)
@@ -107,9 +107,10 @@ fn ask_card<'s, P: Pages>(
     ensures nearer { lane_left lane.new < lane_left lane.old }
 {
     let mut answer = Answer::new();
-    let Some(kernel) = &mut lane.running else {
+    let Some(place) = &mut lane.running else {
         unreachable!();
     };
+    let kernel = &mut **place;
     match slot.process(kernel.bytes(), &mut answer) {
         Ok(()) => {
             add_answer(at.lane, kernel.bytes(), answer.as_slice(), lines);
@@ -127,11 +128,11 @@ fn ask_card<'s, P: Pages>(
 /// The bytes of the terminal's message go to the host, as `deliver` does.
 fn send(
     at: &Payment<'_>,
-    running: &Option<Kernel<'_>>,
+    running: &Option<Box<Kernel<'_>>>,
     host: &mut Host<'_>,
     reply: &mut Message,
 ) -> Result<bool, AllocError>
-    requires waits { IsSomeAnd running.now (λ kernel. next_of kernel ≡ next.ToHost) }
+    requires waits { IsSomeAnd running.now (λ kernel. next_of kernel.value ≡ next.ToHost) }
     requires stands { (messages : List (List ℕ)) × HostStands host.old messages }
     ensures heard { IfOk result (λ comes. (p : Paid) (replies : List Reply) (messages : List (List ℕ))
         → RunStands running.now p (Some replies) → HostStands host.old messages
@@ -160,7 +161,7 @@ fn said(comes: bool, reply: &Message) -> Option<&[u8]>
 
 /// The terminal takes the host's reply where it comes back, and else its silence.
 fn hear<'s>(at: &Payment<'s>, lane: &mut Lane<'s>, reply: Option<&[u8]>, lines: &mut Lines)
-    requires waits { IsSomeAnd lane.old.running (λ kernel. next_of kernel ≡ next.ToHost) }
+    requires waits { IsSomeAnd lane.old.running (λ kernel. next_of kernel.value ≡ next.ToHost) }
     requires lines { lines.old.items ≡ [] }
     requires reply { IfSome reply (λ reply. length reply.now ≤ 2048) }
     ensures told { (p : Paid) (replies : List Reply) (row : LaneRow)
@@ -168,7 +169,7 @@ fn hear<'s>(at: &Payment<'s>, lane: &mut Lane<'s>, reply: Option<&[u8]>, lines: 
         → LaneStands lane.new p (record row { running = Some (replies ++ from_host (option_map (λ reply. reply.now) reply.entry) ∷ []) })
         × (lines.new.items ≡ host_lines at.now.lane (told_bytes (dialogue (deal_for p) replies)) (option_map (λ reply. reply.now) reply.entry)) }
     ensures few { length lines.new.items < 8 }
-    ensures same { IsSomeAnd lane.new.running (λ kernel. lane.new ≡ record lane.old { running = Some kernel }) }
+    ensures same { IsSomeAnd lane.new.running (λ kernel. lane.new ≡ record lane.old { running = Some kernel; place = lane.new.place }) }
     ensures nearer { lane_left lane.new < lane_left lane.old }
 {
     let Some(kernel) = &mut lane.running else {
@@ -192,7 +193,7 @@ fn ask_host<'s, P: Pages>(
     requires captures { vec_len lane.old.captures < vec_capacity lane.old.captures }
     requires amount { at.now.planned.now.purchase.amount ≤ most_amount }
     requires amounts { All (λ logged. logged.amount ≤ most_amount) lane.old.log.items }
-    requires waits { IsSomeAnd lane.old.running (λ kernel. next_of kernel ≡ next.ToHost) }
+    requires waits { IsSomeAnd lane.old.running (λ kernel. next_of kernel.value ≡ next.ToHost) }
     requires on { has_power slot.old ≡ true }
     requires lines { lines.old.items ≡ [] }
     requires stands { (messages : List (List ℕ)) × HostStands host.old messages }
@@ -234,6 +235,7 @@ fn begin<'s, P: Pages>(
     requires name { length at.now.card.now.name.items ≤ 16 }
     requires amounts { All (λ logged. logged.amount ≤ most_amount) lane.old.log.items }
     requires rests { lane.old.running ≡ None }
+    requires place { IsSome lane.old.place }
     requires off { (kept : List Decided) × (pending : Option Decided) × SlotOff slot.old kept pending }
     requires lines { lines.old.items ≡ [] }
     ensures led { (issuer : HostKeys) (accounts : List AccountData) (part : Part)
@@ -261,23 +263,28 @@ fn begin<'s, P: Pages>(
 fn start<'s>(at: &Payment<'s>, lane: &mut Lane<'s>)
     requires settings { IsSettings at.now.settings.now }
     requires planned { IsPlanned at.now.planned.now }
-    ensures same { IsSomeAnd lane.new.running (λ kernel. lane.new ≡ record lane.old { running = Some kernel }) }
+    requires place { IsSome lane.old.place }
+    ensures same { IsSomeAnd lane.new.running (λ kernel. lane.new ≡ record lane.old { running = Some kernel; place = lane.new.place }) }
     ensures told { (issuer : HostKeys) (accounts : List AccountData)
         → RunStands lane.new.running (seen_payment issuer accounts at.now) (Some []) }
-    ensures waits { IsSomeAnd lane.new.running (λ kernel. next_of kernel ≡ next.ToCard) }
+    ensures waits { IsSomeAnd lane.new.running (λ kernel. next_of kernel.value ≡ next.ToCard) }
     ensures few { rank_in lane.new.running ≤ 20015 }
 {
+    let Some(mut kernel) = lane.place.take() else {
+        unreachable!();
+    };
     let planned = at.planned;
-    lane.running = Some(Kernel::begin(at.settings, &planned.purchase));
+    kernel.begin_again(at.settings, &planned.purchase);
+    lane.running = Some(kernel);
 }
 
 /// The card is gone before the terminal could ask it.
 fn lose(lane: &mut Lane<'_>)
-    requires waits { IsSomeAnd lane.old.running (λ kernel. next_of kernel ≡ next.ToCard) }
-    ensures same { IsSomeAnd lane.new.running (λ kernel. lane.new ≡ record lane.old { running = Some kernel }) }
+    requires waits { IsSomeAnd lane.old.running (λ kernel. next_of kernel.value ≡ next.ToCard) }
+    ensures same { IsSomeAnd lane.new.running (λ kernel. lane.new ≡ record lane.old { running = Some kernel; place = lane.new.place }) }
     ensures told { (p : Paid) (replies : List Reply) → RunStands lane.old.running p (Some replies)
         → RunStands lane.new.running p (Some (replies ++ CardGone ∷ [])) }
-    ensures over { IsSomeAnd lane.new.running (λ kernel. next_of kernel ≡ next.Ended) }
+    ensures over { IsSomeAnd lane.new.running (λ kernel. next_of kernel.value ≡ next.Ended) }
     ensures nearer { rank_in lane.new.running < rank_in lane.old.running }
 {
     let Some(kernel) = &mut lane.running else {
@@ -287,8 +294,8 @@ fn lose(lane: &mut Lane<'_>)
 }
 
 /// What the purchase that runs waits for.
-fn waits_for(running: &Option<Kernel<'_>>) -> Option<Next>
-    ensures exact { result ≡ option_map next_of running.now }
+fn waits_for(running: &Option<Box<Kernel<'_>>>) -> Option<Next>
+    ensures exact { result ≡ option_map (λ kernel. next_of kernel.value) running.now }
     ensures told { (p : Paid) (replies : List Reply) → RunStands running.now p (Some replies)
         → result ≡ Some (told_next (dialogue (deal_for p) replies)) }
 {
@@ -299,7 +306,7 @@ fn waits_for(running: &Option<Kernel<'_>>) -> Option<Next>
 }
 
 /// Whether the lane waits for a card that another purchase has.
-pub(crate) fn is_held<P: Pages>(running: &Option<Kernel<'_>>, slot: &Slot<'_, P>) -> bool
+pub(crate) fn is_held<P: Pages>(running: &Option<Box<Kernel<'_>>>, slot: &Slot<'_, P>) -> bool
     ensures exact { result ≡ (is_none running.now && has_power slot.now) }
     ensures off { (kept : List Decided) (pending : Option Decided) → SlotOff slot.now kept pending → result ≡ false }
 {
@@ -335,8 +342,7 @@ pub(crate) fn exchange<'s, P: Pages>(
     ensures fits { LaneFits lane.new }
     ensures nearer { OnOk result (lane_left lane.new < lane_left lane.old) }
 {
-    lane.log.reserve(1)?;
-    lane.captures.reserve(1)?;
+    make_room(at, lane)?;
     match waits_for(&lane.running) {
         None => begin(at, lane, slot, tally, lines),
         Some(Next::ToCard) => ask_card(at, lane, slot, tally, lines),

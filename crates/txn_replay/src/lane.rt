@@ -1,8 +1,8 @@
 //! A lane of a run: a terminal with its purchases.
-ghost use Rattle.std.specs.Prelude.{◌≡◌, ◌+◌, ◌≤◌, ◌<◌, ◌^◌, ◌++◌, ◌∷◌, [], ℕ, List, length, map, IsSomeAnd, Some, None, Option, IfOk, sum_by, option_map, option_to_list};
+ghost use Rattle.std.specs.Prelude.{◌≡◌, ◌+◌, ◌≤◌, ◌<◌, ◌^◌, ◌++◌, ◌∷◌, [], ℕ, List, length, map, IsSomeAnd, Some, None, Option, IsSome, IfOk, OnOk, sum_by, option_map, option_to_list};
 ghost use Rattle.std.specs.List.{All};
 ghost use Rattle.std.specs.Vec.{vec_len, vec_capacity};
-ghost use Rattle.emv_dict.specs.Settings.{most_amount};
+ghost use Rattle.emv_dict.specs.Settings.{IsSettings, most_amount};
 ghost use Rattle.emv_dict.specs.Views.{PurchaseData};
 ghost use Rattle.issuer_host.specs.Account.{AccountData};
 ghost use Rattle.issuer_host.specs.declared.keys.HostKeys.{HostKeys};
@@ -15,7 +15,8 @@ ghost use Rattle.object_lists.specs.CardRead.{ReadCard};
 ghost use Rattle.txn_replay.specs.Lines.{end_line};
 ghost use Rattle.txn_replay.specs.Part.{lane_ended, approval};
 ghost use Rattle.txn_replay.specs.Payment.{end_at};
-ghost use Rattle.txn_replay.specs.Standing.{LaneStands, lane_left, seen_payment};
+ghost use Rattle.scenario_lanes.specs.Plan.{IsPlanned};
+ghost use Rattle.txn_replay.specs.Standing.{SameLane, card_in, LaneStands, lane_left, seen_payment};
 ghost use Rattle.txn_replay.specs.Seen.{IsNewLane, done_below, is_lane_done};
 ghost use Rattle.txn_replay.specs.World.{LaneRow};
 
@@ -23,21 +24,43 @@ use crate::lines::{Lines, add_end};
 use crate::payment::Payment;
 use auth_message::Message;
 use emv_dict::{Digits, Ending, Logged};
-use kernel::{Capture, Ended, Kernel, Tally};
+use kernel::{Capture, EndRecord, Kernel, Tally};
 use object_lists::CardData;
 use scenario_lanes::{Lane as Terminal, Planned};
 use std::alloc::{AllocError, Global};
 
 /// A terminal: how many of its purchases have ended, the one that runs, its log of approvals, the messages
-/// for settlement, and of the purchase that ended last what reading gave and how it ended.
+/// for settlement, and how the purchase that ended last has ended.
 #[derive(Drop)]
 pub(crate) struct Lane<'s> {
     pub ended: u32,
-    pub running: Option<Kernel<'s>>,
+    pub running: Option<Box<Kernel<'s>>>,
+    /// The dialogue that ended last, with what reading gave. The next one begins in its place.
+    pub place: Option<Box<Kernel<'s>>>,
     pub log: Vec<Logged>,
     pub captures: Vec<Message>,
-    pub card: Option<CardData>,
     pub ending: Option<Ending>,
+}
+
+/// Makes room for an approval and for what is captured, and where no purchase runs for the dialogue of the next
+/// one. After `AllocError` the lane has at most more room than before.
+pub(crate) fn make_room<'s>(at: &Payment<'s>, lane: &mut Lane<'s>) -> Result<(), AllocError>
+    requires settings { IsSettings at.now.settings.now }
+    requires planned { IsPlanned at.now.planned.now }
+    ensures same { SameLane lane.old lane.new }
+    ensures place { OnOk result (lane.new.running ≡ None → IsSome lane.new.place) }
+    ensures log { OnOk result (vec_len lane.new.log < vec_capacity lane.new.log) }
+    ensures captures { OnOk result (vec_len lane.new.captures < vec_capacity lane.new.captures) }
+{
+    lane.log.reserve(1)?;
+    lane.captures.reserve(1)?;
+    if lane.running.is_none() && lane.place.is_none() {
+        let alloc = *lane.log.allocator();
+        let planned = at.planned;
+        let kernel = Kernel::begin(at.settings, &planned.purchase);
+        lane.place = Some(Box::new(alloc, kernel)?);
+    }
+    Ok(())
 }
 
 /// Ends the purchase whose dialogue is over: its end line, an approval for the log, and what is captured.
@@ -47,7 +70,7 @@ pub(crate) fn finish<'s>(
     tally: &mut Tally,
     lines: &mut Lines,
 )
-    requires over { IsSomeAnd lane.old.running (λ kernel. next_of kernel ≡ next.Ended) }
+    requires over { IsSomeAnd lane.old.running (λ kernel. next_of kernel.value ≡ next.Ended) }
     requires few { lane.old.ended < 10000 }
     requires log { vec_len lane.old.log < vec_capacity lane.old.log }
     requires captures { vec_len lane.old.captures < vec_capacity lane.old.captures }
@@ -65,19 +88,19 @@ pub(crate) fn finish<'s>(
     ensures rests { lane.new.running ≡ None }
     ensures nearer { lane_left lane.new < lane_left lane.old }
 {
-    let Some(kernel) = lane.running.take() else {
+    let Some(mut kernel) = lane.running.take() else {
         unreachable!();
     };
-    let ended = kernel.into_ended(tally);
+    let ended = kernel.end(tally);
+    lane.place = Some(kernel);
     add_end(at.lane, lane.ended + 1, &ended, lines);
     lane.ended += 1;
-    let Ended {
+    let EndRecord {
         ending,
         tvr: _,
         tsi: _,
         cvm: _,
         pan,
-        card,
         code: _,
         last: _,
         scripts: _,
@@ -86,8 +109,17 @@ pub(crate) fn finish<'s>(
     let amount = amount_of(at.planned);
     add_approval(&mut lane.log, ending, pan, amount);
     add_capture(&mut lane.captures, capture);
-    lane.card = card;
     lane.ending = Some(ending);
+}
+
+/// What reading gave in the dialogue of this place.
+pub(crate) fn data_in<'a>(place: &'a Option<Box<Kernel<'_>>>) -> Option<&'a CardData>
+    ensures { option_map (λ card. card.now) result ≡ card_in place.now }
+{
+    match place {
+        Some(kernel) => kernel.data(),
+        None => None,
+    }
 }
 
 /// The amount of a purchase.
@@ -140,9 +172,9 @@ pub(crate) fn new_lanes<'s>(alloc: Global, count: usize) -> Result<Vec<Lane<'s>>
         lanes.push(Lane {
             ended: 0,
             running: None,
+            place: None,
             log: Vec::new(alloc),
             captures: Vec::new(alloc),
-            card: None,
             ending: None,
         })?;
     }

@@ -1,14 +1,14 @@
 //! The lines of a report, as they are made.
 ghost use Rattle.std.specs.Prelude.{◌≡◌, ◌+◌, ◌≤◌, ◌<◌, ◌++◌, ◌∷◌, [], length, map, option_map, IfSome};
 ghost use Rattle.kernel.specs.Ended.{EndData};
-ghost use Rattle.kernel.specs.Shown.{EndedData, shown as shown_end};
+ghost use Rattle.kernel.specs.Shown.{shown as shown_end};
 ghost use Rattle.report_text.specs.declared.line.Line.TheVariants.{Power, PowerCanned, PowerTorn, AuditPower, AuditAsk, AuditAnswer};
 ghost use Rattle.txn_replay.specs.Lines as spec;
 
 use arrayvec::ArrayVec;
 use ber_tlv::append;
 use card_state::{AppState, CardState, flags};
-use kernel::Ended;
+use kernel::EndRecord;
 use online_step::Ac;
 use report_text::{EndParts, Line, Shown};
 
@@ -71,7 +71,7 @@ fn results_of(results: &ArrayVec<[u8; 5], 8>) -> ArrayVec<[u8; 5], 8>
 }
 
 /// The end line of a lane's purchase of this number.
-pub(crate) fn add_end(lane: u8, number: u32, ended: &Ended, lines: &mut Lines)
+pub(crate) fn add_end(lane: u8, number: u32, ended: &EndRecord, lines: &mut Lines)
     requires { length lines.old.items < 8 }
     ensures { (end : EndData) → ended.now ≡ shown_end end → lines.new.items ≡ lines.old.items ++ spec.end_line lane number end ∷ [] }
 {

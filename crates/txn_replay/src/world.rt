@@ -17,7 +17,7 @@ ghost use Rattle.txn_replay.specs.declared.event.Event.TheVariants as event;
 use crate::audit::{audit_step, carry_out};
 use crate::bank::{give_pages, take_pages};
 use crate::exchange::{exchange, is_held};
-use crate::lane::{Lane, all_ended, are_done, new_lanes};
+use crate::lane::{Lane, all_ended, are_done, data_in, new_lanes};
 use crate::lines::{Lines, add_settlement};
 use crate::payment::payment_at;
 use crate::settlement::settlement;
@@ -221,7 +221,7 @@ impl<'s, P: Pages> World<'s, P> {
         let row = &self.lanes[lane];
         match &row.running {
             Some(kernel) => kernel.data(),
-            None => row.card.as_ref(),
+            None => data_in(&row.place),
         }
     }
 

@@ -1,45 +1,49 @@
 //! The end of a kernel.
-ghost use Rattle.std.specs.Prelude.{◌≡◌, ◌++◌, List, length, Some, option_map};
-ghost use Rattle.kernel.specs.Dialogue.{dialogue};
-ghost use Rattle.kernel.specs.Ended.{end_of};
-ghost use Rattle.kernel.specs.Kernel.{KernelStands, deal_in, next_of};
-ghost use Rattle.kernel.specs.Reply.{Reply};
-ghost use Rattle.kernel.specs.Shown.{shown};
-ghost use Rattle.kernel.specs.Tally.{raised};
+ghost use Rattle.std.specs.Prelude.{◌≡◌};
+ghost use Rattle.kernel.specs.BeginEnd.{HasEnded, IsSpent};
+ghost use Rattle.kernel.specs.Kernel.{next_of};
 
 use super::{Kernel, Next};
-use crate::ended::{Ended, end_record, ending_of};
-use crate::table::Table;
+use crate::ended::{EndRecord, Ended, end_record, ending_of, with_card};
+use crate::moment::Moment;
 use crate::tally::Tally;
+use std::mem;
 
 impl<'s> Kernel<'s> {
-    /// The end of the dialogue. The tally counts it, with the replies that it took.
+    /// The end of the dialogue. The tally counts it, with the replies that it took. What is captured is handed
+    /// out, once. The card's data stay until another dialogue begins in the same place.
+    pub fn end(&mut self, tally: &mut Tally) -> EndRecord
+        requires { next_of self.old ≡ Next.Ended }
+        ensures ends { HasEnded self.old tally.old tally.new result }
+        ensures spent { IsSpent self.old self.new }
+    {
+        let ending = ending_of(&self.stage);
+        tally.raise(ending, self.taken);
+        let moment = mem::replace(&mut self.table.moment, Moment::new());
+        end_record(
+            self.table.settings,
+            self.table.purchase,
+            moment,
+            self.card.get(),
+            ending,
+        )
+    }
+
+    /// As `end`, by value, with the card's data.
     pub fn into_ended(self, tally: &mut Tally) -> Ended
         requires { next_of self ≡ Next.Ended }
-        ensures end { (replies : List Reply) → KernelStands self.entry replies
-            → option_map shown (end_of (deal_in self.entry) (dialogue (deal_in self.entry) replies)) ≡ Some result }
-        ensures tally { (replies : List Reply) → KernelStands self.entry replies → tally.new ≡ raised tally.old result.ending (length replies) }
-        // Further replies change nothing.
-        ensures stays { (replies more : List Reply) → KernelStands self.entry replies
-            → dialogue (deal_in self.entry) (replies ++ more) ≡ dialogue (deal_in self.entry) replies }
+        ensures ends { HasEnded self.entry tally.old tally.new result.shown }
+        ensures card { result.card ≡ self.entry.card }
     {
+        let mut kernel = self;
+        let record = kernel.end(tally);
         let Kernel {
-            table: Table {
-                settings,
-                purchase,
-                candidates: _,
-                moment,
-                reply: _,
-                command: _,
-                message: _,
-            },
+            table: _,
             objects: _,
             card,
-            stage,
-            taken,
-        } = self;
-        let ending = ending_of(&stage);
-        tally.raise(ending, taken);
-        end_record(settings, purchase, moment, card, ending)
+            stage: _,
+            taken: _,
+        } = kernel;
+        with_card(record, card.into_data())
     }
 }

@@ -23,6 +23,7 @@ ghost use Rattle.emv_dict.specs.declared.ending.Ending.TheVariants.{Terminated};
 ghost use Rattle.emv_dict.specs.declared.ending.Step.TheVariants as steps;
 
 use super::Kernel;
+use crate::held::HeldCard;
 use crate::opening;
 use crate::stage::{AtTrading, Opening, Stage, Trading};
 use crate::table::Table;
@@ -30,7 +31,6 @@ use crate::trading::begin_trading;
 use crate::turns::{on_card, on_gone, on_host};
 use emv_dict::{AidRow, Cause, Ending, Logged, Step};
 use env_map::Env;
-use object_lists::CardData;
 use read_records::CourseStep;
 use std::mem;
 
@@ -165,7 +165,7 @@ fn opening_said<'s>(
 fn has_read<'s>(
     table: &mut Table<'s>,
     objects: &mut Env,
-    held: &mut Option<CardData>,
+    held: &mut HeldCard,
     stage: &mut Stage<'s>,
     row: &'s AidRow,
     log: &[Logged],
@@ -180,8 +180,8 @@ fn has_read<'s>(
     ensures few { stage_rank table.new stage.new ≤ rank_behind table.old }
     ensures fits { StageFits table.new objects.new held.new stage.new }
 {
-    keep_card(objects, held);
-    let Some(card) = held else {
+    held.keep(objects);
+    let Some(card) = held.get() else {
         unreachable!();
     };
     let trading = begin_trading(table, objects, card, row, log);
@@ -195,19 +195,11 @@ fn end_reading(stage: &mut Stage<'_>, cause: Cause)
     *stage = Stage::Opening(Opening::Over(Ending::Terminated(Step::Read, cause)));
 }
 
-/// Keeps what these objects make.
-fn keep_card(objects: &mut Env, held: &mut Option<CardData>)
-    requires { HasForms objects.old }
-    ensures { held.new ≡ Some (card_of objects.old) }
-{
-    *held = Some(CardData::new(mem::replace(objects, Env::new())));
-}
-
 /// The card's answer at any stage.
 fn stage_said<'s>(
     table: &mut Table<'s>,
     objects: &mut Env,
-    held: &mut Option<CardData>,
+    held: &mut HeldCard,
     stage: &mut Stage<'s>,
     reply: &[u8],
     log: &[Logged],
@@ -241,7 +233,7 @@ fn stage_said<'s>(
 fn trading_said<'s>(
     table: &mut Table<'s>,
     terminal: &mut Env,
-    held: &Option<CardData>,
+    held: &HeldCard,
     at: &mut AtTrading<'s>,
     reply: &[u8],
     log: &[Logged],
@@ -257,7 +249,7 @@ fn trading_said<'s>(
     ensures nearer { trading_rank table.new.reply.scripts at.new.trading < trading_rank table.old.reply.scripts at.old.trading }
     ensures fits { TradingFits table.new held.now at.new }
 {
-    let Some(card) = held else {
+    let Some(card) = held.get() else {
         unreachable!();
     };
     let trading = mem::replace(&mut at.trading, Trading::Over(TAKEN_OUT));
@@ -290,7 +282,7 @@ fn stage_gone<'s>(table: &mut Table<'s>, stage: Stage<'s>) -> Stage<'s>
 fn stage_heard<'s>(
     table: &mut Table<'s>,
     terminal: &mut Env,
-    held: &Option<CardData>,
+    held: &HeldCard,
     stage: Stage<'s>,
     reply: Option<&[u8]>,
 ) -> Stage<'s>
@@ -314,7 +306,7 @@ fn stage_heard<'s>(
 fn trading_heard<'s>(
     table: &mut Table<'s>,
     terminal: &mut Env,
-    held: &Option<CardData>,
+    held: &HeldCard,
     at: AtTrading<'s>,
     reply: Option<&[u8]>,
 ) -> AtTrading<'s>
@@ -328,7 +320,7 @@ fn trading_heard<'s>(
     ensures nearer { trading_rank table.new.reply.scripts result.trading < trading_rank table.old.reply.scripts at.entry.trading }
     ensures fits { TradingFits table.new held.now result }
 {
-    let Some(card) = held else {
+    let Some(card) = held.get() else {
         unreachable!();
     };
     let AtTrading { row, trading } = at;

@@ -1,4 +1,4 @@
-use Rattle.std.proofs.Common.{◌≡◌, sym, ◌∙◌}
+use Rattle.std.proofs.Common.{sym, ◌∙◌}
 use Rattle.app_select.proofs.Ranks.{none_found, none_left, one_left}
 use Rattle.app_select.proofs.candidates.leave_allowed.Goals as goal
 use Rattle.app_select.proofs.candidates.leave_allowed.Goals.{in-Some, in-None}

@@ -18,7 +18,7 @@ use Rattle.txn_replay.proofs.exchange.ask_card.Goals as goal
 pub returns-in-Ok-clause-moved : goal.returns-in-Ok-clause-moved
 returns-in-Ok-clause-moved g c = λ issuer accounts replies part runs.
     let p = seen_payment issuer accounts c.args.at.now in
-    let was = runs_as c.args.lane.now.running c.in-Some.kernel p replies c.in-Some.is runs.lane_is.running in
+    let was = runs_as c.args.lane.now.running c.in-Some.place c.deref_mut-kernel.result.now p replies c.in-Some.is c.deref_mut-kernel.ensures.value runs.lane_is.running in
     let command : List ℕ = told_bytes (dialogue (deal_for p) replies) in
     let is : IsSlotOf c.process.new.self p.card = c.process.ensures.is p.card runs.is in
     let sent : c.bytes.result.now ≡ command = c.bytes.ensures.told replies was.0 ∙ ap (λ (d : Deal). told_bytes (dialogue d replies)) was.1 in
@@ -33,8 +33,7 @@ returns-in-Ok-clause-moved g c = λ issuer accounts replies part runs.
     subst (λ (xs : List Logged). KernelStands c.take_card.new.self (replies ++ CardSaid answer xs ∷ [])) log
     (subst (λ (xs : List ℕ). KernelStands c.take_card.new.self (replies ++ CardSaid xs c.as_slice-in-Ok-2.result.now ∷ [])) c.as_slice-in-Ok.ensures.value
     (c.take_card.ensures.stands replies was.0)) in
-    let on = runs_on p c.args.lane.now c.args.slot.now c.process.new.self replies part command runs is answer c.take_card.new.self said taken
-    (c.take_card.ensures.deal ∙ was.1) (c.in-Ok.ensures.losses part.card.losses runs.losses) in
+    let losses = c.in-Ok.ensures.losses part.card.losses runs.losses in
     let after : Part = answered_part p c.args.lane.now c.args.slot.now c.process.new.self replies part command runs is in
     let lines : c.add_answer.new.lines.items ≡ answer_lines p.lane command answer =
     c.add_answer.ensures
@@ -44,12 +43,13 @@ returns-in-Ok-clause-moved g c = λ issuer accounts replies part runs.
     subst (λ (m : Moved). MovedTo p c.settle.new.lane c.settle.new.slot c.settle.new.lines.items m)
     (sym (asked_answered p c.args.lane.now c.args.slot.now c.process.new.self replies part command runs is answer said))
     (subst (λ (xs : List Line). MovedTo p c.settle.new.lane c.settle.new.slot c.settle.new.lines.items (settled p told after xs)) lines
-    (c.settle.ensures.moved issuer accounts told after on))
+    (c.settle.ensures.moved issuer accounts told after
+    (runs_on p c.args.lane.now c.args.slot.now c.process.new.self replies part command runs is answer _ said taken (c.take_card.ensures.deal ∙ was.1) losses)))
 
 pub returns-in-Ok-clause-counted : goal.returns-in-Ok-clause-counted
 returns-in-Ok-clause-counted g c = λ issuer accounts replies part runs.
     let p = seen_payment issuer accounts c.args.at.now in
-    let was = runs_as c.args.lane.now.running c.in-Some.kernel p replies c.in-Some.is runs.lane_is.running in
+    let was = runs_as c.args.lane.now.running c.in-Some.place c.deref_mut-kernel.result.now p replies c.in-Some.is c.deref_mut-kernel.ensures.value runs.lane_is.running in
     let command : List ℕ = told_bytes (dialogue (deal_for p) replies) in
     let is : IsSlotOf c.process.new.self p.card = c.process.ensures.is p.card runs.is in
     let sent : c.bytes.result.now ≡ command = c.bytes.ensures.told replies was.0 ∙ ap (λ (d : Deal). told_bytes (dialogue d replies)) was.1 in
@@ -64,8 +64,7 @@ returns-in-Ok-clause-counted g c = λ issuer accounts replies part runs.
     subst (λ (xs : List Logged). KernelStands c.take_card.new.self (replies ++ CardSaid answer xs ∷ [])) log
     (subst (λ (xs : List ℕ). KernelStands c.take_card.new.self (replies ++ CardSaid xs c.as_slice-in-Ok-2.result.now ∷ [])) c.as_slice-in-Ok.ensures.value
     (c.take_card.ensures.stands replies was.0)) in
-    let on = runs_on p c.args.lane.now c.args.slot.now c.process.new.self replies part command runs is answer c.take_card.new.self said taken
-    (c.take_card.ensures.deal ∙ was.1) (c.in-Ok.ensures.losses part.card.losses runs.losses) in
+    let losses = c.in-Ok.ensures.losses part.card.losses runs.losses in
     let after : Part = answered_part p c.args.lane.now c.args.slot.now c.process.new.self replies part command runs is in
     let lines : c.add_answer.new.lines.items ≡ answer_lines p.lane command answer =
     c.add_answer.ensures
@@ -75,12 +74,13 @@ returns-in-Ok-clause-counted g c = λ issuer accounts replies part runs.
     subst (λ (m : Moved). IsCounted c.args.tally.now c.settle.new.tally part.lane.ended m.part.lane.ended)
     (sym (asked_answered p c.args.lane.now c.args.slot.now c.process.new.self replies part command runs is answer said))
     (subst (λ (xs : List Line). IsCounted c.args.tally.now c.settle.new.tally part.lane.ended (settled p told after xs).part.lane.ended) lines
-    (c.settle.ensures.counted issuer accounts told after on))
+    (c.settle.ensures.counted issuer accounts told after
+    (runs_on p c.args.lane.now c.args.slot.now c.process.new.self replies part command runs is answer _ said taken (c.take_card.ensures.deal ∙ was.1) losses)))
 
 pub returns-in-Err-clause-moved : goal.returns-in-Err-clause-moved
 returns-in-Err-clause-moved g c = λ issuer accounts replies part runs.
     let p = seen_payment issuer accounts c.args.at.now in
-    let was = runs_as c.args.lane.now.running c.in-Some.kernel p replies c.in-Some.is runs.lane_is.running in
+    let was = runs_as c.args.lane.now.running c.in-Some.place c.deref_mut-kernel.result.now p replies c.in-Some.is c.deref_mut-kernel.ensures.value runs.lane_is.running in
     let command : List ℕ = told_bytes (dialogue (deal_for p) replies) in
     let is : IsSlotOf c.process.new.self p.card = c.process.ensures.is p.card runs.is in
     let sent : c.bytes.result.now ≡ command = c.bytes.ensures.told replies was.0 ∙ ap (λ (d : Deal). told_bytes (dialogue d replies)) was.1 in
@@ -88,8 +88,8 @@ returns-in-Err-clause-moved g c = λ issuer accounts replies part runs.
     subst (λ (bytes : List ℕ). IsGone c.process.new.self p.card part.card p.planned.tear bytes p.card.canned) sent
     (c.in-Err.ensures.gone p.card part.card p.planned.tear runs.is runs.on runs.losses) in
     let told : KernelStands c.take_gone.new.self (replies ++ CardGone ∷ []) = c.take_gone.ensures.stands replies was.0 in
-    let lane = lane_on p c.args.lane.now part.lane replies (replies ++ CardGone ∷ []) c.take_gone.new.self runs.lane_is told (c.take_gone.ensures.deal ∙ was.1) in
-    let done = c.finish.ensures.stands issuer accounts (replies ++ CardGone ∷ []) part.lane lane in
+    let done = c.finish.ensures.stands issuer accounts (replies ++ CardGone ∷ []) part.lane
+    (lane_on p c.args.lane.now part.lane replies (replies ++ CardGone ∷ []) _ runs.lane_is told (c.take_gone.ensures.deal ∙ was.1)) in
     let shown : c.bytes-in-Err.result.now ≡ command = c.bytes-in-Err.ensures.told replies was.0 ∙ ap (λ (d : Deal). told_bytes (dialogue d replies)) was.1 in
     let lines : c.finish.new.lines.items ≡ no_answer_lines p.lane command p.card.canned ++ end_line p.lane (length part.lane.ended + 1) done.0 ∷ [] =
     done.3
@@ -103,7 +103,7 @@ returns-in-Err-clause-moved g c = λ issuer accounts replies part runs.
 pub returns-in-Err-clause-counted : goal.returns-in-Err-clause-counted
 returns-in-Err-clause-counted g c = λ issuer accounts replies part runs.
     let p = seen_payment issuer accounts c.args.at.now in
-    let was = runs_as c.args.lane.now.running c.in-Some.kernel p replies c.in-Some.is runs.lane_is.running in
+    let was = runs_as c.args.lane.now.running c.in-Some.place c.deref_mut-kernel.result.now p replies c.in-Some.is c.deref_mut-kernel.ensures.value runs.lane_is.running in
     let command : List ℕ = told_bytes (dialogue (deal_for p) replies) in
     let is : IsSlotOf c.process.new.self p.card = c.process.ensures.is p.card runs.is in
     let sent : c.bytes.result.now ≡ command = c.bytes.ensures.told replies was.0 ∙ ap (λ (d : Deal). told_bytes (dialogue d replies)) was.1 in
@@ -111,7 +111,7 @@ returns-in-Err-clause-counted g c = λ issuer accounts replies part runs.
     subst (λ (bytes : List ℕ). IsGone c.process.new.self p.card part.card p.planned.tear bytes p.card.canned) sent
     (c.in-Err.ensures.gone p.card part.card p.planned.tear runs.is runs.on runs.losses) in
     let told : KernelStands c.take_gone.new.self (replies ++ CardGone ∷ []) = c.take_gone.ensures.stands replies was.0 in
-    let lane = lane_on p c.args.lane.now part.lane replies (replies ++ CardGone ∷ []) c.take_gone.new.self runs.lane_is told (c.take_gone.ensures.deal ∙ was.1) in
-    let done = c.finish.ensures.stands issuer accounts (replies ++ CardGone ∷ []) part.lane lane in
+    let done = c.finish.ensures.stands issuer accounts (replies ++ CardGone ∷ []) part.lane
+    (lane_on p c.args.lane.now part.lane replies (replies ++ CardGone ∷ []) _ runs.lane_is told (c.take_gone.ensures.deal ∙ was.1)) in
     gone_counted p c.args.lane.now c.args.slot.now c.process.new.self replies part command runs is done.0 gone done.1
     c.args.tally.now c.finish.new.tally done.4

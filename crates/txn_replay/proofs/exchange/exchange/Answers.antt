@@ -1,4 +1,4 @@
-use Rattle.std.proofs.Common.{◌≡◌, ℕ, true, false, List, Some, None, refl, sym, ap, ◌∙◌, subst}
+use Rattle.std.proofs.Common.{◌≡◌, ℕ, true, false, List, Some, None, sym, ap, ◌∙◌, subst}
 use Rattle.std.proofs.lemmas.Option.{same_Some}
 use Rattle.issuer_host.specs.History.{HostStands}
 use Rattle.kernel.specs.Dialogue.{dialogue}
@@ -10,16 +10,15 @@ use Rattle.txn_replay.specs.Payment.{deal_for}
 use Rattle.txn_replay.specs.Slot.{is_on}
 use Rattle.txn_replay.specs.Standing.{PartRests, SameLane, Led, seen_payment}
 use Rattle.txn_replay.specs.declared.lane.Lane.{Lane}
-use Rattle.txn_replay.proofs.Pieces.{Running, piece_begins, piece_card, piece_host, card_messages, begun_messages, none_runs, some_runs, free_from, rests_from, runs_from}
+use Rattle.txn_replay.proofs.Pieces.{Running, piece_begins, piece_card, piece_host, card_messages, begun_messages, none_runs, some_runs, waits_same, free_from, rests_from, runs_from}
 use Rattle.txn_replay.proofs.exchange.exchange.Goals as goal
 
 pub begin-requires-clause-off : goal.begin-requires-clause-off
 begin-requires-clause-off g c =
     let p = seen_payment c.args.host.now.keys c.args.host.now.accounts c.args.at.now in
-    let later : Lane = record c.args.lane.now { log = c.reserve.new.self; captures = c.reserve-2.new.self } in
-    let same : SameLane c.args.lane.now later =
-    record { ended = refl; running = refl; log = c.reserve.ensures.items; captures = c.reserve-2.ensures.items; card = refl; ending = refl } in
-    let none : c.args.lane.now.running ≡ None = none_runs c.args.lane.now.running next_of (sym c.waits_for.ensures.exact ∙ c.in-None.is) in
+    let later : Lane = c.make_room.new.lane in
+    let same : SameLane c.args.lane.now later = c.make_room.ensures.same in
+    let none : c.args.lane.now.running ≡ None = none_runs c.args.lane.now.running next_of (waits_same c.args.lane.now.running later.running same.running ∙ sym c.waits_for.ensures.exact ∙ c.in-None.is) in
     let off : is_on c.args.slot.now ≡ true → ⊥ = free_from c.args.lane.now.running (is_on c.args.slot.now) none c.requires.free in
     let rests : PartRests p later c.args.slot.now c.requires.stands.0 =
     rests_from p c.args.lane.now later c.args.slot.now c.requires.stands.0 c.requires.stands.1 same none off in
@@ -28,10 +27,9 @@ begin-requires-clause-off g c =
 pub returns-in-None-clause-led : goal.returns-in-None-clause-led
 returns-in-None-clause-led g c = λ part stands stood.
     let p = seen_payment c.args.host.now.keys c.args.host.now.accounts c.args.at.now in
-    let later : Lane = record c.args.lane.now { log = c.reserve.new.self; captures = c.reserve-2.new.self } in
-    let same : SameLane c.args.lane.now later =
-    record { ended = refl; running = refl; log = c.reserve.ensures.items; captures = c.reserve-2.ensures.items; card = refl; ending = refl } in
-    let none : c.args.lane.now.running ≡ None = none_runs c.args.lane.now.running next_of (sym c.waits_for.ensures.exact ∙ c.in-None.is) in
+    let later : Lane = c.make_room.new.lane in
+    let same : SameLane c.args.lane.now later = c.make_room.ensures.same in
+    let none : c.args.lane.now.running ≡ None = none_runs c.args.lane.now.running next_of (waits_same c.args.lane.now.running later.running same.running ∙ sym c.waits_for.ensures.exact ∙ c.in-None.is) in
     let off : is_on c.args.slot.now ≡ true → ⊥ = free_from c.args.lane.now.running (is_on c.args.slot.now) none c.requires.free in
     let rests : PartRests p later c.args.slot.now part = rests_from p c.args.lane.now later c.args.slot.now part stands same none off in
     let led = c.begin.ensures.led c.args.host.now.keys c.args.host.now.accounts part rests in
@@ -45,14 +43,13 @@ returns-in-None-clause-led g c = λ part stands stood.
 pub returns-in-Some-ToCard-clause-led : goal.returns-in-Some-ToCard-clause-led
 returns-in-Some-ToCard-clause-led g c = λ part stands stood.
     let p = seen_payment c.args.host.now.keys c.args.host.now.accounts c.args.at.now in
-    let later : Lane = record c.args.lane.now { log = c.reserve.new.self; captures = c.reserve-2.new.self } in
-    let same : SameLane c.args.lane.now later =
-    record { ended = refl; running = refl; log = c.reserve.ensures.items; captures = c.reserve-2.ensures.items; card = refl; ending = refl } in
-    let kernel = some_runs c.args.lane.now.running next_of next.ToCard (sym c.waits_for.ensures.exact ∙ c.in-Some-ToCard.is ∙ ap (λ (n : Next). Some n) c.in-Some-ToCard.field-0-is) in
+    let later : Lane = c.make_room.new.lane in
+    let same : SameLane c.args.lane.now later = c.make_room.ensures.same in
+    let kernel = some_runs c.args.lane.now.running next_of next.ToCard (waits_same c.args.lane.now.running later.running same.running ∙ sym c.waits_for.ensures.exact ∙ c.in-Some-ToCard.is ∙ ap (λ (n : Next). Some n) c.in-Some-ToCard.field-0-is) in
     let run : Running p c.args.lane.now later c.args.slot.now part stands same =
     runs_from p c.args.lane.now later c.args.slot.now part stands same kernel.0 kernel.1 in
     let waits : told_next (dialogue (deal_for p) run.replies) ≡ next.ToCard =
-    same_Some (told_next (dialogue (deal_for p) run.replies)) next.ToCard (sym (c.waits_for.ensures.told p run.replies run.told) ∙ c.in-Some-ToCard.is ∙ ap (λ (n : Next). Some n) c.in-Some-ToCard.field-0-is) in
+    same_Some (told_next (dialogue (deal_for p) run.replies)) next.ToCard (sym (c.waits_for.ensures.told p run.replies run.runs.lane_is.running) ∙ c.in-Some-ToCard.is ∙ ap (λ (n : Next). Some n) c.in-Some-ToCard.field-0-is) in
     let is = piece_card p part false run.replies run.ran waits in (
       false,
       subst (λ (m : Moved). Led p c.ask_card.new.lane c.ask_card.new.slot c.args.tally.now c.ask_card.new.tally c.ask_card.new.lines.items part m) (sym is)
@@ -67,14 +64,13 @@ returns-in-Some-ToCard-clause-led g c = λ part stands stood.
 pub returns-in_ok-ask_host-in-Some-ToHost-clause-led : goal.returns-in_ok-ask_host-in-Some-ToHost-clause-led
 returns-in_ok-ask_host-in-Some-ToHost-clause-led g c = λ part stands stood.
     let p = seen_payment c.args.host.now.keys c.args.host.now.accounts c.args.at.now in
-    let later : Lane = record c.args.lane.now { log = c.reserve.new.self; captures = c.reserve-2.new.self } in
-    let same : SameLane c.args.lane.now later =
-    record { ended = refl; running = refl; log = c.reserve.ensures.items; captures = c.reserve-2.ensures.items; card = refl; ending = refl } in
-    let kernel = some_runs c.args.lane.now.running next_of next.ToHost (sym c.waits_for.ensures.exact ∙ c.in-Some-ToHost.is ∙ ap (λ (n : Next). Some n) c.in-Some-ToHost.field-0-is) in
+    let later : Lane = c.make_room.new.lane in
+    let same : SameLane c.args.lane.now later = c.make_room.ensures.same in
+    let kernel = some_runs c.args.lane.now.running next_of next.ToHost (waits_same c.args.lane.now.running later.running same.running ∙ sym c.waits_for.ensures.exact ∙ c.in-Some-ToHost.is ∙ ap (λ (n : Next). Some n) c.in-Some-ToHost.field-0-is) in
     let run : Running p c.args.lane.now later c.args.slot.now part stands same =
     runs_from p c.args.lane.now later c.args.slot.now part stands same kernel.0 kernel.1 in
     let waits : told_next (dialogue (deal_for p) run.replies) ≡ next.ToHost =
-    same_Some (told_next (dialogue (deal_for p) run.replies)) next.ToHost (sym (c.waits_for.ensures.told p run.replies run.told) ∙ c.in-Some-ToHost.is ∙ ap (λ (n : Next). Some n) c.in-Some-ToHost.field-0-is) in
+    same_Some (told_next (dialogue (deal_for p) run.replies)) next.ToHost (sym (c.waits_for.ensures.told p run.replies run.runs.lane_is.running) ∙ c.in-Some-ToHost.is ∙ ap (λ (n : Next). Some n) c.in-Some-ToHost.field-0-is) in
     let is = piece_host p part false run.replies run.ran waits in (
       false,
       subst (λ (m : Moved). Led p c.ask_host.new.lane c.ask_host.new.slot c.args.tally.now c.ask_host.new.tally c.ask_host.new.lines.items part m) (sym is)

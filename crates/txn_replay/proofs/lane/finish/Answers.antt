@@ -6,7 +6,8 @@ use Rattle.emv_dict.specs.declared.ending.Ending.{Ending}
 use Rattle.emv_dict.specs.declared.purchase.Logged.{Logged}
 use Rattle.kernel.specs.Dialogue.{dialogue}
 use Rattle.kernel.specs.Ended.{EndData, end_of}
-use Rattle.kernel.specs.Shown.{EndedData, shown}
+use Rattle.kernel.specs.Kernel.{deal_in}
+use Rattle.kernel.specs.Shown.{EndShown, shown}
 use Rattle.kernel.specs.Tally.{raised}
 use Rattle.kernel.specs.Terminal.{Deal}
 use Rattle.txn_replay.specs.Lines.{end_line}
@@ -22,18 +23,20 @@ pub returns-clause-stands : goal.returns-clause-stands
 returns-clause-stands c = λ issuer accounts replies row stands.
     let p = seen_payment issuer accounts c.args.at.now in
     let running : c.args.lane.now.running ≡ Some c.in-Some.kernel = sym c.take.ensures.value ∙ c.in-Some.is in
-    let runs = runs_as c.args.lane.now.running c.in-Some.kernel p replies running stands.running in
-    let given : option_map shown (end_at p replies) ≡ Some c.into_ended-ended.result =
-    ap (λ (d : Deal). option_map shown (end_of d (dialogue d replies))) (sym runs.1) ∙ c.into_ended-ended.ensures.end replies runs.0 in
-    let one = some_shown (end_at p replies) c.into_ended-ended.result given in
+    let runs = runs_as c.args.lane.now.running c.in-Some.kernel c.deref_mut.result.now p replies running c.deref_mut.ensures.value stands.running in
+    let given : option_map shown (end_at p replies) ≡ Some c.end-ended.result =
+    ap (λ (d : Deal). option_map shown (end_of d (dialogue d replies))) (sym runs.1) ∙ c.end-ended.ensures.ends.end replies runs.0 in
+    let one = some_shown (end_at p replies) c.end-ended.result given in
     let end : EndData = one.0 in
-    let same : shown end ≡ c.into_ended-ended.result = one.2 in
+    let same : shown end ≡ c.end-ended.result = one.2 in
     let past : Past = record { replies = replies; end = end } in
-    let view : (shown end).ending ≡ c.into_ended-ended.result.ending = ap (λ (x : EndedData). x.ending) same in
-    let ending : c.ended.inside.ending ≡ end.ending = ap (λ (x : EndedData). x.ending) c.ended.view_is ∙ ap (λ (x : EndedData). x.ending) (sym same) in
-    let pan : c.ended.inside.pan ≡ option_map (λ card. card.pan) end.card = ap (λ (x : EndedData). x.pan) c.ended.view_is ∙ ap (λ (x : EndedData). x.pan) (sym same) in
-    let card : c.ended.inside.card ≡ end.card = ap (λ (x : EndedData). x.card) c.ended.view_is ∙ ap (λ (x : EndedData). x.card) (sym same) in
-    let capture : c.ended.inside.capture ≡ end.capture = ap (λ (x : EndedData). x.capture) c.ended.view_is ∙ ap (λ (x : EndedData). x.capture) (sym same) in
+    let view : (shown end).ending ≡ c.end-ended.result.ending = ap (λ (x : EndShown). x.ending) same in
+    let ending : c.ended.inside.ending ≡ end.ending = ap (λ (x : EndShown). x.ending) c.ended.view_is ∙ ap (λ (x : EndShown). x.ending) (sym same) in
+    let pan : c.ended.inside.pan ≡ option_map (λ card. card.pan) end.card = ap (λ (x : EndShown). x.pan) c.ended.view_is ∙ ap (λ (x : EndShown). x.pan) (sym same) in
+    let ends : end_of (deal_in c.deref_mut.result.now) (dialogue (deal_in c.deref_mut.result.now) replies) ≡ Some end =
+    ap (λ (d : Deal). end_of d (dialogue d replies)) runs.1 ∙ one.1 in
+    let card : c.end-ended.new.self.card ≡ end.card = c.end-ended.ensures.spent.card_is ∙ sym (c.end-ended.ensures.ends.card replies end runs.0 ends) in
+    let capture : c.ended.inside.capture ≡ end.capture = ap (λ (x : EndShown). x.capture) c.ended.view_is ∙ ap (λ (x : EndShown). x.capture) (sym same) in
     let amount : c.args.at.now.planned.now.purchase.amount ≡ c.amount_of-amount.result = sym c.amount_of-amount.ensures in
     let log : c.add_approval.new.log.items ≡ row.log ++ approval c.args.at.now.planned.now.purchase end.ending end.card =
     c.add_approval.ensures.appended c.args.at.now.planned.now.purchase end.card amount pan
@@ -52,7 +55,7 @@ returns-clause-stands c = λ issuer accounts replies row stands.
               c.add_capture.ensures
               ∙ ap (λ (xs : List (List ℕ)). xs ++ option_to_list c.ended.inside.capture) stands.keeps.captures
               ∙ ap (λ (o : Option (List ℕ)). row.captures ++ option_to_list o) capture;
-          card = card ∙ ap (λ (o : Option Past). option_and_then past_card o) (sym (last_past-push row.ended past));
+          card = λ none. card ∙ ap (λ (o : Option Past). option_and_then past_card o) (sym (last_past-push row.ended past));
           ending =
               ap (λ (e : Ending). Some e) ending
               ∙ ap (λ (o : Option Past). option_map (λ past. past.end.ending) o) (sym (last_past-push row.ended past));
@@ -60,5 +63,5 @@ returns-clause-stands c = λ issuer accounts replies row stands.
         running = rests_as c.take.new.self p c.take.ensures.after;
       },
       c.add_end.ensures end (sym same) ∙ ap (λ n. c.args.lines.now.items ++ end_line c.args.at.now.lane (n + 1) end ∷ []) stands.keeps.ended,
-      c.into_ended-ended.ensures.tally replies runs.0 ∙ ap (λ (e : Ending). raised c.args.tally.now e (length replies)) (sym view),
+      c.end-ended.ensures.ends.tally replies runs.0 ∙ ap (λ (e : Ending). raised c.args.tally.now e (length replies)) (sym view),
     )

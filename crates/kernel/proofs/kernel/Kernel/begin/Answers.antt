@@ -1,15 +1,14 @@
-use Rattle.std.proofs.Common.{refl, []}
+use Rattle.std.proofs.Common.{refl}
+use Rattle.kernel.proofs.Beginning.{has_begun}
 use Rattle.kernel.proofs.kernel.Kernel.begin.Goals as goal
 
 pub invariant_of-result : goal.invariant_of-result
 invariant_of-result c = record {
   deal = record { settings = c.requires.settings; purchase = c.requires.purchase };
-  stage = (rw c.new-4.ensures (c.begin-opening.ensures.fits _ c.new.ensures c.new-2.ensures), refl);
+  stage = (rw c.new-4.ensures (c.begin-opening.ensures.fits _ c.new.ensures c.new-2.ensures), c.none-2.ensures);
 }
 
-pub returns-clause-stands : goal.returns-clause-stands
-returns-clause-stands c = record {
-  count = refl;
-  log = [];
-  goes = rw c.new-4.ensures (c.begin-opening.ensures.stands _ refl c.new.ensures c.new-2.ensures refl);
-}
+pub returns : goal.returns
+returns c =
+    has_begun _ _ _ _ _ c.none-2.ensures refl c.new-4.ensures (c.begin-opening.ensures.stands _ refl c.new.ensures c.new-2.ensures refl) c.begin-opening.ensures.waits
+    c.new.ensures c.begin-opening.ensures.few

@@ -2,6 +2,6 @@ use Rattle.std.proofs.Common.{◌∙◌}
 use Rattle.kernel.proofs.Showing.{card_is_told}
 use Rattle.kernel.proofs.kernel.Kernel.data.Goals as goal
 
-pub returns : goal.returns
-returns c = λ replies is.
-    rw (← c.self.view_is) (c.as_ref.ensures.value ∙ card_is_told (record { table = c.self.inside.table; objects = c.self.inside.objects; card = c.self.inside.card; stage = c.self.inside.stage; taken = c.self.inside.taken }) replies c.self.invariant (rw (← c.self.view_is) at is))
+pub returns-clause-told : goal.returns-clause-told
+returns-clause-told c = λ replies is.
+    rw (← c.self.view_is) (c.get.ensures ∙ card_is_told (record { table = c.self.inside.table; objects = c.self.inside.objects; card = c.self.inside.card; stage = c.self.inside.stage; taken = c.self.inside.taken }) replies c.self.invariant (rw (← c.self.view_is) at is))

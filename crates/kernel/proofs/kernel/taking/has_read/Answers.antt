@@ -1,4 +1,5 @@
-use Rattle.std.proofs.Common.{◌≡◌, refl, List, subst}
+use Rattle.std.proofs.Common.{◌≡◌, List, Some, option_map, sym, ap, ◌∙◌, subst}
+use Rattle.std.proofs.lemmas.Option.{same_Some}
 use Rattle.object_lists.specs.CardRead.{ReadCard, card_of}
 use Rattle.kernel.specs.Dialogue.{restrictions}
 use Rattle.kernel.specs.Reply.{Reply}
@@ -8,10 +9,11 @@ use Rattle.kernel.proofs.kernel.taking.has_read.Goals as goal
 pub returns-clause-stands : goal.returns-clause-stands
 returns-clause-stands c = λ rest passed.
     let deal = deal_of c.args.table.now in
-    let same : card_of c.args.objects.now ≡ c.in-Some.card = (let kept = c.keep_card.ensures in let here = c.in-Some.is in cc) in
+    let held : c.keep.new.self ≡ Some c.in-Some.card.now = sym c.get.ensures ∙ ap (option_map (λ card. card.now)) c.in-Some.is in
+    let same : card_of c.args.objects.now ≡ c.in-Some.card.now = same_Some (card_of c.args.objects.now) c.in-Some.card.now (sym c.keep.ensures ∙ held) in
     let read = subst (λ (card : ReadCard). (later : List Reply) → rest later ≡ restrictions (record { deal = deal; row = c.args.row.now; card = card }) c.args.log.now later) same passed in
     record {
-      card = c.in-Some.card;
-      card_is = refl;
+      card = c.in-Some.card.now;
+      card_is = held;
       stands = rw c.begin_trading-trading.ensures.same (c.begin_trading-trading.ensures.stands rest read);
     }

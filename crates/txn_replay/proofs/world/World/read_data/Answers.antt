@@ -1,4 +1,8 @@
-use Rattle.std.proofs.Common.{◌≡◌, ◌<◌, length, map, sym, ap, ◌∙◌, subst, arith}
+use Rattle.std.proofs.Common.{◌≡◌, ◌<◌, List, None, length, map, sym, ap, ◌∙◌, subst, arith}
+use Rattle.kernel.specs.Dialogue.{dialogue}
+use Rattle.kernel.specs.Kernel.{KernelData, KernelStands, deal_in}
+use Rattle.kernel.specs.Marks.{latest, card_of}
+use Rattle.kernel.specs.Reply.{Reply}
 use Rattle.txn_replay.specs.Seen.{WorldSeen, WorldStands}
 use Rattle.std.specs.Prelude.{option_map}
 use Rattle.txn_replay.specs.Reading.{data_at}
@@ -21,7 +25,9 @@ returns-in-Some g c = λ w stands.
     (let below : c.args.lane < length v.scenario.lanes = subst (λ (x : WorldSeen). c.args.lane < length x.scenario.lanes) (sym c.self.view_is) c.requires.lane in
     let count : length v.lanes ≡ length v.scenario.lanes = c.self.invariant.0.lane_count in omega arith) in
     let here = found_at v.lanes c.args.lane c.index-row.result.now within c.index-row.ensures in
-    told_data v w seen c.args.lane c.index-row.result.now here c.in-Some.kernel (option_map (λ card. card.now) c.data.result) c.in-Some.is c.data.ensures
+    told_data v w seen c.args.lane c.index-row.result.now here c.in-Some.kernel (option_map (λ card. card.now) c.data.result) c.in-Some.is
+    (subst (λ (k : KernelData). (replies : List Reply) → KernelStands k replies
+    → option_map (λ card. card.now) c.data.result ≡ latest card_of None (dialogue (deal_in k) replies).marks) c.deref.ensures c.data.ensures.told)
     ∙ ap (λ (x : WorldSeen). data_at x.scenario w c.args.lane) c.self.view_is
 
 pub returns-in-None : goal.returns-in-None
@@ -39,6 +45,6 @@ returns-in-None g c = λ w stands.
     (let below : c.args.lane < length v.scenario.lanes = subst (λ (x : WorldSeen). c.args.lane < length x.scenario.lanes) (sym c.self.view_is) c.requires.lane in
     let count : length v.lanes ≡ length v.scenario.lanes = c.self.invariant.0.lane_count in omega arith) in
     let here = found_at v.lanes c.args.lane c.index-row.result.now within c.index-row.ensures in
-    c.as_ref.ensures.value
+    c.data_in.ensures
     ∙ rests_data v w seen c.args.lane c.index-row.result.now here c.in-None.is
     ∙ ap (λ (x : WorldSeen). data_at x.scenario w c.args.lane) c.self.view_is

@@ -1,0 +1,31 @@
+-- Where a kernel begins.
+use Rattle.std.proofs.Common.{◌≡◌, ◌≤◌, ◌+◌, ◌*◌, refl, ap, [], length, arith, Option, None}
+use Rattle.object_lists.specs.CardRead.{ReadCard}
+use Rattle.env_map.specs.Entries.{Entries}
+use Rattle.read_records.specs.Afl.{most_records}
+use Rattle.kernel.specs.BeginEnd.{HasBegun}
+use Rattle.kernel.specs.Dialogue.{dialogue}
+use Rattle.kernel.specs.Kernel.{opening_next}
+use Rattle.kernel.specs.Rank.{opening_rank, rank_behind}
+use Rattle.kernel.specs.Stages.{OpeningStands}
+use Rattle.kernel.specs.Table.{deal_of}
+use Rattle.kernel.specs.Terminal.{Deal}
+use Rattle.kernel.specs.declared.kernel.Next.TheVariants as next
+use Rattle.kernel.specs.declared.stage.Opening.{Opening}
+use Rattle.kernel.specs.declared.stage.Stage.TheVariants as stage
+use Rattle.kernel.specs.declared.table.Table.{Table}
+
+pub has_begun : (deal : Deal) (t : Table) (objects : Entries) (held : Option ReadCard) (s : Opening) → held ≡ None → deal_of t ≡ deal → objects ≡ []
+    → OpeningStands t [] s [] (dialogue (deal_of t)) → opening_next s ≡ next.ToCard
+    → t.candidates ≡ [] → ((t : Table) → t.candidates ≡ [] → opening_rank t s ≤ 2 * 512 + (most_records + rank_behind t))
+    → HasBegun deal (record { table = t; objects = objects; card = held; stage = stage.Opening s; taken = 0 })
+has_begun deal t objects held s unread is none stands waits empty few =
+    let pins : length t.purchase.now.pins ≡ length deal.purchase.pins = ap (λ (d : Deal). length d.purchase.pins) is in
+    let rank = few t empty in
+    record {
+      stands = record { count = refl; log = []; goes = rw none stands };
+      deal_is = is;
+      waits = waits;
+      unread = unread;
+      few = omega arith;
+    }

@@ -1,0 +1,72 @@
+//! The card's data in the place of a terminal.
+ghost use Rattle.std.specs.Prelude.{◌≡◌, None, Some, option_map};
+ghost use Rattle.object_lists.specs.CardRead.{card_of};
+ghost use Rattle.object_lists.specs.Forms.{HasForms};
+
+use env_map::Env;
+use object_lists::CardData;
+use std::marker::Model;
+use std::mem;
+
+/// The card's data, where reading is finished. Where they are let go their place stays as it is, since it has
+/// 20 KB to clear.
+#[derive(Drop)]
+pub(crate) struct HeldCard {
+    card: Option<CardData>,
+    is_held: bool,
+}
+
+impl Model for HeldCard {
+    ghost use Rattle.std.specs.Prelude.{Option, None, if◌then◌else◌};
+    ghost use Rattle.object_lists.specs.CardRead.{ReadCard};
+
+    ghost Value = { Option ReadCard };
+
+    ghost view = { λ h. if h.is_held then h.card else None };
+}
+
+impl HeldCard {
+    /// No data.
+    pub(crate) fn none() -> HeldCard
+        ensures { result ≡ None }
+    {
+        HeldCard {
+            card: None,
+            is_held: false,
+        }
+    }
+
+    /// The data.
+    pub(crate) fn get(&self) -> Option<&CardData>
+        ensures { option_map (λ card. card.now) result ≡ self.now }
+    {
+        if self.is_held {
+            self.card.as_ref()
+        } else {
+            None
+        }
+    }
+
+    /// Keeps what these objects make.
+    pub(crate) fn keep(&mut self, objects: &mut Env)
+        requires { HasForms objects.old }
+        ensures { self.new ≡ Some (card_of objects.old) }
+    {
+        self.card = Some(CardData::new(mem::replace(objects, Env::new())));
+        self.is_held = true;
+    }
+
+    /// Lets the data go.
+    pub(crate) fn let_go(&mut self)
+        ensures { self.new ≡ None }
+    {
+        self.is_held = false;
+    }
+
+    /// Gives the data.
+    pub(crate) fn into_data(self) -> Option<CardData>
+        ensures { result ≡ self }
+    {
+        if self.is_held { self.card } else { None }
+    }
+}
