@@ -56,7 +56,7 @@ const BEHIND_REQUEST: [bool; 6] = [false, false, false, true, false, true];
 
 /// Each command with its refusals, where several checks fail by the first of them: the bytes, the class
 /// and the instruction, P1 P2, the phase, the length of the data, and the command's own rules.
-const REFUSALS: [Row; 83] = [
+const REFUSALS: [Row; 84] = [
     // The bytes
     ("", ANY, 0x6700),
     ("00a404", ANY, 0x6700),
@@ -95,6 +95,7 @@ const REFUSALS: [Row; 83] = [
     ("00b201fc01aa", ANY, 0x6a86),
     ("00b2010c01aa", BEHIND_SELECT, 0x6700),
     ("00b2011400", BEHIND_SELECT, 0x6a82),
+    ("00b201f400", BEHIND_SELECT, 0x6a82),
     ("00b2040c00", BEHIND_SELECT, 0x6a83),
     // GET PROCESSING OPTIONS
     ("80a8010001aa", ANY, 0x6a86),

@@ -109,6 +109,8 @@ const SESSIONS: [(Variant, &[Line]); 12] = [
             APPROVED,
             ("8416000008fc25e7bbf0a5e829", "9000"),
             ("00a4040007a000000003101000", "6a81"),
+            ("00a4050007a000000003101000", "6a86"),
+            ("00a4040000", "6700"),
             ("80a8000002830000", "6985"),
         ],
     ),
@@ -130,6 +132,7 @@ const SESSIONS: [(Variant, &[Line]); 12] = [
             ("80a8000002830000", "80061800080103009000"),
             VERIFY,
             (FIRST, "801180000b2048120c52d7ee5a0180000003019000"),
+            ("008200000700000000000000", "6985"),
             ("008200000a0e66769950e1f3be3030", "6985"),
             (
                 "80ae40001f5933000000002500000000000000084080000000000840240615000102030400",
@@ -208,7 +211,7 @@ const OWN_OPTIONS: Line = (
 
 /// Cards at their limits and with object lists of their own. The answers follow from the rules, by an
 /// implementation of these apart from this program.
-const LIMITS: [(Variant, &[Line]); 16] = [
+const LIMITS: [(Variant, &[Line]); 17] = [
     // own lists, offline
     (
         Variant::OwnLists,
@@ -530,6 +533,17 @@ const LIMITS: [(Variant, &[Line]); 16] = [
             REQUEST,
             ("0082000008e50ca315fbd995d9", "6300"),
             ("008200000a0e66769950e1f3be3030", "6985"),
+        ],
+    ),
+    // and of sixteen, the most
+    (
+        Variant::Online,
+        &[
+            SELECT,
+            OPTIONS,
+            VERIFY,
+            REQUEST,
+            ("008200001000000000000000000000000000000000", "6300"),
         ],
     ),
 ];
