@@ -4,6 +4,7 @@
 ghost use Rattle.std.specs.Prelude.{◌≡◌, IfOk, length, map};
 ghost use Rattle.std.specs.List.{All};
 ghost use Rattle.emv_ports.specs.Memory.{IsBlank};
+ghost use Rattle.memory_bank.specs.Bank.{IsNewMemory, IsNewRough};
 
 use emv_ports::{Held, MemoryPages, RoughPages};
 use std::alloc::{AllocError, Global};
@@ -16,6 +17,7 @@ const CARDS: usize = 64;
 pub fn blank_bank(alloc: Global) -> Result<Vec<Held<MemoryPages>>, AllocError>
     ensures pages { IfOk result (λ bank. length bank.items ≡ 64) }
     ensures blank { IfOk result (λ bank. All IsBlank (map (λ pages. pages.memory) bank.items)) }
+    ensures made { IfOk result (λ bank. All IsNewMemory bank.items) }
 {
     let mut bank = Vec::with_capacity(alloc, CARDS)?;
     for _card in 0..CARDS {
@@ -28,6 +30,7 @@ pub fn blank_bank(alloc: Global) -> Result<Vec<Held<MemoryPages>>, AllocError>
 pub fn rough_bank(alloc: Global, word: u32) -> Result<Vec<Held<RoughPages>>, AllocError>
     ensures pages { IfOk result (λ bank. length bank.items ≡ 64) }
     ensures blank { IfOk result (λ bank. All IsBlank (map (λ pages. pages.memory) bank.items)) }
+    ensures made { IfOk result (λ bank. All (IsNewRough word) bank.items) }
 {
     let mut bank = Vec::with_capacity(alloc, CARDS)?;
     for _card in 0..CARDS {
