@@ -10,14 +10,6 @@ use Rattle.card_cryptogram.specs.declared.phase.Phase.{Phase}
 use Rattle.card_cryptogram.specs.declared.phase.Phase.TheVariants.{Started, Online}
 use Rattle.card_files.specs.Views.{AppData}
 use Rattle.card_pages.specs.Replies.{ReplyData}
-use Rattle.emv_dict.specs.declared.ending.Kind.{Kind}
-use Rattle.emv_dict.specs.declared.ending.Kind.TheVariants.{Arqc}
-use Rattle.env_map.specs.Entries.{Entries}
-use Rattle.object_lists.specs.CardRead.{ReadCard}
-use Rattle.online_step.specs.Ac.{AcData, ac_of}
-use Rattle.online_step.specs.Generate.{generated, generate_command, list_data}
-use Rattle.online_step.specs.Laws.{read_of}
-use Rattle.completeness.specs.Cards.{Now, says, goes}
 use Rattle.completeness.proofs.Answers.{state_at, phase_at, answers, command_again}
 use Rattle.completeness.proofs.Filled.{list_filled}
 use Rattle.completeness.proofs.Generating.{AnswersAreReadBack, Holds, generating, given_in, is_read, kind_read, body_short}
@@ -25,6 +17,15 @@ use Rattle.completeness.proofs.Made.{first_holds, second_holds}
 use Rattle.completeness.proofs.Runs.{Runs, done, asks}
 use Rattle.completeness.proofs.Stages.{HasLists}
 use Rattle.completeness.proofs.Standing.{IsOnline, has_state}
+use Rattle.completeness.specs.Cards.{Now, says, goes}
+use Rattle.emv_dict.specs.Views.{AcData}
+use Rattle.emv_dict.specs.declared.ending.Kind.{Kind}
+use Rattle.emv_dict.specs.declared.ending.Kind.TheVariants.{Arqc}
+use Rattle.env_map.specs.Entries.{Entries}
+use Rattle.object_lists.specs.CardRead.{ReadCard}
+use Rattle.online_step.specs.Ac.{ac_of}
+use Rattle.online_step.specs.Generate.{generated, generate_command, list_data}
+use Rattle.online_step.specs.Laws.{read_of}
 
 module _ (image : List AppData) (back : AnswersAreReadBack) where
   -- a card that makes a cryptogram answers so that the terminal goes on

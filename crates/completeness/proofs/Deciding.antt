@@ -12,6 +12,17 @@ use Rattle.ber_tlv.specs.Left.{items_of, items_behind, items_from}
 use Rattle.card_cryptogram.specs.Asked.{is_online}
 use Rattle.card_cryptogram.specs.declared.phase.Phase.TheVariants.{Started}
 use Rattle.card_files.specs.Views.{AppData}
+use Rattle.completeness.proofs.Answers.{phase_at}
+use Rattle.completeness.proofs.Asking.{first_runs, second_runs}
+use Rattle.completeness.proofs.Ends.{Ends, over, sends}
+use Rattle.completeness.proofs.Generating.{AnswersAreReadBack}
+use Rattle.completeness.proofs.Runs.{chain}
+use Rattle.completeness.proofs.Scripting.{plain_runs, any_runs, authenticate_runs}
+use Rattle.completeness.proofs.Stages.{HasLists, AnalysisEnds}
+use Rattle.completeness.proofs.Standing.{IsOnline}
+use Rattle.completeness.specs.Cards.{Now}
+use Rattle.completeness.specs.Told.{IsDecided, IsPlainScript, IsPlainReply, IsLinked}
+use Rattle.emv_dict.specs.Views.{AcData}
 use Rattle.emv_dict.specs.declared.ending.Ending.{Ending}
 use Rattle.emv_dict.specs.declared.ending.Ending.TheVariants.{Approved, Declined}
 use Rattle.emv_dict.specs.declared.ending.Kind.{Kind}
@@ -24,21 +35,10 @@ use Rattle.kernel.specs.Marks as mark
 use Rattle.kernel.specs.Marks.{Mark, moment}
 use Rattle.kernel.specs.Reply.{from_host}
 use Rattle.kernel.specs.Scripts.{templates, are_few, kept}
-use Rattle.online_step.specs.Ac.{AcData}
 use Rattle.online_step.specs.Authenticate.{authenticated}
 use Rattle.online_step.specs.Generate.{generated, list_data}
 use Rattle.online_step.specs.Request.{request_of}
 use Rattle.script_run.specs.Ran.{template_ran}
-use Rattle.completeness.specs.Cards.{Now}
-use Rattle.completeness.specs.Told.{IsDecided, IsPlainScript, IsPlainReply, IsLinked}
-use Rattle.completeness.proofs.Answers.{phase_at}
-use Rattle.completeness.proofs.Asking.{first_runs, second_runs}
-use Rattle.completeness.proofs.Ends.{Ends, over, sends}
-use Rattle.completeness.proofs.Generating.{AnswersAreReadBack}
-use Rattle.completeness.proofs.Runs.{chain}
-use Rattle.completeness.proofs.Scripting.{plain_runs, any_runs, authenticate_runs}
-use Rattle.completeness.proofs.Stages.{HasLists, AnalysisEnds}
-use Rattle.completeness.proofs.Standing.{IsOnline}
 
 is_decision : (sent : Bool) (kind : Kind) → IsDecided (decision sent kind)
 is_decision sent Tc = tt

@@ -3,14 +3,14 @@ use Rattle.std.proofs.Common.{◌≡◌, ℕ, Bool, true, false, if◌then◌els
 use Rattle.std.proofs.lemmas.Bool.{le-leb, leb-true}
 use Rattle.card_app.specs.OwnLists.{cdol_of}
 use Rattle.card_files.specs.Lists.{entries_within, fitting, most_cdol}
+use Rattle.completeness.specs.WellFormed.{wanted_total, list_total}
 use Rattle.env_map.specs.Entries.{Entries, value_of}
+use Rattle.object_lists.proofs.EntryPlaces.{length-dol_data}
 use Rattle.object_lists.specs.CardRead.{ReadCard}
 use Rattle.object_lists.specs.DolEntries.{DolEntry, dol_of, total_of}
 use Rattle.object_lists.specs.Filled.{dol_data}
 use Rattle.object_lists.specs.declared.dol.DolFault.{DolFault}
 use Rattle.online_step.specs.Generate.{list_data}
-use Rattle.completeness.proofs.ListData.{length-dol_data}
-use Rattle.completeness.specs.WellFormed.{wanted_total, list_total}
 
 fitting_small : (r : Result (List DolEntry) DolFault) (entries : List DolEntry) → fitting r ≡ Some entries → total_of entries ≤ 252
 fitting_small (Err fault) entries e = absurd (cc e)

@@ -1,10 +1,10 @@
 -- GET PROCESSING OPTIONS of a whole application that is selected.
 use Rattle.std.proofs.Common.{◌≡◌, ℕ, ◌≤◌, Bool, true, false, not, is_some, IsTrue, if◌then◌else◌, nat_lt, nat_le, List, [], length, slice_get, Option, Some, None, Result, Ok, Err, unwrap_or, refl, ap, sym, ◌∙◌, arith, append-nil, eq-eqb, le-leb, leb-true, ltb-false}
+use Rattle.apdu_core.specs.Command.{CommandData}
 use Rattle.ber_tlv.proofs.SoleItem.{sole_value-written}
 use Rattle.ber_tlv.specs.Direct.{sole_value}
 use Rattle.ber_tlv.specs.Left.{items_of}
 use Rattle.ber_tlv.specs.Written.{written}
-use Rattle.apdu_core.specs.Command.{CommandData}
 use Rattle.card_app.specs.Answering.{row, instruction_row, options_row}
 use Rattle.card_app.specs.Options.{is_of_size, body_for, starts, options_of}
 use Rattle.card_app.specs.OwnLists.{pdol_total}
@@ -17,18 +17,18 @@ use Rattle.card_pages.specs.Replies.{ReplyData, refused, decides}
 use Rattle.card_state.specs.declared.decision.Decision.TheVariants.{Started as TakesCounter}
 use Rattle.card_state.specs.declared.state.AppState.{AppState}
 use Rattle.card_state.specs.declared.state.CardState.{CardState}
-use Rattle.env_map.specs.Entries.{Entries}
-use Rattle.object_lists.specs.DolEntries.{DolEntry, dol_of, total_of}
-use Rattle.object_lists.specs.Filled.{dol_data}
-use Rattle.object_lists.specs.declared.dol.DolFault.{DolFault}
-use Rattle.read_records.specs.Options.{Said, Refused, Granted, options_command, options_data, filled, granted_by, response_said, options_said, after_options, initiated, initiating_with}
 use Rattle.completeness.proofs.Answers.{Answers, answers, command_again, state_at, phase_at}
-use Rattle.completeness.proofs.ListData.{length-dol_data}
 use Rattle.completeness.proofs.OptionsRead.{options_room, options_read}
 use Rattle.completeness.proofs.Runs.{Runs, done, asks, runs_as}
 use Rattle.completeness.proofs.Stages.{Initiated, InitiationRuns}
 use Rattle.completeness.specs.Cards.{Now, says}
 use Rattle.completeness.specs.WellFormed.{IsWhole}
+use Rattle.env_map.specs.Entries.{Entries}
+use Rattle.object_lists.proofs.EntryPlaces.{length-dol_data}
+use Rattle.object_lists.specs.DolEntries.{DolEntry, dol_of, total_of}
+use Rattle.object_lists.specs.Filled.{dol_data}
+use Rattle.object_lists.specs.declared.dol.DolFault.{DolFault}
+use Rattle.read_records.specs.Options.{Said, Refused, Granted, options_command, options_data, filled, granted_by, response_said, options_said, after_options, initiated, initiating_with}
 
 -- the entries of an object list that can be read and filled
 record Entered (list : List ℕ) : Type 0 where

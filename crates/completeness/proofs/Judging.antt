@@ -10,19 +10,19 @@ use Rattle.card_app.specs.Session.{next_phase}
 use Rattle.card_cryptogram.specs.declared.phase.Phase.TheVariants.{Started}
 use Rattle.card_files.specs.Views.{AppData}
 use Rattle.card_state.specs.declared.state.AppState.{AppState}
+use Rattle.completeness.proofs.Answers.{state_at, phase_at}
+use Rattle.completeness.proofs.Hearing.{Heard, heard, if_room, app_room}
+use Rattle.completeness.proofs.Runs.{Runs, done, asks, runs_as}
+use Rattle.completeness.specs.Cards.{Now, says, goes}
 use Rattle.emv_dict.specs.Progress.{Done}
 use Rattle.emv_dict.specs.Views.{SettingsData, PurchaseData}
 use Rattle.emv_dict.specs.declared.ending.Cause.{Cause}
+use Rattle.emv_dict.specs.declared.judged.Judged.{Judged}
 use Rattle.emv_dict.specs.declared.purchase.AidRow.{AidRow}
 use Rattle.emv_dict.specs.declared.purchase.Logged.{Logged}
 use Rattle.object_lists.specs.CardRead.{ReadCard}
 use Rattle.risk_mgmt.specs.Counters.{counter_tag, last_online_tag, get_data, counter_in, counter_if, counter_of, counted}
 use Rattle.risk_mgmt.specs.Risky.{may_decide, always, alone, found, last_by, last_asked, first_by, first_asked, limit_in, by_limits, checked, risky}
-use Rattle.risk_mgmt.specs.declared.judged.Judged.{Judged}
-use Rattle.completeness.proofs.Answers.{state_at, phase_at}
-use Rattle.completeness.proofs.Hearing.{Heard, heard, if_room, app_room}
-use Rattle.completeness.proofs.Runs.{Runs, done, asks, runs_as}
-use Rattle.completeness.specs.Cards.{Now, says, goes}
 
 abbrev command_for : ℕ → CommandData
 command_for tag = record { class = 0x80; ins = 0xCA; p1 = tag / 256; p2 = tag % 256; body = []; expects = Some 0 }

@@ -2,7 +2,6 @@ mod Ends
 mod Runs
 mod Answers
 mod Stages
-mod ListData
 mod Fields
 mod OptionsRead
 mod Initiating

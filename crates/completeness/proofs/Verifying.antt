@@ -9,6 +9,10 @@ use Rattle.card_cryptogram.specs.declared.phase.Phase.TheVariants.{Started}
 use Rattle.card_files.specs.Views.{AppData}
 use Rattle.card_pages.specs.Comparing.{compared, has_pin}
 use Rattle.card_state.specs.declared.state.AppState.{AppState}
+use Rattle.completeness.proofs.Answers.{state_at, phase_at}
+use Rattle.completeness.proofs.Hearing.{Heard, heard, if_room, app_room}
+use Rattle.completeness.proofs.Runs.{Runs, done, asks, runs_as}
+use Rattle.completeness.specs.Cards.{Now, says, goes}
 use Rattle.cvm_list.proofs.Walk.{settled_is, none_left, answers_apart}
 use Rattle.cvm_list.specs.Begun.{situation, holding, passed, by_rules, by_list, cvm}
 use Rattle.cvm_list.specs.Cvm.{course, course_by, decides, deciding, after, nothing_found, verified, verdict}
@@ -23,17 +27,13 @@ use Rattle.cvm_list.specs.declared.rule.Method.{Method}
 use Rattle.cvm_list.specs.declared.rule.Method.TheVariants.{Fail, PlainPin, OnlinePin, PlainPinAndSignature, EncipheredPin, EncipheredPinAndSignature, Signature, NoCvm, Unrecognised}
 use Rattle.cvm_list.specs.declared.rule.Rule.{Rule}
 use Rattle.cvm_list.specs.declared.rule.Situation.{Situation}
-use Rattle.cvm_list.specs.declared.verified.Verified.{Verified}
 use Rattle.emv_dict.specs.Flags.{tvr_bit}
 use Rattle.emv_dict.specs.Progress.{Done}
 use Rattle.emv_dict.specs.Views.{SettingsData, PurchaseData}
+use Rattle.emv_dict.specs.declared.verified.Verified.{Verified}
 use Rattle.env_map.specs.Entries.{value_of}
 use Rattle.object_lists.specs.CardRead.{ReadCard}
 use Rattle.pin_block.specs.Block.{block_of}
-use Rattle.completeness.proofs.Answers.{state_at, phase_at}
-use Rattle.completeness.proofs.Hearing.{Heard, heard, if_room, app_room}
-use Rattle.completeness.proofs.Runs.{Runs, done, asks, runs_as}
-use Rattle.completeness.specs.Cards.{Now, says, goes}
 
 abbrev command_for : List ℕ → CommandData
 command_for pin = record { class = 0x00; ins = 0x20; p1 = 0x00; p2 = 0x80; body = block_of 2 pin; expects = None }

@@ -1,6 +1,5 @@
 -- Laws of the rules of a list.
 use Rattle.std.proofs.Common.{◌≡◌, ℕ, suc, Bool, true, false, if◌then◌else◌, List, [], ◌∷◌, ◌++◌, Option, Some, None, option_map, ap, subst, sym, refl, ◌∙◌}
-use Rattle.emv_dict.specs.Progress.{Progress, Done}
 use Rattle.apdu_core.specs.Response.{ResponseData, response_of}
 use Rattle.cvm_list.proofs.Walk.{settled_is}
 use Rattle.cvm_list.specs.Cvm.{Course, course, course_by, decides, deciding, after, verified, verdict}
@@ -11,10 +10,11 @@ use Rattle.cvm_list.specs.declared.outcome.Found.{Found}
 use Rattle.cvm_list.specs.declared.outcome.Outcome.{Outcome}
 use Rattle.cvm_list.specs.declared.outcome.Said.{Said}
 use Rattle.cvm_list.specs.declared.outcome.Said.TheVariants.{Right, Again, Exceeded, Other}
-use Rattle.cvm_list.specs.declared.rule.Rule.{Rule}
 use Rattle.cvm_list.specs.declared.rule.Method.{Method}
 use Rattle.cvm_list.specs.declared.rule.Method.TheVariants.{Fail, PlainPin, OnlinePin, PlainPinAndSignature, EncipheredPin, EncipheredPinAndSignature, Signature, NoCvm, Unrecognised}
-use Rattle.cvm_list.specs.declared.verified.Verified.{Verified}
+use Rattle.cvm_list.specs.declared.rule.Rule.{Rule}
+use Rattle.emv_dict.specs.Progress.{Progress, Done}
+use Rattle.emv_dict.specs.declared.verified.Verified.{Verified}
 
 choice : (b : Bool) (d : Option ℕ) (place : ℕ) (x y z : Progress Verified) → ((q : ℕ) → d ≡ Some q → y ≡ z)
     → (if b then Some 0 else option_map suc d) ≡ Some place → (if b then x else y) ≡ (if b then x else z)

@@ -1,16 +1,16 @@
 -- How cardholder verification begins.
 use Rattle.std.proofs.Common.{◌≡◌, ℕ, ◌+◌, ◌-◌, ◌<◌, ◌≤◌, ◌==◌, Bool, false, if◌then◌else◌, List, [], ◌∷◌, length, drop, Option, Some, ap, sym, refl, ◌∙◌, bit_and, slice_index, arith, length-drop}
-use Rattle.emv_dict.specs.Flags.{tvr_bit}
-use Rattle.emv_dict.specs.Progress.{Progress, Done}
-use Rattle.emv_dict.specs.Views.{SettingsData, PurchaseData}
-use Rattle.env_map.specs.Entries.{value_of}
-use Rattle.object_lists.specs.CardRead.{ReadCard}
 use Rattle.cvm_list.specs.Begun.{by_list, by_rules, cvm, holding, passed, situation}
 use Rattle.cvm_list.specs.Cvm.{course, nothing_found, verdict}
 use Rattle.cvm_list.specs.Rules.{rules_of}
 use Rattle.cvm_list.specs.declared.rule.Rule.{Rule}
 use Rattle.cvm_list.specs.declared.rule.Situation.{Situation}
-use Rattle.cvm_list.specs.declared.verified.Verified.{Verified}
+use Rattle.emv_dict.specs.Flags.{tvr_bit}
+use Rattle.emv_dict.specs.Progress.{Progress, Done}
+use Rattle.emv_dict.specs.Views.{SettingsData, PurchaseData}
+use Rattle.emv_dict.specs.declared.verified.Verified.{Verified}
+use Rattle.env_map.specs.Entries.{value_of}
+use Rattle.object_lists.specs.CardRead.{ReadCard}
 
 few_rules : (bytes : List ℕ) → length bytes ≤ 1 → rules_of bytes ≡ []
 unfolding rules_of

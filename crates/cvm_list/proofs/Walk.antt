@@ -1,15 +1,11 @@
 -- Steps along the rules of a list.
 use Rattle.std.proofs.Common.{◌≡◌, ℕ, suc, Bool, true, false, ◌&&◌, IsTrue, if◌then◌else◌, List, [], ◌∷◌, ◌++◌, length, take, drop, Option, Some, None, option_map, ap, sym, refl, ◌∙◌, cond, bit_or, arith}
 use Rattle.std.proofs.lemmas.Bool.{false≢true}
-use Rattle.emv_dict.proofs.Steps.{leads_more}
-use Rattle.emv_dict.specs.Progress.{Progress, Leads, Wants, Stopped, Done}
 use Rattle.apdu_core.specs.Response.{ResponseData, response_of}
 use Rattle.cvm_list.specs.Cvm.{Reached, Behind, Nothing, Asking, Stopping, Course, course, course_by, decides, deciding, after, after_all, rest_behind, verified, by_place, by_behind, verdict}
 use Rattle.cvm_list.specs.NextIs.{NextLeads}
 use Rattle.cvm_list.specs.Plain.{is_plain, plain_result, asks_card}
 use Rattle.cvm_list.specs.Rules.{method_of, supports}
-use Rattle.emv_dict.specs.Flags.{tvr_bit}
-use Rattle.emv_dict.specs.declared.ending.Cause.TheVariants.{Answer}
 use Rattle.cvm_list.specs.Settled.{rest_behind_rule, said_in}
 use Rattle.cvm_list.specs.Tried.{Trial, Known, Asks, Stops, tried, performed, pin_tried, by_answer, by_said, said_of, successful, failed, verify_command}
 use Rattle.cvm_list.specs.Waiting.{VerifyingData, rest_of}
@@ -17,12 +13,16 @@ use Rattle.cvm_list.specs.declared.outcome.Found.{Found}
 use Rattle.cvm_list.specs.declared.outcome.Outcome.{Outcome}
 use Rattle.cvm_list.specs.declared.outcome.Said.{Said}
 use Rattle.cvm_list.specs.declared.outcome.Said.TheVariants.{Right, Again, Exceeded, Other}
-use Rattle.cvm_list.specs.declared.rule.Rule.{Rule}
 use Rattle.cvm_list.specs.declared.rule.Method.{Method}
 use Rattle.cvm_list.specs.declared.rule.Method.TheVariants.{Fail, PlainPin, OnlinePin, PlainPinAndSignature, EncipheredPin, EncipheredPinAndSignature, Signature, NoCvm, Unrecognised}
-use Rattle.cvm_list.specs.declared.verified.Verified.{Verified}
+use Rattle.cvm_list.specs.declared.rule.Rule.{Rule}
 use Rattle.cvm_list.specs.declared.verifying.VerifyNext.{VerifyNext}
 use Rattle.cvm_list.specs.declared.verifying.VerifyNext.TheVariants as next
+use Rattle.emv_dict.proofs.Steps.{leads_more}
+use Rattle.emv_dict.specs.Flags.{tvr_bit}
+use Rattle.emv_dict.specs.Progress.{Progress, Leads, Wants, Stopped, Done}
+use Rattle.emv_dict.specs.declared.ending.Cause.TheVariants.{Answer}
+use Rattle.emv_dict.specs.declared.verified.Verified.{Verified}
 
 -- the rule behind which none decides, as far as known
 behind_by : (b : Behind) (found : Found) (x : Reached) (known : List Reached) (answers : List (List ℕ))

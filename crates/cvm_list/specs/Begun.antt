@@ -2,16 +2,16 @@
 use Rattle.std.specs.Prelude.{ℕ, ◌+◌, ◌==◌, Bool, true, false, if◌then◌else◌, List, [], ◌∷◌, length, bit_and, drop, filter, slice_index, Option, Some, None}
 use Rattle.std.specs.Int.{from_be_bytes, w32}
 use Rattle.std.specs.Str.{bytes_eq}
+use Rattle.cvm_list.specs.Cvm.{course, nothing_found, verdict}
+use Rattle.cvm_list.specs.Rules.{rules_of, holds}
+use Rattle.cvm_list.specs.declared.rule.Rule.{Rule}
+use Rattle.cvm_list.specs.declared.rule.Situation.{Situation}
 use Rattle.emv_dict.specs.Flags.{tvr_bit}
 use Rattle.emv_dict.specs.Progress.{Progress, Done}
 use Rattle.emv_dict.specs.Views.{SettingsData, PurchaseData}
+use Rattle.emv_dict.specs.declared.verified.Verified.{Verified}
 use Rattle.env_map.specs.Entries.{value_of}
 use Rattle.object_lists.specs.CardRead.{ReadCard}
-use Rattle.cvm_list.specs.Cvm.{course, nothing_found, verdict}
-use Rattle.cvm_list.specs.Rules.{rules_of, holds}
-use Rattle.cvm_list.specs.declared.rule.Situation.{Situation}
-use Rattle.cvm_list.specs.declared.rule.Rule.{Rule}
-use Rattle.cvm_list.specs.declared.verified.Verified.{Verified}
 
 -- the purchase is in the application currency, object 9F42
 abbrev pub is_same_currency : Option (List ℕ) → PurchaseData → Bool

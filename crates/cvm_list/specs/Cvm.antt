@@ -1,14 +1,14 @@
 -- Cardholder verification over all answers of a card (EMV 4.3 Book 3 section 10.5).
 use Rattle.std.specs.Prelude.{ℕ, suc, ◌+◌, ◌==◌, Bool, true, false, not, ◌||◌, if◌then◌else◌, List, [], ◌∷◌, take, fold, bit_or, Option, Some, None, option_map}
-use Rattle.emv_dict.specs.Flags.{tvr_bit}
-use Rattle.emv_dict.specs.Progress.{Progress, Wants, Stopped, Done}
-use Rattle.emv_dict.specs.declared.ending.Cause.{Cause}
 use Rattle.cvm_list.specs.Rules.{goes_on}
 use Rattle.cvm_list.specs.Tried.{Trial, Known, Asks, Stops, tried}
 use Rattle.cvm_list.specs.declared.outcome.Found.{Found}
 use Rattle.cvm_list.specs.declared.outcome.Outcome.{Outcome}
 use Rattle.cvm_list.specs.declared.rule.Rule.{Rule}
-use Rattle.cvm_list.specs.declared.verified.Verified.{Verified}
+use Rattle.emv_dict.specs.Flags.{tvr_bit}
+use Rattle.emv_dict.specs.Progress.{Progress, Wants, Stopped, Done}
+use Rattle.emv_dict.specs.declared.ending.Cause.{Cause}
+use Rattle.emv_dict.specs.declared.verified.Verified.{Verified}
 
 -- a rule whose outcome is known, with the answers behind those that it and earlier rules took
 pub record Reached : Type 0 where

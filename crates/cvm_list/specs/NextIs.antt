@@ -1,10 +1,10 @@
 -- How cardholder verification goes on.
 use Rattle.std.specs.Prelude.{◌≡◌, ℕ, List, length}
-use Rattle.emv_dict.specs.Progress.{Progress, Leads, Stopped, Done}
 use Rattle.cvm_list.specs.Waiting.{rest_of}
-use Rattle.cvm_list.specs.declared.verified.Verified.{Verified}
 use Rattle.cvm_list.specs.declared.verifying.VerifyNext.{VerifyNext}
 use Rattle.cvm_list.specs.declared.verifying.VerifyNext.TheVariants as next
+use Rattle.emv_dict.specs.Progress.{Progress, Leads, Stopped, Done}
+use Rattle.emv_dict.specs.declared.verified.Verified.{Verified}
 
 abbrev pub NextLeads : (List (List ℕ) → Progress Verified) → List (List ℕ) → VerifyNext → Type 0
 NextLeads whole answers (next.Ask verifying) = Leads whole answers (rest_of verifying)

@@ -1,7 +1,6 @@
 -- One rule more behind what earlier rules found.
 use Rattle.std.specs.Prelude.{◌≡◌, ℕ, true, false, if◌then◌else◌, List, Option, option_map}
 use Rattle.apdu_core.specs.Response.{response_of}
-use Rattle.emv_dict.specs.Progress.{Progress, Done}
 use Rattle.cvm_list.specs.Cvm.{Course, after, decides, verdict, verified}
 use Rattle.cvm_list.specs.Tried.{said_of}
 use Rattle.cvm_list.specs.declared.outcome.Found.{Found}
@@ -9,7 +8,8 @@ use Rattle.cvm_list.specs.declared.outcome.Outcome.{Outcome}
 use Rattle.cvm_list.specs.declared.outcome.Said.{Said}
 use Rattle.cvm_list.specs.declared.outcome.Settled.{Settled}
 use Rattle.cvm_list.specs.declared.outcome.Settled.TheVariants as settled
-use Rattle.cvm_list.specs.declared.verified.Verified.{Verified}
+use Rattle.emv_dict.specs.Progress.{Progress, Done}
+use Rattle.emv_dict.specs.declared.verified.Verified.{Verified}
 
 -- what a card's answer to VERIFY says, where it is a response
 abbrev pub said_in : List ℕ → Option Said

@@ -1,14 +1,14 @@
 -- A state of cardholder verification.
 use Rattle.std.specs.Prelude.{◌≡◌, ℕ, ◌+◌, ◌<◌, IsTrue, List, ◌∷◌, drop}
 use Rattle.std.specs.List.{All}
-use Rattle.emv_dict.specs.Digits.{HasPinLength}
-use Rattle.emv_dict.specs.Progress.{Progress}
 use Rattle.cvm_list.specs.Cvm.{course, verdict}
 use Rattle.cvm_list.specs.Plain.{asks_card}
 use Rattle.cvm_list.specs.declared.outcome.Found.{Found}
 use Rattle.cvm_list.specs.declared.rule.Rule.{Rule}
-use Rattle.cvm_list.specs.declared.verified.Verified.{Verified}
 use Rattle.cvm_list.specs.declared.verifying.Verifying.TheInside.{Inside}
+use Rattle.emv_dict.specs.Digits.{HasPinLength}
+use Rattle.emv_dict.specs.Progress.{Progress}
+use Rattle.emv_dict.specs.declared.verified.Verified.{Verified}
 
 -- what earlier rules found, the second byte of the terminal capabilities, the rules from the present one on whose
 -- condition holds, and the PIN entries that are left, the present one first

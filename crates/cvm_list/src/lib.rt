@@ -6,11 +6,9 @@ mod attempt;
 pub mod laws;
 pub mod outcome;
 pub mod rule;
-pub mod verified;
 pub mod verifying;
 
 pub use laws::{entries_are_used_once, rules_behind_are_idle};
-pub use verified::Verified;
 pub use verifying::{VerifyNext, Verifying};
 
 #[cfg(test)]

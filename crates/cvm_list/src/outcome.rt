@@ -5,10 +5,9 @@ ghost use Rattle.cvm_list.specs.Settled.{SettledIs, said_in};
 ghost use Rattle.cvm_list.specs.Tried as spec;
 
 use crate::rule::{Method, Rule, goes_on, method_of};
-use crate::verified::Verified;
 use apdu_core::read_response;
 use apdu_core::status::{AUTHENTICATION_BLOCKED, DATA_INVALIDATED, NO_ERROR, counter_in};
-use emv_dict::{Digits, Tvr};
+use emv_dict::{Digits, Tvr, Verified};
 
 /// What came of one rule.
 #[derive(Drop, Debug)]

@@ -8,7 +8,7 @@ use super::*;
 use apdu_core::Out;
 use arrayvec::ArrayVec;
 use card::card_with;
-use emv_dict::{Cause, Digits, Purchase, Settings};
+use emv_dict::{Cause, Digits, Purchase, Settings, Verified};
 use object_lists::CardData;
 use std::process::Abort;
 use std::test::Fail;

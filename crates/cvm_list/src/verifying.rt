@@ -1,7 +1,5 @@
 ghost use Rattle.std.specs.Prelude.{◌≡◌, ◌+◌, ◌≤◌, ◌<◌, ◌∷◌, ◌++◌, [], ℕ, List, length, drop, slice_index, option_map};
 ghost use Rattle.std.specs.List.{All};
-ghost use Rattle.emv_dict.specs.Digits.{HasPinLength};
-ghost use Rattle.emv_dict.specs.Progress.{Progress, Leads, Wants};
 ghost use Rattle.cvm_list.specs.Begun as spec;
 ghost use Rattle.cvm_list.specs.Cvm.{course, nothing_found as found_before, verdict};
 ghost use Rattle.cvm_list.specs.Laws.{AsksForNone, IsPassedOver};
@@ -11,17 +9,18 @@ ghost use Rattle.cvm_list.specs.Rules.{rules_of, method_of as rule_method};
 ghost use Rattle.cvm_list.specs.Settled.{rest_behind_rule};
 ghost use Rattle.cvm_list.specs.Tried.{verify_command};
 ghost use Rattle.cvm_list.specs.Waiting.{rest_of};
-ghost use Rattle.cvm_list.specs.declared.verified.Verified.{Verified};
+ghost use Rattle.emv_dict.specs.Digits.{HasPinLength};
+ghost use Rattle.emv_dict.specs.Progress.{Progress, Leads, Wants};
+ghost use Rattle.emv_dict.specs.declared.verified.Verified.{Verified};
 
 use crate::attempt::{Attempt, try_rule};
 use crate::outcome::{
     Found, Outcome, Said, Settled, failed, read_said, settle, successful, verified,
 };
 use crate::rule::{Method, Rule, Rules, Situation, keep_holding, method_of};
-use crate::verified::Verified;
 use apdu_core::{Command, Out, write_command};
 use ber_tlv::Tag;
-use emv_dict::{Cause, Digits, Purchase, Settings, Tvr};
+use emv_dict::{Cause, Digits, Purchase, Settings, Tvr, Verified};
 use object_lists::CardData;
 use pin_block::plain_block;
 use std::marker::Model;

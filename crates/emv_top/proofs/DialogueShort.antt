@@ -2,12 +2,13 @@
 use Rattle.std.proofs.Common.{◌≡◌, ℕ, Bool, true, false, if◌then◌else◌, List, [], ◌∷◌, Option, Some, None, Result, Ok, Err, refl}
 use Rattle.std.specs.Prelude.{⊤, IfSome}
 use Rattle.std.specs.List.{AllByRecursion}
-use Rattle.auth_message.specs.Reply.{ReplyData, reply_of}
-use Rattle.auth_message.specs.declared.fault.MessageFault.{MessageFault}
 use Rattle.app_select.specs.Candidates.{CandidateData}
 use Rattle.app_select.specs.Selecting.{SelectedData, final, selecting}
+use Rattle.auth_message.specs.Reply.{ReplyData, reply_of}
+use Rattle.auth_message.specs.declared.fault.MessageFault.{MessageFault}
 use Rattle.cvm_list.specs.Begun.{cvm}
 use Rattle.emv_dict.specs.Progress.{Progress, Wants, Stopped, Done}
+use Rattle.emv_dict.specs.Views.{AcData}
 use Rattle.emv_dict.specs.declared.ending.Ending.{Ending}
 use Rattle.emv_dict.specs.declared.ending.Kind.{Kind}
 use Rattle.emv_dict.specs.declared.ending.Kind.TheVariants.{Aac, Tc, Arqc}
@@ -15,8 +16,8 @@ use Rattle.emv_dict.specs.declared.ending.Step.{Step}
 use Rattle.emv_dict.specs.declared.ending.Step.TheVariants as step
 use Rattle.emv_dict.specs.declared.purchase.AidRow.{AidRow}
 use Rattle.emv_dict.specs.declared.purchase.Logged.{Logged}
-use Rattle.emv_top.specs.Short.{AllShort, IsShort}
 use Rattle.emv_top.proofs.RecordsShort.{BeginsShort, reading_short, initiating_short}
+use Rattle.emv_top.specs.Short.{AllShort, IsShort}
 use Rattle.kernel.specs.Course.{Standing, Rest, stands, by_progress, settled, card_step, cut_off, host_step}
 use Rattle.kernel.specs.Dialogue.{Trade, objects_at, decision, all_failed, left_script, scripts_behind, second, kind_for, scripts_before, issuer_scripts, has_authentication, authentication_by, authentication, kind_unable, unable_online, reply_read, replied, is_offline_only, online, first_answered, first, kind_wanted, analysis, risk, verification, restrictions, read, granted, initiation, opened, candidates_left, dialogue}
 use Rattle.kernel.specs.Marks as mark
@@ -24,7 +25,6 @@ use Rattle.kernel.specs.Marks.{Mark, moment, latest, card_of, or_earlier}
 use Rattle.kernel.specs.Reply.{Reply, CardSaid, CardGone, HostSaid, HostSilent, ToCard, Over}
 use Rattle.kernel.specs.Scripts.{templates, kept}
 use Rattle.kernel.specs.Terminal.{Deal, terminal_objects}
-use Rattle.online_step.specs.Ac.{AcData}
 use Rattle.online_step.specs.Authenticate.{authenticated}
 use Rattle.online_step.specs.Generate.{generated, list_data}
 use Rattle.online_step.specs.Request.{request_of}

@@ -1,6 +1,7 @@
 -- From the first cryptogram to the second one.
 use Rattle.std.proofs.Common.{◌≡◌, refl, sym, ap, ◌∙◌, ℕ, Bool, true, false, List, [], ◌∷◌, Some, None, Ok, Err}
 use Rattle.emv_dict.specs.Progress.{Stopped, Done}
+use Rattle.emv_dict.specs.Views.{AcData}
 use Rattle.emv_dict.specs.declared.ending.Cause.{Cause}
 use Rattle.emv_dict.specs.declared.ending.Cause.TheVariants.{Dol}
 use Rattle.emv_dict.specs.declared.ending.Ending.{Ending}
@@ -8,9 +9,8 @@ use Rattle.emv_dict.specs.declared.ending.Ending.TheVariants.{Terminated}
 use Rattle.emv_dict.specs.declared.ending.Kind.{Kind}
 use Rattle.emv_dict.specs.declared.ending.Step.TheVariants as step
 use Rattle.emv_dict.specs.declared.purchase.Logged.{Logged}
-use Rattle.online_step.specs.Ac.{AcData, ac_of}
-use Rattle.online_step.specs.Generate.{list_data, generated, generate_command, after_ac}
-use Rattle.online_step.specs.Request.{request_of}
+use Rattle.kernel.proofs.Courses.{same}
+use Rattle.kernel.proofs.Following.{trading_stopped}
 use Rattle.kernel.specs.Course.{Standing, over, host_step, cut_off}
 use Rattle.kernel.specs.Dialogue.{Trade, first_answered, online, is_offline_only, replied, unable_online, kind_unable, second, scripts_behind, decision, objects_at}
 use Rattle.kernel.specs.Marks.{Mark, HasFirst, HasSecond, WasUnable, moment, latest, card_of}
@@ -19,8 +19,9 @@ use Rattle.kernel.specs.Stages.{TradingStands, Begins, generating, behind_if}
 use Rattle.kernel.specs.declared.stage.AtSecond.{AtSecond}
 use Rattle.kernel.specs.declared.stage.Trading.TheVariants as trading
 use Rattle.kernel.specs.declared.table.Table.{Table}
-use Rattle.kernel.proofs.Courses.{same}
-use Rattle.kernel.proofs.Following.{trading_stopped}
+use Rattle.online_step.specs.Ac.{ac_of}
+use Rattle.online_step.specs.Generate.{list_data, generated, generate_command, after_ac}
+use Rattle.online_step.specs.Request.{request_of}
 
 -- the dialogue is over
 pub stands_over : (t : Table) → (trade : Trade) → (marks : List Mark) → (log : List Logged) → (rest : List Reply → Standing Mark) → (ending : Ending) → ((later : List Reply) → rest later ≡ over marks ending log later) → t.moment ≡ moment marks → latest card_of None marks ≡ Some trade.card → TradingStands t trade (trading.Over ending) log rest

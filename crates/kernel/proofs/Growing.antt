@@ -1,30 +1,30 @@
 -- How a dialogue grows with its replies.
 use Rattle.std.proofs.Common.{◌≡◌, refl, sym, ap, ◌∙◌, ℕ, Bool, true, false, List, [], ◌∷◌, ◌++◌, Option, Some, None, Result, Ok, Err, if◌then◌else◌}
 use Rattle.std.proofs.lemmas.List.{append_assoc}
-use Rattle.auth_message.specs.Reply.{ReplyData, reply_of}
-use Rattle.auth_message.specs.declared.fault.MessageFault.{MessageFault}
 use Rattle.app_select.specs.Candidates.{CandidateData}
 use Rattle.app_select.specs.Selecting.{SelectedData, selecting}
+use Rattle.auth_message.specs.Reply.{ReplyData, reply_of}
+use Rattle.auth_message.specs.declared.fault.MessageFault.{MessageFault}
 use Rattle.emv_dict.specs.Progress.{Progress, Wants, Stopped, Done}
+use Rattle.emv_dict.specs.Views.{AcData}
 use Rattle.emv_dict.specs.declared.ending.Ending.{Ending}
 use Rattle.emv_dict.specs.declared.ending.Kind.{Kind}
 use Rattle.emv_dict.specs.declared.ending.Kind.TheVariants.{Tc, Aac, Arqc}
 use Rattle.emv_dict.specs.declared.ending.Step.{Step}
 use Rattle.emv_dict.specs.declared.ending.Step.TheVariants as step
+use Rattle.emv_dict.specs.declared.judged.Judged.{Judged}
 use Rattle.emv_dict.specs.declared.purchase.AidRow.{AidRow}
 use Rattle.emv_dict.specs.declared.purchase.Logged.{Logged}
-use Rattle.online_step.specs.Ac.{AcData}
-use Rattle.online_step.specs.Authenticate.{authenticated}
-use Rattle.read_records.specs.Options.{Opened}
-use Rattle.risk_mgmt.specs.declared.judged.Judged.{Judged}
-use Rattle.script_run.specs.Ran.{template_ran, no_script}
 use Rattle.kernel.specs.Course.{Standing, Rest, stands, over, by_progress, settled, card_step, cut_off, host_step}
 use Rattle.kernel.specs.Dialogue.{Trade, all_failed, left_script, scripts_behind, second, scripts_before, authentication, authentication_by, has_authentication, unable_online, kind_unable, reply_read, replied, is_offline_only, first_answered, first, analysis, risk, verification, restrictions, read, granted, initiation, opened, candidates_left, dialogue, decision, kind_for, kind_wanted}
+use Rattle.kernel.specs.Laws.{deeds, deeds_behind}
 use Rattle.kernel.specs.Marks.{Mark, HasRead, HasRestricted, HasVerified, HasJudged, HasAnalysed, HasFirst, HasReply, WasUnable, HasAuthenticated, HasRunBefore, HasSecond, HasRunBehind}
 use Rattle.kernel.specs.Reply.{Reply, CardSaid, CardGone, HostSaid, HostSilent, Deed, Over}
 use Rattle.kernel.specs.Scripts.{templates, kept}
-use Rattle.kernel.specs.Laws.{deeds, deeds_behind}
 use Rattle.kernel.specs.Terminal.{Deal}
+use Rattle.online_step.specs.Authenticate.{authenticated}
+use Rattle.read_records.specs.Options.{Opened}
+use Rattle.script_run.specs.Ran.{template_ran, no_script}
 
 -- these steps, and others behind them
 abbrev Behind : List Mark → List Mark → Type 0

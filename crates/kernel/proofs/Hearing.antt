@@ -3,12 +3,13 @@ use Rattle.std.proofs.Common.{◌≡◌, refl, sym, ap, ◌∙◌, ℕ, Bool, tr
 use Rattle.auth_message.specs.Reply.{ReplyData, reply_of}
 use Rattle.auth_message.specs.declared.fault.MessageFault.{MessageFault}
 use Rattle.emv_dict.specs.Progress.{Progress, Wants, Stopped, Done}
+use Rattle.emv_dict.specs.Views.{AcData}
 use Rattle.emv_dict.specs.declared.ending.Cause.{Cause}
 use Rattle.emv_dict.specs.declared.ending.Ending.{Ending}
 use Rattle.emv_dict.specs.declared.ending.Step.TheVariants as step
 use Rattle.emv_dict.specs.declared.purchase.Logged.{Logged}
-use Rattle.online_step.specs.Ac.{AcData}
-use Rattle.online_step.specs.Authenticate.{authenticate_command, authenticated, verdict_of, after_verdict}
+use Rattle.kernel.proofs.Courses.{same, gone}
+use Rattle.kernel.proofs.Deciding.{stands_over}
 use Rattle.kernel.specs.Course.{Standing, Rest, card_step, cut_off, host_step}
 use Rattle.kernel.specs.Dialogue.{Trade, authentication, authentication_by, has_authentication, issuer_scripts, replied, reply_read, unable_online, scripts_behind, decision, left_script, all_failed}
 use Rattle.kernel.specs.Marks.{Mark, HasReply, HasSecond, HasAuthenticated, HasRunBehind, moment, latest, card_of}
@@ -17,8 +18,7 @@ use Rattle.kernel.specs.Scripts.{kept}
 use Rattle.kernel.specs.Stages.{TradingStands, Begins, authenticating, behind_if}
 use Rattle.kernel.specs.declared.stage.Trading.TheVariants as trading
 use Rattle.kernel.specs.declared.table.Table.{Table}
-use Rattle.kernel.proofs.Courses.{same, gone}
-use Rattle.kernel.proofs.Deciding.{stands_over}
+use Rattle.online_step.specs.Authenticate.{authenticate_command, authenticated, verdict_of, after_verdict}
 
 -- the host doesn't reply
 pub silent : (t : Table) → (trade : Trade) → (marks : List Mark) → (message : List ℕ) → (log : List Logged) → (rest : List Reply → Standing Mark) → ((later : List Reply) → rest later ≡ host_step marks message (replied trade marks) log later) → t.moment ≡ moment marks → latest card_of None marks ≡ Some trade.card → Begins t trade.card marks (λ later. rest (HostSilent ∷ later)) (unable_online trade true marks log)

@@ -9,8 +9,8 @@ use Rattle.app_select.specs.Selecting.{SelectedData, final, selecting}
 use Rattle.auth_message.specs.Reply.{ReplyData, reply_of}
 use Rattle.auth_message.specs.declared.fault.MessageFault.{MessageFault}
 use Rattle.cvm_list.specs.Begun.{cvm}
-use Rattle.env_map.specs.Entries.{Entries}
 use Rattle.emv_dict.specs.Progress.{Progress}
+use Rattle.emv_dict.specs.Views.{AcData}
 use Rattle.emv_dict.specs.declared.ending.Cause.TheVariants.{NoCandidate}
 use Rattle.emv_dict.specs.declared.ending.Ending.{Ending}
 use Rattle.emv_dict.specs.declared.ending.Ending.TheVariants.{Approved, Declined, Terminated}
@@ -19,22 +19,22 @@ use Rattle.emv_dict.specs.declared.ending.Kind.TheVariants.{Aac, Tc, Arqc}
 use Rattle.emv_dict.specs.declared.ending.Step.{Step}
 use Rattle.emv_dict.specs.declared.ending.Step.TheVariants as step
 use Rattle.emv_dict.specs.declared.purchase.AidRow.{AidRow}
-use Rattle.object_lists.specs.CardRead.{ReadCard}
-use Rattle.online_step.specs.Ac.{AcData}
-use Rattle.online_step.specs.Generate.{generated, list_data}
-use Rattle.online_step.specs.Authenticate.{authenticated}
-use Rattle.online_step.specs.Request.{request_of}
-use Rattle.read_records.specs.DataRead.{reading}
-use Rattle.read_records.specs.Options.{Opened, initiating}
-use Rattle.restrictions.specs.Restricted.{restricted}
-use Rattle.risk_mgmt.specs.Risky.{risky}
-use Rattle.script_run.specs.Ran.{template_ran, no_script}
+use Rattle.env_map.specs.Entries.{Entries}
 use Rattle.kernel.specs.Course.{Standing, Rest, stands, over, by_progress, card_step, cut_off, host_step}
 use Rattle.kernel.specs.Marks as mark
 use Rattle.kernel.specs.Marks.{Mark, moment}
 use Rattle.kernel.specs.Reply.{Reply, Over}
 use Rattle.kernel.specs.Scripts.{templates, kept}
 use Rattle.kernel.specs.Terminal.{Deal, terminal_objects}
+use Rattle.object_lists.specs.CardRead.{ReadCard}
+use Rattle.online_step.specs.Authenticate.{authenticated}
+use Rattle.online_step.specs.Generate.{generated, list_data}
+use Rattle.online_step.specs.Request.{request_of}
+use Rattle.read_records.specs.DataRead.{reading}
+use Rattle.read_records.specs.Options.{Opened, initiating}
+use Rattle.restrictions.specs.Restricted.{restricted}
+use Rattle.risk_mgmt.specs.Risky.{risky}
+use Rattle.script_run.specs.Ran.{template_ran, no_script}
 
 -- a transaction once the card is read: what was dealt, the terminal's row of the application, and the card
 pub record Trade : Type 0 where

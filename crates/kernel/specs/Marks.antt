@@ -3,14 +3,14 @@
 use Rattle.std.specs.Prelude.{ℕ, Bool, false, ◌==◌, not, if◌then◌else◌, List, [], ◌∷◌, ◌++◌, length, bit_or, Option, Some, None}
 use Rattle.std.specs.Str.{bytes_eq}
 use Rattle.auth_message.specs.Reply.{ReplyData}
-use Rattle.cvm_list.specs.declared.verified.Verified.{Verified}
 use Rattle.emv_dict.specs.Digits.{is_pin_length}
 use Rattle.emv_dict.specs.Flags.{tvr_bit, tsi_bit}
+use Rattle.emv_dict.specs.Views.{AcData}
 use Rattle.emv_dict.specs.declared.ending.Kind.{Kind}
 use Rattle.emv_dict.specs.declared.ending.Kind.TheVariants.{Aac, Tc, Arqc}
+use Rattle.emv_dict.specs.declared.judged.Judged.{Judged}
+use Rattle.emv_dict.specs.declared.verified.Verified.{Verified}
 use Rattle.object_lists.specs.CardRead.{ReadCard}
-use Rattle.online_step.specs.Ac.{AcData}
-use Rattle.risk_mgmt.specs.declared.judged.Judged.{Judged}
 
 -- a step that is finished, with what it found
 pub data Mark : Type 0 where

@@ -1,8 +1,7 @@
 -- What an end record shows of the end of a dialogue.
 use Rattle.std.specs.Prelude.{ℕ, List, Option, Some, None, option_map}
+use Rattle.emv_dict.specs.Views.{AcData}
 use Rattle.emv_dict.specs.declared.ending.Ending.{Ending}
-use Rattle.object_lists.specs.CardRead.{ReadCard}
-use Rattle.online_step.specs.Ac.{AcData}
 use Rattle.kernel.specs.Ended.{EndData}
 use Rattle.kernel.specs.declared.stage.Opening.{Opening}
 use Rattle.kernel.specs.declared.stage.Opening.TheVariants as opening
@@ -10,6 +9,7 @@ use Rattle.kernel.specs.declared.stage.Stage.{Stage}
 use Rattle.kernel.specs.declared.stage.Stage.TheVariants as stage
 use Rattle.kernel.specs.declared.stage.Trading.{Trading}
 use Rattle.kernel.specs.declared.stage.Trading.TheVariants as trading
+use Rattle.object_lists.specs.CardRead.{ReadCard}
 
 -- the account number is there where reading is finished; `capture` are the bytes of the message
 pub record EndShown : Type 0 where

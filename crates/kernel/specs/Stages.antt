@@ -3,19 +3,12 @@ use Rattle.std.specs.Prelude.{◌≡◌, ⊤, ℕ, ◌+◌, ◌-◌, ◌≤◌, 
 use Rattle.app_select.specs.Leading.{rest_with}
 use Rattle.cvm_list.specs.Waiting.{rest_of as verifying_rest}
 use Rattle.emv_dict.specs.Progress.{Progress, Wants}
+use Rattle.emv_dict.specs.Views.{AcData}
 use Rattle.emv_dict.specs.declared.ending.Kind.{Kind}
 use Rattle.emv_dict.specs.declared.ending.Step.{Step}
 use Rattle.emv_dict.specs.declared.ending.Step.TheVariants as step
 use Rattle.emv_dict.specs.declared.purchase.Logged.{Logged}
 use Rattle.env_map.specs.Entries.{Entries}
-use Rattle.object_lists.specs.CardRead.{ReadCard}
-use Rattle.online_step.specs.Ac.{AcData, ac_of}
-use Rattle.online_step.specs.Authenticate.{verdict_of, after_verdict}
-use Rattle.online_step.specs.Generate.{after_ac}
-use Rattle.read_records.specs.DataRead.{reading}
-use Rattle.read_records.specs.Options.{initiated}
-use Rattle.risk_mgmt.specs.Asked.{rest_of as judging_rest}
-use Rattle.script_run.specs.Ran.{rest_of as running_rest}
 use Rattle.kernel.specs.Course.{Standing, Rest, over, card_step, cut_off, host_step}
 use Rattle.kernel.specs.Dialogue.{Trade, initiation, granted, candidates_left, restrictions, risk, analysis, first_answered, replied, issuer_scripts, scripts_before, scripts_behind, decision, left_script}
 use Rattle.kernel.specs.Marks as mark
@@ -23,12 +16,20 @@ use Rattle.kernel.specs.Marks.{Mark, moment, latest, card_of}
 use Rattle.kernel.specs.Reply.{Reply}
 use Rattle.kernel.specs.Scripts.{templates}
 use Rattle.kernel.specs.Table.{deal_of}
-use Rattle.kernel.specs.declared.table.Table.{Table}
 use Rattle.kernel.specs.declared.stage.AtSelect.{AtSelect}
 use Rattle.kernel.specs.declared.stage.Opening.{Opening}
 use Rattle.kernel.specs.declared.stage.Opening.TheVariants as opening
 use Rattle.kernel.specs.declared.stage.Trading.{Trading}
 use Rattle.kernel.specs.declared.stage.Trading.TheVariants as trading
+use Rattle.kernel.specs.declared.table.Table.{Table}
+use Rattle.object_lists.specs.CardRead.{ReadCard}
+use Rattle.online_step.specs.Ac.{ac_of}
+use Rattle.online_step.specs.Authenticate.{verdict_of, after_verdict}
+use Rattle.online_step.specs.Generate.{after_ac}
+use Rattle.read_records.specs.DataRead.{reading}
+use Rattle.read_records.specs.Options.{initiated}
+use Rattle.risk_mgmt.specs.Asked.{rest_of as judging_rest}
+use Rattle.script_run.specs.Ran.{rest_of as running_rest}
 
 -- GENERATE AC was asked by this command
 abbrev pub generating : List ℕ → Kind → Bool → List (List ℕ) → Progress AcData

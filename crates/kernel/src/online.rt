@@ -2,6 +2,7 @@
 ghost use Rattle.std.specs.Prelude.{◌≡◌, ◌∷◌, ◌≤◌, ◌<◌, ◌+◌, List, ℕ, Some, None, IsSome, length, option_map};
 ghost use Rattle.action_analysis.specs.Analysed as spec;
 ghost use Rattle.emv_dict.specs.Settings.{IsSettings, IsPurchase};
+ghost use Rattle.emv_dict.specs.Views.{AcData};
 ghost use Rattle.emv_dict.specs.declared.purchase.Logged.{Logged};
 ghost use Rattle.kernel.specs.Course.{Standing};
 ghost use Rattle.kernel.specs.Dialogue.{first_answered, online, unable_online, second, authentication, decision as decision_of, kind_for as kind_of_code, is_offline_only as offline_test, has_authentication as authentication_test};
@@ -14,7 +15,6 @@ ghost use Rattle.kernel.specs.Table.{IsDeal, deal_of};
 ghost use Rattle.kernel.specs.Terminal.{terminal_objects};
 ghost use Rattle.kernel.specs.Trades.{trade_of};
 ghost use Rattle.kernel.specs.declared.stage.Trading.TheVariants as stage;
-ghost use Rattle.online_step.specs.Ac.{AcData};
 ghost use Rattle.online_step.specs.Request.{request_of};
 ghost use Rattle.online_step.specs.TerminalData.{HasTerminalData};
 

@@ -1,25 +1,25 @@
 //! The steps from cardholder verification to the first cryptogram (EMV 4.3 Book 3 sections 10.4 to 10.8).
 ghost use Rattle.std.specs.Prelude.{◌≡◌, ◌≤◌, ◌<◌, ◌+◌, [], ◌∷◌, ℕ, List, length};
 ghost use Rattle.std.specs.List.{All};
-ghost use Rattle.cvm_list.specs.NextIs.{NextLeads as VerifyLeads, entries_left};
-ghost use Rattle.cvm_list.specs.declared.verified.Verified.{Verified};
-ghost use Rattle.emv_dict.specs.Progress.{Progress};
 ghost use Rattle.action_analysis.specs.Analysed as spec;
+ghost use Rattle.cvm_list.specs.NextIs.{NextLeads as VerifyLeads, entries_left};
+ghost use Rattle.emv_dict.specs.Progress.{Progress};
 ghost use Rattle.emv_dict.specs.Settings.{IsAidRow, IsSettings, most_amount};
 ghost use Rattle.emv_dict.specs.declared.ending.Kind.{Kind};
 ghost use Rattle.emv_dict.specs.declared.ending.Step.TheVariants as step;
+ghost use Rattle.emv_dict.specs.declared.judged.Judged.{Judged};
 ghost use Rattle.emv_dict.specs.declared.purchase.Logged.{Logged};
+ghost use Rattle.emv_dict.specs.declared.verified.Verified.{Verified};
 ghost use Rattle.kernel.specs.Course.{Standing, card_step, cut_off};
 ghost use Rattle.kernel.specs.Dialogue.{Trade, restrictions, verification, risk, analysis, first, first_answered, unable_online, online};
 ghost use Rattle.kernel.specs.Marks.{Mark, HasVerified, HasJudged, HasRead, HasRestricted, moment};
 ghost use Rattle.kernel.specs.Rank.{trading_rank, rank_behind, most_scripts};
 ghost use Rattle.kernel.specs.Reply.{Reply, CardSaid};
 ghost use Rattle.kernel.specs.Stages.{TradingStands, Begins, HasRoom, scripts_left};
-ghost use Rattle.kernel.specs.declared.stage.Trading.TheVariants as stage;
 ghost use Rattle.kernel.specs.Table.{IsDeal, deal_of};
+ghost use Rattle.kernel.specs.declared.stage.Trading.TheVariants as stage;
 ghost use Rattle.risk_mgmt.specs.Asked.{counters_by};
 ghost use Rattle.risk_mgmt.specs.Judging.{NextLeads as JudgeLeads, counters_left};
-ghost use Rattle.risk_mgmt.specs.declared.judged.Judged.{Judged};
 
 use crate::moment::Moment;
 use crate::stage::Trading;

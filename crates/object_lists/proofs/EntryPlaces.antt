@@ -33,7 +33,7 @@ length-data_of count (Some (format, value)) = length-fitted format count value (
 length-entry_data : (card terminal : Entries) (entry : DolEntry) → length (entry_data card terminal entry) ≡ entry.count
 length-entry_data card terminal entry = length-data_of entry.count (known card terminal entry.tag)
 
-length-dol_data : (entries : List DolEntry) (card terminal : Entries) → length (dol_data entries card terminal) ≡ total_of entries
+pub length-dol_data : (entries : List DolEntry) (card terminal : Entries) → length (dol_data entries card terminal) ≡ total_of entries
 length-dol_data [] card terminal = refl
 length-dol_data (entry ∷ entries) card terminal =
     length-append (entry_data card terminal entry) (dol_data entries card terminal)

@@ -8,18 +8,11 @@ use Rattle.ber_tlv.specs.Left.{items_of}
 use Rattle.ber_tlv.specs.Place.{place_or_zero}
 use Rattle.ber_tlv.specs.declared.item.TlvFault.{TlvFault}
 use Rattle.emv_dict.specs.Kinds.{kind_of, is_above}
+use Rattle.emv_dict.specs.Views.{AcData}
 use Rattle.emv_dict.specs.declared.ending.Cause.{Cause}
 use Rattle.emv_dict.specs.declared.ending.Cause.TheVariants as cause
 use Rattle.emv_dict.specs.declared.ending.Kind.{Kind}
 use Rattle.emv_dict.specs.declared.ending.Kind.TheVariants.{Aac, Tc, Arqc}
-
--- what a card's answer gives: the kind of the cryptogram, the application transaction counter, the
--- cryptogram, and the issuer application data, none where they are absent
-pub record AcData : Type 0 where
-  pub kind : Kind
-  pub counter : ℕ
-  pub cryptogram : List ℕ
-  pub iad : List ℕ
 
 -- the values of the four objects: 9F27, one byte, 9F36, two bytes, 9F26, eight bytes, and 9F10
 pub record AcObjects : Type 0 where

@@ -7,10 +7,9 @@ use Rattle.auth_message.specs.Spelling.{present_bytes, reversal_bytes}
 use Rattle.auth_message.specs.declared.reversal.ReversalFields.{ReversalFields}
 use Rattle.emv_dict.specs.Bcd.{numeric}
 use Rattle.emv_dict.specs.Flags.{tvr_bytes}
-use Rattle.emv_dict.specs.Views.{SettingsData, PurchaseData}
+use Rattle.emv_dict.specs.Views.{SettingsData, PurchaseData, AcData}
 use Rattle.env_map.specs.Entries.{value_of}
 use Rattle.object_lists.specs.CardRead.{ReadCard}
-use Rattle.online_step.specs.Ac.{AcData}
 
 -- the fields of a presentment: the purchase, the verification results that the approving cryptogram was asked
 -- with, what it gives, and the response code

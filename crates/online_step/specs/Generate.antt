@@ -4,6 +4,7 @@ use Rattle.std.specs.Prelude.{ℕ, Bool, nat_le, if◌then◌else◌, List, [], 
 use Rattle.apdu_core.specs.Command.{command_bytes}
 use Rattle.emv_dict.specs.Kinds.{kind_byte}
 use Rattle.emv_dict.specs.Progress.{Progress, Wants, Stopped, Done}
+use Rattle.emv_dict.specs.Views.{AcData}
 use Rattle.emv_dict.specs.declared.ending.Cause.{Cause}
 use Rattle.emv_dict.specs.declared.ending.Cause.TheVariants.{Dol}
 use Rattle.emv_dict.specs.declared.ending.Kind.{Kind}
@@ -12,7 +13,7 @@ use Rattle.object_lists.specs.CardRead.{ReadCard}
 use Rattle.object_lists.specs.DolEntries.{DolEntry, dol_of, total_of}
 use Rattle.object_lists.specs.Filled.{dol_data}
 use Rattle.object_lists.specs.declared.dol.DolFault.{DolFault}
-use Rattle.online_step.specs.Ac.{AcData, ac_of}
+use Rattle.online_step.specs.Ac.{ac_of}
 
 -- the data of a list, where it is read and they have room in a command
 abbrev pub filled : Entries → Entries → Result (List DolEntry) DolFault → Option (List ℕ)

@@ -5,8 +5,8 @@ use Rattle.apdu_core.specs.Status.{no_error}
 use Rattle.auth_message.specs.Spelling.{spelled}
 use Rattle.ber_tlv.specs.Written.{written}
 use Rattle.emv_dict.specs.Kinds.{kind_byte}
+use Rattle.emv_dict.specs.Views.{AcData}
 use Rattle.emv_dict.specs.declared.ending.Kind.{Kind}
-use Rattle.online_step.specs.Ac.{AcData}
 
 -- what a card gives
 pub record Given : Type 0 where

@@ -4,10 +4,9 @@ use Rattle.std.specs.Prelude.{ℕ, List, Option, option_map}
 use Rattle.std.specs.Int.{to_be_bytes, w16}
 use Rattle.auth_message.specs.Data.{RequestData}
 use Rattle.auth_message.specs.Spelling.{request_bytes}
-use Rattle.emv_dict.specs.Views.{SettingsData}
+use Rattle.emv_dict.specs.Views.{SettingsData, AcData}
 use Rattle.env_map.specs.Entries.{Entries, value_of}
 use Rattle.object_lists.specs.CardRead.{ReadCard}
-use Rattle.online_step.specs.Ac.{AcData}
 use Rattle.online_step.specs.TerminalData.{object}
 use Rattle.pin_block.specs.Online.{online_of}
 

@@ -8,29 +8,7 @@ use apdu_core::read_response;
 use apdu_core::status::NO_ERROR;
 use arrayvec::ArrayVec;
 use ber_tlv::append;
-use emv_dict::{Cause, Kind};
-use std::marker::Model;
-
-/// An application cryptogram as the card gives it. Contracts see the issuer application data as a list.
-#[derive(Drop)]
-pub struct Ac {
-    /// The kind.
-    pub kind: Kind,
-    /// The application transaction counter (9F36).
-    pub counter: u16,
-    /// The cryptogram (9F26).
-    pub cryptogram: [u8; 8],
-    /// The issuer application data (9F10), at most 32 bytes, none where they are absent.
-    pub iad: ArrayVec<u8, 32>,
-}
-
-impl Model for Ac {
-    ghost use Rattle.online_step.specs.Ac.{AcData};
-
-    ghost Value = { AcData };
-
-    ghost view = { λ ac. record { kind = ac.kind; counter = ac.counter; cryptogram = ac.cryptogram; iad = ac.iad.items } };
-}
+use emv_dict::{Ac, Cause, Kind};
 
 /// Reads the answer to a GENERATE AC that asked for this kind, the first or the `second` time. It is refused
 /// by `Answer` where it is none, by its `Status`, by `Coding` where its data are neither an object 80 nor a

@@ -3,10 +3,9 @@ ghost use Rattle.std.specs.Prelude.{◌≡◌};
 ghost use Rattle.emv_dict.specs.Settings.{IsPurchase};
 ghost use Rattle.online_step.specs.Captures.{presentment_of, reversal_of};
 
-use crate::ac::Ac;
 use crate::fields::{country, cryptogram, currency, date, identification, number, sequence_number};
 use auth_message::{Message, PresentFields, ReversalFields, write_presentment, write_reversal};
-use emv_dict::{Purchase, Settings, Tvr, amount_bytes};
+use emv_dict::{Ac, Purchase, Settings, Tvr, amount_bytes};
 use object_lists::CardData;
 
 /// Writes the presentment (E3) of an approved purchase, in place of what `out` held: with the verification

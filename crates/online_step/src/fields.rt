@@ -4,9 +4,8 @@ ghost use Rattle.auth_message.specs.Accepted.{AreDigits};
 ghost use Rattle.env_map.specs.Entries.{value_of};
 ghost use Rattle.online_step.specs.TerminalData.{object as object_value};
 
-use crate::ac::Ac;
 use ber_tlv::Tag;
-use emv_dict::{Purchase, Settings};
+use emv_dict::{Ac, Purchase, Settings};
 use env_map::Env;
 use object_lists::CardData;
 

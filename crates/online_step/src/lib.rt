@@ -11,7 +11,7 @@ pub mod laws;
 mod objects;
 pub mod online;
 
-pub use ac::{Ac, read_ac};
+pub use ac::read_ac;
 pub use authenticate::{authenticate_command, read_verdict};
 pub use captures::{presentment, reversal};
 pub use generate::{fill_list, write_generate};

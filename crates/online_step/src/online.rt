@@ -1,16 +1,15 @@
 //! The request to the issuer's host (EMV 4.3 Book 3 section 10.9; the format is this project's own).
 ghost use Rattle.std.specs.Prelude.{◌≡◌, ◌<◌, IfSome, length, option_map};
 ghost use Rattle.auth_message.specs.Accepted.{AreDigits};
-ghost use Rattle.env_map.specs.Entries.{value_of};
 ghost use Rattle.emv_dict.specs.Digits.{HasPinLength};
+ghost use Rattle.env_map.specs.Entries.{value_of};
 ghost use Rattle.online_step.specs.Request.{enciphered, request_of};
 ghost use Rattle.online_step.specs.TerminalData.{HasTerminalData};
 
-use crate::ac::Ac;
 use crate::fields::{cryptogram, expiry, object, sequence_number};
 use auth_message::{Message, RequestFields, write_request};
 use ber_tlv::Tag;
-use emv_dict::{Digits, Settings};
+use emv_dict::{Ac, Digits, Settings};
 use env_map::Env;
 use object_lists::CardData;
 use pin_block::online_block;

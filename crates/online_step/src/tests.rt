@@ -6,7 +6,7 @@ mod card;
 mod terminal;
 
 use crate::{
-    Ac, authenticate_command, fill_list, presentment, read_ac, read_verdict, request, reversal,
+    authenticate_command, fill_list, presentment, read_ac, read_verdict, request, reversal,
     write_generate,
 };
 use apdu_core::Out;
@@ -14,7 +14,7 @@ use arrayvec::ArrayVec;
 use auth_message::Message;
 use ber_tlv::Tag;
 use card::card;
-use emv_dict::{Cause, Digits, Kind, Purchase, Settings, Tvr};
+use emv_dict::{Ac, Cause, Digits, Kind, Purchase, Settings, Tvr};
 use std::alloc::Global;
 use std::process::Abort;
 use terminal::terminal;

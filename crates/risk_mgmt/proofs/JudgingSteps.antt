@@ -2,10 +2,10 @@
 use Rattle.std.proofs.Common.{◌≡◌, ℕ, List, ◌∷◌, Option, Ok, Err, Result, ap, sym, refl, ◌∙◌}
 use Rattle.emv_dict.specs.Progress.{Progress, Stopped, Done}
 use Rattle.emv_dict.specs.declared.ending.Cause.{Cause}
+use Rattle.emv_dict.specs.declared.judged.Judged.{Judged}
 use Rattle.risk_mgmt.specs.Asked.{JudgingData, rest_of, rest_by}
 use Rattle.risk_mgmt.specs.Counters.{counter_tag, last_online_tag, counter_of}
 use Rattle.risk_mgmt.specs.Risky.{first_asked, first_by, last_asked, last_by}
-use Rattle.risk_mgmt.specs.declared.judged.Judged.{Judged}
 use Rattle.risk_mgmt.specs.declared.judging.Asking.{Asking}
 use Rattle.risk_mgmt.specs.declared.judging.Asking.TheVariants.{Counter, LastOnline}
 

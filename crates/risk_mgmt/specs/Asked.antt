@@ -1,8 +1,8 @@
 -- What is left of risk management while the card is asked for a counter.
 use Rattle.std.specs.Prelude.{ℕ, List, Option}
 use Rattle.emv_dict.specs.Progress.{Progress}
+use Rattle.emv_dict.specs.declared.judged.Judged.{Judged}
 use Rattle.risk_mgmt.specs.Risky.{first_asked, last_asked}
-use Rattle.risk_mgmt.specs.declared.judged.Judged.{Judged}
 use Rattle.risk_mgmt.specs.declared.judging.Asking.{Asking}
 use Rattle.risk_mgmt.specs.declared.judging.Asking.TheVariants.{Counter, LastOnline}
 

@@ -1,8 +1,8 @@
 -- What a state of risk management leaves to be done.
 use Rattle.std.specs.Prelude.{ℕ, List, Option}
 use Rattle.emv_dict.specs.Progress.{Progress, Leads, Stopped, Done}
+use Rattle.emv_dict.specs.declared.judged.Judged.{Judged}
 use Rattle.risk_mgmt.specs.Asked.{rest_of, counters_by}
-use Rattle.risk_mgmt.specs.declared.judged.Judged.{Judged}
 use Rattle.risk_mgmt.specs.declared.judging.JudgeNext.{JudgeNext}
 use Rattle.risk_mgmt.specs.declared.judging.JudgeNext.TheVariants as next
 

@@ -6,13 +6,13 @@ use Rattle.emv_dict.specs.Flags.{bits_where, tvr_bit}
 use Rattle.emv_dict.specs.Progress.{Progress, Wants, Stopped, Done}
 use Rattle.emv_dict.specs.Views.{SettingsData, PurchaseData}
 use Rattle.emv_dict.specs.declared.ending.Cause.{Cause}
+use Rattle.emv_dict.specs.declared.judged.Judged.{Judged}
 use Rattle.emv_dict.specs.declared.purchase.AidRow.{AidRow}
 use Rattle.emv_dict.specs.declared.purchase.Logged.{Logged}
 use Rattle.env_map.specs.Entries.{Entries, value_of}
 use Rattle.object_lists.specs.CardRead.{ReadCard}
 use Rattle.risk_mgmt.specs.Counters.{counter_tag, last_online_tag, get_data, counter_of, counted}
 use Rattle.risk_mgmt.specs.Selected.{is_selected}
-use Rattle.risk_mgmt.specs.declared.judged.Judged.{Judged}
 
 -- terminal types 22, 23, 25 and 26: a merchant's terminal that may decide offline (EMV 4.3 Book 4 Annex A1)
 abbrev pub may_decide : ℕ → Bool

@@ -8,11 +8,10 @@ ghost use Rattle.risk_mgmt.specs.Judging.{NextLeads, counters_left};
 ghost use Rattle.risk_mgmt.specs.Risky as spec;
 
 use crate::counters::{COUNTER, LAST_ONLINE, counted, read_counter, write_get_data};
-use crate::judged::Judged;
 use crate::selection::is_selected;
 use apdu_core::Out;
 use ber_tlv::Tag;
-use emv_dict::{AidRow, Cause, Digits, Logged, Purchase, Settings, Tvr};
+use emv_dict::{AidRow, Cause, Digits, Judged, Logged, Purchase, Settings, Tvr};
 use env_map::Env;
 use object_lists::CardData;
 use std::marker::Model;

@@ -3,11 +3,9 @@
 #![tactic(auto)]
 
 pub mod counters;
-pub mod judged;
 pub mod judging;
 pub mod selection;
 
-pub use judged::Judged;
 pub use judging::{JudgeNext, Judging};
 pub use selection::is_selected;
 

@@ -65,36 +65,37 @@ fn purchase(rt: &(impl AllocGlobal + Abort), amount: u64, word: u32, forced: boo
 
 /// A terminal's type, an amount, a floor limit, a threshold, a target, a random word and the fourth
 /// byte of the results, as other implementations give it; the greatest target is 50.
+const AMOUNTS: [(u8, u64, u64, u64, u8, u32, u8); 24] = [
+    (21, 2500, 2500, 1000, 10, 49, 0x00),
+    (22, 2500, 2500, 1000, 10, 49, 0x80),
+    (23, 2500, 2500, 1000, 10, 49, 0x80),
+    (24, 2500, 2500, 1000, 10, 49, 0x00),
+    (25, 2500, 2500, 1000, 10, 49, 0x80),
+    (26, 2500, 2500, 1000, 10, 49, 0x80),
+    (22, 2500, 0, 0, 10, 49, 0x80),
+    (22, 999_999_999_999, 999_999_999_999, 5000, 10, 49, 0x80),
+    (21, 4999, 10000, 5000, 10, 99, 0x00),
+    (22, 4999, 10000, 5000, 10, 99, 0x10),
+    (23, 4999, 10000, 5000, 10, 99, 0x00),
+    (24, 4999, 10000, 5000, 10, 99, 0x00),
+    (25, 4999, 10000, 5000, 10, 99, 0x10),
+    (26, 4999, 10000, 5000, 10, 99, 0x00),
+    (22, 4999, 10000, 5000, 0, 0, 0x00),
+    (22, 4999, 5000, 5000, 10, 9, 0x10),
+    (22, 4999, 10000, 5000, 10, 9, 0x10),
+    (22, 4999, 10000, 5000, 10, 10, 0x00),
+    (22, 7500, 10000, 5000, 10, 29, 0x10),
+    (22, 7500, 10000, 5000, 10, 30, 0x00),
+    (22, 9999, 10000, 5000, 10, 48, 0x10),
+    (22, 9999, 10000, 5000, 10, 49, 0x00),
+    (22, 7500, 10000, 5000, 10, 98, 0x00),
+    (22, 7500, 10000, 5000, 10, 99, 0x10),
+];
+
 #[test]
 fn amounts_are_compared_and_drawn(rt: HostRuntime) {
-    let rows: [(u8, u64, u64, u64, u8, u32, u8); 24] = [
-        (21, 2500, 2500, 1000, 10, 49, 0x00),
-        (22, 2500, 2500, 1000, 10, 49, 0x80),
-        (23, 2500, 2500, 1000, 10, 49, 0x80),
-        (24, 2500, 2500, 1000, 10, 49, 0x00),
-        (25, 2500, 2500, 1000, 10, 49, 0x80),
-        (26, 2500, 2500, 1000, 10, 49, 0x80),
-        (22, 2500, 0, 0, 10, 49, 0x80),
-        (22, 999_999_999_999, 999_999_999_999, 5000, 10, 49, 0x80),
-        (21, 4999, 10000, 5000, 10, 99, 0x00),
-        (22, 4999, 10000, 5000, 10, 99, 0x10),
-        (23, 4999, 10000, 5000, 10, 99, 0x00),
-        (24, 4999, 10000, 5000, 10, 99, 0x00),
-        (25, 4999, 10000, 5000, 10, 99, 0x10),
-        (26, 4999, 10000, 5000, 10, 99, 0x00),
-        (22, 4999, 10000, 5000, 0, 0, 0x00),
-        (22, 4999, 5000, 5000, 10, 9, 0x10),
-        (22, 4999, 10000, 5000, 10, 9, 0x10),
-        (22, 4999, 10000, 5000, 10, 10, 0x00),
-        (22, 7500, 10000, 5000, 10, 29, 0x10),
-        (22, 7500, 10000, 5000, 10, 30, 0x00),
-        (22, 9999, 10000, 5000, 10, 48, 0x10),
-        (22, 9999, 10000, 5000, 10, 49, 0x00),
-        (22, 7500, 10000, 5000, 10, 98, 0x00),
-        (22, 7500, 10000, 5000, 10, 99, 0x10),
-    ];
     let card = card_with(&rt, &[(0x82, &[0x08, 0x00])]);
-    for (kind, amount, floor, threshold, target, word, byte) in rows {
+    for (kind, amount, floor, threshold, target, word, byte) in AMOUNTS {
         let row = row(&rt, floor, threshold, target, 50);
         let purchase = purchase(&rt, amount, word, false);
         assert!(rt; amount <= 999_999_999_999);
@@ -167,89 +168,90 @@ fn the_log_counts_by_its_latest_row(rt: HostRuntime) -> Result<(), Fail> {
     Ok(())
 }
 
+/// The card's last online counter is 9, and it is 0.
+const LAST: &[u8] = &[0x9f, 0x13, 0x02, 0x00, 0x09, 0x90, 0x00];
+
+const NEVER: &[u8] = &[0x9f, 0x13, 0x02, 0x00, 0x00, 0x90, 0x00];
+/// The card doesn't have the object.
+const NONE: &[u8] = &[0x6a, 0x88];
+
 /// Answers to GET DATA of 9F36 and of 9F13 with limits 1 and 9, and the first, second and fourth byte
 /// of the results, as other implementations give them.
+const COUNTERS: [(&[u8], &[u8], [u8; 3]); 17] = [
+    (
+        &[0x9f, 0x36, 0x02, 0x00, 0x0b, 0x62, 0x83],
+        LAST,
+        [0x20, 0, 0x60],
+    ),
+    (NONE, LAST, [0x20, 0, 0x60]),
+    (&[0x9f, 0x36, 0x01, 0x0b, 0x90, 0x00], LAST, [0x20, 0, 0x60]),
+    (
+        &[0x9f, 0x13, 0x02, 0x00, 0x0b, 0x90, 0x00],
+        LAST,
+        [0x20, 0, 0x60],
+    ),
+    (
+        &[0x9f, 0x36, 0x03, 0x00, 0x00, 0x0b, 0x90, 0x00],
+        LAST,
+        [0x20, 0, 0x60],
+    ),
+    (NONE, NONE, [0x20, 0, 0x60]),
+    (
+        &[0x9f, 0x36, 0x02, 0x00, 0x0b, 0x90, 0x00],
+        NONE,
+        [0x20, 0, 0x60],
+    ),
+    (NONE, NEVER, [0x20, 0x08, 0x60]),
+    (
+        &[0x9f, 0x36, 0x02, 0x00, 0x20, 0x90, 0x00],
+        LAST,
+        [0, 0, 0x60],
+    ),
+    (
+        &[0x9f, 0x36, 0x02, 0x00, 0x08, 0x90, 0x00],
+        LAST,
+        [0, 0, 0x60],
+    ),
+    (
+        &[0x9f, 0x36, 0x02, 0x00, 0x09, 0x90, 0x00],
+        LAST,
+        [0, 0, 0x60],
+    ),
+    (
+        &[0x9f, 0x36, 0x02, 0xff, 0xff, 0x90, 0x00],
+        NEVER,
+        [0, 0x08, 0x60],
+    ),
+    (
+        &[0x9f, 0x36, 0x02, 0x00, 0x0b, 0x90, 0x00],
+        LAST,
+        [0, 0, 0x40],
+    ),
+    (
+        &[0x9f, 0x36, 0x02, 0x00, 0x0a, 0x90, 0x00],
+        LAST,
+        [0, 0, 0x00],
+    ),
+    (
+        &[0x9f, 0x36, 0x02, 0x00, 0x01, 0x90, 0x00],
+        NEVER,
+        [0, 0x08, 0x00],
+    ),
+    (
+        &[0x9f, 0x36, 0x02, 0x00, 0x12, 0x90, 0x00],
+        LAST,
+        [0, 0, 0x40],
+    ),
+    (
+        &[0x9f, 0x36, 0x02, 0x00, 0x13, 0x90, 0x00],
+        LAST,
+        [0, 0, 0x60],
+    ),
+];
+
 #[test]
 fn counters_are_asked_for(rt: HostRuntime) {
-    let last = [0x9f, 0x13, 0x02, 0x00, 0x09, 0x90, 0x00];
-    let none = [0x6a, 0x88];
-    let never = [0x9f, 0x13, 0x02, 0x00, 0x00, 0x90, 0x00];
-    let rows: [(&[u8], &[u8], [u8; 3]); 17] = [
-        (
-            &[0x9f, 0x36, 0x02, 0x00, 0x0b, 0x62, 0x83],
-            &last,
-            [0x20, 0, 0x60],
-        ),
-        (&none, &last, [0x20, 0, 0x60]),
-        (
-            &[0x9f, 0x36, 0x01, 0x0b, 0x90, 0x00],
-            &last,
-            [0x20, 0, 0x60],
-        ),
-        (
-            &[0x9f, 0x13, 0x02, 0x00, 0x0b, 0x90, 0x00],
-            &last,
-            [0x20, 0, 0x60],
-        ),
-        (
-            &[0x9f, 0x36, 0x03, 0x00, 0x00, 0x0b, 0x90, 0x00],
-            &last,
-            [0x20, 0, 0x60],
-        ),
-        (&none, &none, [0x20, 0, 0x60]),
-        (
-            &[0x9f, 0x36, 0x02, 0x00, 0x0b, 0x90, 0x00],
-            &none,
-            [0x20, 0, 0x60],
-        ),
-        (&none, &never, [0x20, 0x08, 0x60]),
-        (
-            &[0x9f, 0x36, 0x02, 0x00, 0x20, 0x90, 0x00],
-            &last,
-            [0, 0, 0x60],
-        ),
-        (
-            &[0x9f, 0x36, 0x02, 0x00, 0x08, 0x90, 0x00],
-            &last,
-            [0, 0, 0x60],
-        ),
-        (
-            &[0x9f, 0x36, 0x02, 0x00, 0x09, 0x90, 0x00],
-            &last,
-            [0, 0, 0x60],
-        ),
-        (
-            &[0x9f, 0x36, 0x02, 0xff, 0xff, 0x90, 0x00],
-            &never,
-            [0, 0x08, 0x60],
-        ),
-        (
-            &[0x9f, 0x36, 0x02, 0x00, 0x0b, 0x90, 0x00],
-            &last,
-            [0, 0, 0x40],
-        ),
-        (
-            &[0x9f, 0x36, 0x02, 0x00, 0x0a, 0x90, 0x00],
-            &last,
-            [0, 0, 0x00],
-        ),
-        (
-            &[0x9f, 0x36, 0x02, 0x00, 0x01, 0x90, 0x00],
-            &never,
-            [0, 0x08, 0x00],
-        ),
-        (
-            &[0x9f, 0x36, 0x02, 0x00, 0x12, 0x90, 0x00],
-            &last,
-            [0, 0, 0x40],
-        ),
-        (
-            &[0x9f, 0x36, 0x02, 0x00, 0x13, 0x90, 0x00],
-            &last,
-            [0, 0, 0x60],
-        ),
-    ];
-    for (first, second, [one, two, four]) in rows {
+    for (first, second, [one, two, four]) in COUNTERS {
         let judged = match asked(&rt).take(first) {
             JudgeNext::Ask(judging) => {
                 let mut out: Out = ArrayVec::new();
@@ -270,6 +272,10 @@ fn counters_are_asked_for(rt: HostRuntime) {
             _ => assert!(rt; false, "{first:?} {second:?}"),
         }
     }
+}
+
+#[test]
+fn bytes_that_are_no_answer_end_it(rt: HostRuntime) {
     match asked(&rt).take(&[0x9f]) {
         JudgeNext::Ended(cause) => assert_eq!(rt; cause, Cause::Answer),
         _ => assert!(rt; false),

@@ -1,10 +1,10 @@
 use Rattle.std.proofs.Common.{◌≤◌, ◌+◌, ℕ, List, length, drop, ap, sym, ◌∙◌, arith}
 use Rattle.std.proofs.lemmas.List.{drop_all}
-use Rattle.emv_dict.specs.Progress.{Progress, Done}
 use Rattle.cvm_list.proofs.Walk.{none_left, known_step, done_step, on_step, next_same}
-use Rattle.cvm_list.specs.Cvm.{course, verdict}
-use Rattle.cvm_list.specs.declared.verified.Verified.{Verified}
 use Rattle.cvm_list.proofs.verifying.+walk.Goals as goal
+use Rattle.cvm_list.specs.Cvm.{course, verdict}
+use Rattle.emv_dict.specs.Progress.{Progress, Done}
+use Rattle.emv_dict.specs.declared.verified.Verified.{Verified}
 
 pub returns-then-at-len-clause-leads : goal.returns-then-at-len-clause-leads
 returns-then-at-len-clause-leads t c later =

@@ -1,16 +1,16 @@
 use Rattle.std.proofs.Common.{◌≡◌, ℕ, ◌≤◌, ◌<◌, List, length, drop, ap, sym, ◌∙◌, arith, Bor, option_map}
-use Rattle.emv_dict.specs.Progress.{Progress}
-use Rattle.emv_dict.specs.Views.{PurchaseData}
 use Rattle.cvm_list.proofs.Opening.{no_rules, with_rules}
 use Rattle.cvm_list.proofs.Walk.{next_same}
+use Rattle.cvm_list.proofs.verifying.with_list.Goals as goal
 use Rattle.cvm_list.specs.Begun.{by_rules, holding, situation}
 use Rattle.cvm_list.specs.Cvm.{course, nothing_found, verdict}
 use Rattle.cvm_list.specs.Rules.{rules_of}
 use Rattle.cvm_list.specs.declared.outcome.Found.{Found}
 use Rattle.cvm_list.specs.declared.rule.Rule.{Rule}
 use Rattle.cvm_list.specs.declared.rule.Situation.{Situation}
-use Rattle.cvm_list.specs.declared.verified.Verified.{Verified}
-use Rattle.cvm_list.proofs.verifying.with_list.Goals as goal
+use Rattle.emv_dict.specs.Progress.{Progress}
+use Rattle.emv_dict.specs.Views.{PurchaseData}
+use Rattle.emv_dict.specs.declared.verified.Verified.{Verified}
 
 pub returns-then-list-lt10-clause-leads : goal.returns-then-list-lt10-clause-leads
 returns-then-list-lt10-clause-leads c later =

@@ -1,13 +1,13 @@
 use Rattle.std.proofs.Common.{◌≡◌, refl, sym, ◌∷◌, ap, ◌∙◌, false}
+use Rattle.emv_dict.specs.Views.{AcData}
 use Rattle.emv_dict.specs.declared.ending.Ending.TheVariants.{Approved, Declined}
-use Rattle.emv_dict.specs.declared.ending.Kind.TheVariants.{Aac, Tc, Arqc}
 use Rattle.emv_dict.specs.declared.ending.Kind.{Kind}
-use Rattle.online_step.specs.Ac.{AcData}
+use Rattle.emv_dict.specs.declared.ending.Kind.TheVariants.{Aac, Tc, Arqc}
+use Rattle.kernel.proofs.Deciding.{decided, asks_issuer}
+use Rattle.kernel.proofs.online.decide.Goals as goal
 use Rattle.kernel.specs.Dialogue.{first_answered}
 use Rattle.kernel.specs.Marks.{HasFirst}
 use Rattle.kernel.specs.Trades.{trade_of}
-use Rattle.kernel.proofs.Deciding.{decided, asks_issuer}
-use Rattle.kernel.proofs.online.decide.Goals as goal
 
 pub returns-in-Tc-clause-stands : goal.returns-in-Tc-clause-stands
 returns-in-Tc-clause-stands c = λ marks log rest begins.

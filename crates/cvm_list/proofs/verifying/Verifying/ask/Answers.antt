@@ -1,9 +1,9 @@
 use Rattle.std.proofs.Common.{ap, sym, ◌∙◌, [], List, ℕ, drop, ◌+◌}
-use Rattle.emv_dict.specs.Progress.{Progress, Wants}
 use Rattle.cvm_list.proofs.Walk.{asked}
-use Rattle.cvm_list.specs.Waiting.{rest_of}
-use Rattle.cvm_list.specs.declared.verified.Verified.{Verified}
 use Rattle.cvm_list.proofs.verifying.Verifying.ask.Goals as goal
+use Rattle.cvm_list.specs.Waiting.{rest_of}
+use Rattle.emv_dict.specs.Progress.{Progress, Wants}
+use Rattle.emv_dict.specs.declared.verified.Verified.{Verified}
 
 pub returns : goal.returns
 returns c =

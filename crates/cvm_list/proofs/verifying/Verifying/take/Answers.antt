@@ -1,8 +1,6 @@
 use Rattle.std.proofs.Common.{◌≡◌, ℕ, ◌+◌, List, ◌∷◌, Option, Some, None, drop, ap, sym, ◌∙◌}
-use Rattle.emv_dict.proofs.Steps.{leads_more}
-use Rattle.emv_dict.specs.Progress.{Progress, Stopped}
-use Rattle.emv_dict.specs.declared.ending.Cause.TheVariants.{Answer}
 use Rattle.cvm_list.proofs.Walk.{unreadable, again, right, exceeded, other, leads_on}
+use Rattle.cvm_list.proofs.verifying.Verifying.take.Goals as goal
 use Rattle.cvm_list.specs.Cvm.{course, verdict}
 use Rattle.cvm_list.specs.Plain.{plain_result}
 use Rattle.cvm_list.specs.Rules.{method_of}
@@ -13,8 +11,10 @@ use Rattle.cvm_list.specs.declared.outcome.Outcome.{Outcome}
 use Rattle.cvm_list.specs.declared.outcome.Said.{Said}
 use Rattle.cvm_list.specs.declared.outcome.Said.TheVariants.{Right, Again, Exceeded, Other}
 use Rattle.cvm_list.specs.declared.rule.Rule.{Rule}
-use Rattle.cvm_list.specs.declared.verified.Verified.{Verified}
-use Rattle.cvm_list.proofs.verifying.Verifying.take.Goals as goal
+use Rattle.emv_dict.proofs.Steps.{leads_more}
+use Rattle.emv_dict.specs.Progress.{Progress, Stopped}
+use Rattle.emv_dict.specs.declared.ending.Cause.TheVariants.{Answer}
+use Rattle.emv_dict.specs.declared.verified.Verified.{Verified}
 
 pub returns-in-None-clause-leads : goal.returns-in-None-clause-leads
 returns-in-None-clause-leads c whole answers leads =

@@ -1,11 +1,11 @@
 use Rattle.std.proofs.Common.{ap, sym, ◌∙◌, ◌∷◌, ℕ, List, true, Ok, Err}
 use Rattle.emv_dict.proofs.Steps.{leads_more}
 use Rattle.emv_dict.specs.Progress.{Progress, Done, Stopped}
+use Rattle.emv_dict.specs.declared.judged.Judged.{Judged}
 use Rattle.risk_mgmt.proofs.JudgingSteps.{first_answered, last_answered}
+use Rattle.risk_mgmt.proofs.judging.Judging.take.Goals as goal
 use Rattle.risk_mgmt.specs.Asked.{rest_of}
 use Rattle.risk_mgmt.specs.Risky.{found, last_asked}
-use Rattle.risk_mgmt.specs.declared.judged.Judged.{Judged}
-use Rattle.risk_mgmt.proofs.judging.Judging.take.Goals as goal
 
 pub returns-in-Ok-clause-leads : goal.returns-in-Ok-clause-leads
 returns-in-Ok-clause-leads c whole answers leads =

@@ -1,4 +1,6 @@
-use emv_dict::{Digits, Tvr};
+//! What cardholder verification hands on (EMV 4.3 Book 3 section 10.5).
+use crate::digits::Digits;
+use crate::tvr::Tvr;
 
 /// What cardholder verification came to.
 #[derive(Drop, Debug)]

@@ -1,4 +1,5 @@
-use emv_dict::Tvr;
+//! What terminal risk management hands on (EMV 4.3 Book 3 section 10.6).
+use crate::tvr::Tvr;
 
 /// What terminal risk management found.
 #[derive(Clone, Copy, PartialEq, Eq, Debug)]
