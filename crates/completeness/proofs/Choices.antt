@@ -9,9 +9,9 @@ use Rattle.app_select.specs.Candidates.{CandidateData, has_name, is_allowed}
 use Rattle.card_files.specs.Views.{AppData}
 use Rattle.card_state.specs.declared.state.AppState.{AppState}
 use Rattle.card_state.specs.declared.state.CardState.{CardState}
-use Rattle.kernel.specs.Terminal.{Deal}
 use Rattle.completeness.proofs.Seeking.{begins, begins_itself}
 use Rattle.completeness.specs.WellFormed.{AreApart, CanServe}
+use Rattle.terminal_state.specs.Terminal.{Deal}
 
 -- a candidate is an application of the card that isn't blocked
 pub record IsOwn (image : List AppData) (state : CardState) (candidate : CandidateData) : Type 0 where

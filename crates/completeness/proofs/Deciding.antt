@@ -31,14 +31,14 @@ use Rattle.emv_dict.specs.declared.ending.Step.TheVariants as step
 use Rattle.emv_dict.specs.declared.purchase.Logged.{Logged}
 use Rattle.kernel.specs.Course.{cut_off, host_step}
 use Rattle.kernel.specs.Dialogue.{Trade, objects_at, decision, left_script, scripts_behind, second, kind_for, scripts_before, issuer_scripts, has_authentication, authentication_by, authentication, kind_unable, unable_online, reply_read, replied, is_offline_only, online, first_answered, first, kind_wanted, analysis}
-use Rattle.kernel.specs.Marks as mark
-use Rattle.kernel.specs.Marks.{Mark, moment}
 use Rattle.kernel.specs.Reply.{from_host}
-use Rattle.kernel.specs.Scripts.{templates, are_few, kept}
 use Rattle.online_step.specs.Authenticate.{authenticated}
 use Rattle.online_step.specs.Generate.{generated, list_data}
 use Rattle.online_step.specs.Request.{request_of}
 use Rattle.script_run.specs.Ran.{template_ran}
+use Rattle.terminal_state.specs.Marks as mark
+use Rattle.terminal_state.specs.Marks.{Mark, moment}
+use Rattle.terminal_state.specs.Scripts.{templates, are_few, kept}
 
 is_decision : (sent : Bool) (kind : Kind) → IsDecided (decision sent kind)
 is_decision sent Tc = tt

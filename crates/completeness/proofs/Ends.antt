@@ -4,15 +4,15 @@ use Rattle.std.proofs.Common.{◌≡◌, ℕ, List, [], ◌∷◌, ◌++◌, Opt
 use Rattle.std.proofs.lemmas.List.{append_assoc}
 use Rattle.card_files.specs.Views.{AppData}
 use Rattle.card_state.specs.Decisions.{Decided}
+use Rattle.completeness.specs.Cards.{Now, powered, says, goes}
+use Rattle.completeness.specs.Told.{Told, begins, card as told_card, host as told_host, IsDecided, IsLinked}
 use Rattle.emv_dict.specs.declared.ending.Ending.{Ending}
 use Rattle.emv_dict.specs.declared.purchase.Logged.{Logged}
 use Rattle.kernel.specs.Course.{Standing}
 use Rattle.kernel.specs.Dialogue.{dialogue}
-use Rattle.kernel.specs.Marks.{Mark}
 use Rattle.kernel.specs.Reply.{Reply, CardSaid, from_host, Deed, ToCard, ToHost, Over}
-use Rattle.kernel.specs.Terminal.{Deal}
-use Rattle.completeness.specs.Cards.{Now, powered, says, goes}
-use Rattle.completeness.specs.Told.{Told, begins, card as told_card, host as told_host, IsDecided, IsLinked}
+use Rattle.terminal_state.specs.Marks.{Mark}
+use Rattle.terminal_state.specs.Terminal.{Deal}
 
 -- the rest of a dialogue over the replies to come ends with a decision
 pub data Ends (image : List AppData) : Now → (List Reply → Standing Mark) → Type 0 where

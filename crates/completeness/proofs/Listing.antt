@@ -23,9 +23,6 @@ use Rattle.card_state.specs.Decisions.{Decided}
 use Rattle.card_state.specs.Totals.{totals}
 use Rattle.card_state.specs.declared.state.AppState.{AppState}
 use Rattle.card_state.specs.declared.state.CardState.{CardState}
-use Rattle.emv_dict.specs.Settings.{IsAidRow}
-use Rattle.emv_dict.specs.declared.purchase.AidRow.{AidRow}
-use Rattle.kernel.specs.Terminal.{Deal}
 use Rattle.completeness.proofs.Answers.{state_at, phase_at}
 use Rattle.completeness.proofs.Choices.{IsOwn, all_at, alone, named_itself}
 use Rattle.completeness.proofs.Runs.{Runs, asks, runs_as}
@@ -35,6 +32,9 @@ use Rattle.completeness.proofs.Shown.{fci_data}
 use Rattle.completeness.proofs.Standing.{has_state}
 use Rattle.completeness.specs.Cards.{Now, powered, says, goes}
 use Rattle.completeness.specs.WellFormed.{AreApart, CanServe}
+use Rattle.emv_dict.specs.Settings.{IsAidRow}
+use Rattle.emv_dict.specs.declared.purchase.AidRow.{AidRow}
+use Rattle.terminal_state.specs.Terminal.{Deal}
 
 -- P2 of the SELECT of this occurrence
 abbrev which : ℕ → ℕ

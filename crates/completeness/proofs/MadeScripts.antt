@@ -12,16 +12,16 @@ use Rattle.ber_tlv.specs.Item.{ItemData}
 use Rattle.ber_tlv.specs.Left.{items_of, items_behind}
 use Rattle.ber_tlv.specs.Written.{written}
 use Rattle.ber_tlv.specs.declared.item.TlvFault.{TlvFault}
+use Rattle.completeness.specs.Told.{moves_on, IsPlain, IsPlainScript}
 use Rattle.issuer_host.specs.Scripts.{header_of, data_of, mac_bytes, mac_of, command_bytes, order_bytes, identifier_bytes, script_bytes, all_script_bytes}
 use Rattle.issuer_host.specs.declared.script.ScriptKeys.{ScriptKeys}
-use Rattle.kernel.specs.Scripts.{with_tag, templates}
 use Rattle.script_run.specs.Script.{ScriptData as ReadScript, no_identifier, is_command, with_commands, script_in, script_read, script_of}
 use Rattle.script_words.specs.MadeLength.{template_tag}
 use Rattle.script_words.specs.Script.{ScriptData}
 use Rattle.script_words.specs.declared.script.Ordered.{Ordered}
 use Rattle.script_words.specs.declared.script.Word.{Word}
 use Rattle.script_words.specs.declared.script.Word.TheVariants.{Block, Unblock, CardBlock, PinUnblock, Pin, Count, Amount}
-use Rattle.completeness.specs.Told.{moves_on, IsPlain, IsPlainScript}
+use Rattle.terminal_state.specs.Scripts.{with_tag, templates}
 
 -- fields that are spelled are read back
 fields_listed : (fields : List (ℕ × List ℕ)) → are_tags fields ≡ true → items_of (spelled fields) ≡ Ok (placed 0 fields)

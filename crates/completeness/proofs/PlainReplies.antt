@@ -15,9 +15,9 @@ use Rattle.auth_message.specs.declared.fault.MessageFault.{MessageFault}
 use Rattle.ber_tlv.proofs.ReadAgain.{both}
 use Rattle.ber_tlv.specs.Item.{ItemData}
 use Rattle.ber_tlv.specs.Written.{written}
-use Rattle.kernel.specs.Scripts.{templates}
-use Rattle.completeness.specs.Told.{IsPlainScript, IsPlainReply}
 use Rattle.completeness.proofs.MadeScripts.{HoldsPlain, templates_plain}
+use Rattle.completeness.specs.Told.{IsPlainScript, IsPlainReply}
+use Rattle.terminal_state.specs.Scripts.{templates}
 
 -- where the last of some fields ends
 ends_spelled : (fields : List (ℕ × List ℕ)) (front rest bytes : List ℕ) → are_tags fields ≡ true → bytes ≡ front ++ (spelled fields ++ rest)

@@ -3,18 +3,6 @@ use Rattle.std.proofs.Common.{◌≡◌, ℕ, List, [], ◌∷◌, All, slice_ge
 use Rattle.card_cryptogram.specs.declared.phase.Phase.TheVariants.{Started}
 use Rattle.card_files.specs.Kept.{KeepsRules}
 use Rattle.card_files.specs.Views.{AppData}
-use Rattle.cvm_list.specs.Begun.{cvm}
-use Rattle.emv_dict.specs.declared.ending.Step.TheVariants as step
-use Rattle.emv_dict.specs.declared.purchase.Logged.{Logged}
-use Rattle.env_map.specs.Entries.{value_of}
-use Rattle.kernel.specs.Course.{cut_off}
-use Rattle.kernel.specs.Dialogue.{Trade, analysis, risk, verification, restrictions, read}
-use Rattle.kernel.specs.Marks as mark
-use Rattle.kernel.specs.Marks.{Mark}
-use Rattle.object_lists.specs.CardRead.{ReadCard}
-use Rattle.read_records.specs.DataRead.{reading}
-use Rattle.restrictions.specs.Restricted.{restricted}
-use Rattle.risk_mgmt.specs.Risky.{risky}
 use Rattle.completeness.proofs.Answers.{phase_at}
 use Rattle.completeness.proofs.Choices.{all_at}
 use Rattle.completeness.proofs.Ends.{Ends}
@@ -25,6 +13,18 @@ use Rattle.completeness.proofs.Stages.{HasLists, AnalysisEnds, ReadEnds}
 use Rattle.completeness.proofs.Verifying.{verifying_runs}
 use Rattle.completeness.specs.Cards.{Now}
 use Rattle.completeness.specs.WellFormed.{IsWhole, list_total}
+use Rattle.cvm_list.specs.Begun.{cvm}
+use Rattle.emv_dict.specs.declared.ending.Step.TheVariants as step
+use Rattle.emv_dict.specs.declared.purchase.Logged.{Logged}
+use Rattle.env_map.specs.Entries.{value_of}
+use Rattle.kernel.specs.Course.{cut_off}
+use Rattle.kernel.specs.Dialogue.{Trade, analysis, risk, verification, restrictions, read}
+use Rattle.object_lists.specs.CardRead.{ReadCard}
+use Rattle.read_records.specs.DataRead.{reading}
+use Rattle.restrictions.specs.Restricted.{restricted}
+use Rattle.risk_mgmt.specs.Risky.{risky}
+use Rattle.terminal_state.specs.Marks as mark
+use Rattle.terminal_state.specs.Marks.{Mark}
 
 own_lists : (a : AppData) (whole : IsWhole a) (card : ReadCard) → card ≡ whole.reads.card → HasLists a card
 own_lists a whole card same = record {

@@ -1,14 +1,14 @@
 -- A step over the answers of a card comes to what it finds, and the dialogue goes on behind it.
 use Rattle.std.proofs.Common.{◌≡◌, ℕ, List, [], ◌∷◌, ap, sym, ◌∙◌}
 use Rattle.card_files.specs.Views.{AppData}
+use Rattle.completeness.proofs.Ends.{Ends, asks as ends_asks, ends_as}
+use Rattle.completeness.specs.Cards.{Now, says, goes}
 use Rattle.emv_dict.specs.Progress.{Progress, Wants, Done}
 use Rattle.emv_dict.specs.declared.ending.Step.{Step}
 use Rattle.emv_dict.specs.declared.purchase.Logged.{Logged}
 use Rattle.kernel.proofs.Courses.{wants, taken, done as is_done}
 use Rattle.kernel.specs.Course.{Standing, Rest, card_step}
-use Rattle.kernel.specs.Marks.{Mark}
-use Rattle.completeness.specs.Cards.{Now, says, goes}
-use Rattle.completeness.proofs.Ends.{Ends, asks as ends_asks, ends_as}
+use Rattle.terminal_state.specs.Marks.{Mark}
 
 -- whatever the card answers, the step is done, and this holds of the card and of what was found
 pub data Runs (image : List AppData) {A : Type 0} (Post : Now → A → Type 0) : Now → (List (List ℕ) → Progress A) → Type 0 where

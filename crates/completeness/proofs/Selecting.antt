@@ -17,16 +17,6 @@ use Rattle.card_state.specs.Decisions.{Decided}
 use Rattle.card_state.specs.Totals.{totals}
 use Rattle.card_state.specs.declared.state.AppState.{AppState}
 use Rattle.card_state.specs.declared.state.CardState.{CardState}
-use Rattle.emv_dict.specs.Settings.{IsSettings}
-use Rattle.emv_dict.specs.declared.ending.Step.TheVariants as step
-use Rattle.emv_dict.specs.declared.purchase.AidRow.{AidRow}
-use Rattle.emv_dict.specs.declared.purchase.Logged.{Logged}
-use Rattle.env_map.specs.Entries.{Entries}
-use Rattle.kernel.specs.Course.{Rest, cut_off}
-use Rattle.kernel.specs.Dialogue.{candidates_left, dialogue, granted, initiation, opened, read}
-use Rattle.kernel.specs.Marks.{Mark, moment}
-use Rattle.kernel.specs.Terminal.{Deal, terminal_objects}
-use Rattle.read_records.specs.Options.{Opened, initiating}
 use Rattle.completeness.proofs.Answers.{state_at, phase_at}
 use Rattle.completeness.proofs.Choices.{IsOwn, all_at, alone, confirmed}
 use Rattle.completeness.proofs.Ends.{Ends}
@@ -39,6 +29,16 @@ use Rattle.completeness.proofs.Shown.{fci_data}
 use Rattle.completeness.proofs.Stages.{ReadEnds, Initiated, InitiationRuns}
 use Rattle.completeness.specs.Cards.{Now, powered, goes}
 use Rattle.completeness.specs.WellFormed.{HaveProfiles, IsWhole, WellFormed}
+use Rattle.emv_dict.specs.Settings.{IsSettings}
+use Rattle.emv_dict.specs.declared.ending.Step.TheVariants as step
+use Rattle.emv_dict.specs.declared.purchase.AidRow.{AidRow}
+use Rattle.emv_dict.specs.declared.purchase.Logged.{Logged}
+use Rattle.env_map.specs.Entries.{Entries}
+use Rattle.kernel.specs.Course.{Rest, cut_off}
+use Rattle.kernel.specs.Dialogue.{candidates_left, dialogue, granted, initiation, opened, read}
+use Rattle.read_records.specs.Options.{Opened, initiating}
+use Rattle.terminal_state.specs.Marks.{Mark, moment}
+use Rattle.terminal_state.specs.Terminal.{Deal, terminal_objects}
 
 module _ (image : List AppData) (reads : ReadEnds image) (initiates : InitiationRuns image) (deal : Deal) (kept : List Decided) (is_image : IsImage image) (profiles : HaveProfiles image)
     (well : WellFormed image deal kept) where

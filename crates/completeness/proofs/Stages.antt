@@ -1,24 +1,24 @@
 -- What each stage of a dialogue owes, for a card of this image.
 use Rattle.std.proofs.Common.{◌≡◌, ℕ, ◌≤◌, false, List, slice_get, Option, Some, None, length}
-use Rattle.card_cryptogram.specs.declared.phase.Phase.TheVariants.{Selected, Started}
 use Rattle.card_app.specs.OwnLists.{cdol_of}
+use Rattle.card_cryptogram.specs.declared.phase.Phase.TheVariants.{Selected, Started}
 use Rattle.card_files.specs.Kept.{KeepsRules}
 use Rattle.card_files.specs.Views.{AppData}
 use Rattle.card_state.specs.declared.state.AppState.{AppState}
-use Rattle.emv_dict.specs.declared.purchase.AidRow.{AidRow}
-use Rattle.emv_dict.specs.declared.purchase.Logged.{Logged}
-use Rattle.env_map.specs.Entries.{Entries, value_of}
-use Rattle.kernel.specs.Dialogue.{Trade, analysis, read}
-use Rattle.kernel.specs.Marks.{Mark}
-use Rattle.kernel.specs.Terminal.{Deal}
-use Rattle.object_lists.specs.CardRead.{ReadCard}
-use Rattle.object_lists.specs.DolEntries.{total_of}
-use Rattle.read_records.specs.Options.{Opened, initiating}
 use Rattle.completeness.proofs.Answers.{state_at, phase_at}
 use Rattle.completeness.proofs.Ends.{Ends}
 use Rattle.completeness.proofs.Runs.{Runs}
 use Rattle.completeness.specs.Cards.{Now}
 use Rattle.completeness.specs.WellFormed.{IsWhole, list_total}
+use Rattle.emv_dict.specs.declared.purchase.AidRow.{AidRow}
+use Rattle.emv_dict.specs.declared.purchase.Logged.{Logged}
+use Rattle.env_map.specs.Entries.{Entries, value_of}
+use Rattle.kernel.specs.Dialogue.{Trade, analysis, read}
+use Rattle.object_lists.specs.CardRead.{ReadCard}
+use Rattle.object_lists.specs.DolEntries.{total_of}
+use Rattle.read_records.specs.Options.{Opened, initiating}
+use Rattle.terminal_state.specs.Marks.{Mark}
+use Rattle.terminal_state.specs.Terminal.{Deal}
 
 -- the object lists that were read want what the application takes
 pub record HasLists (a : AppData) (card : ReadCard) : Type 0 where

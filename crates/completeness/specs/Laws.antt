@@ -3,6 +3,9 @@ use Rattle.std.specs.Prelude.{◌≡◌, ℕ, List, Some}
 use Rattle.card_files.specs.Kept.{IsImage}
 use Rattle.card_files.specs.Views.{AppData}
 use Rattle.card_state.specs.Decisions.{Decided}
+use Rattle.completeness.specs.Cards.{Now}
+use Rattle.completeness.specs.Told.{Told, IsDecided, IsLinked}
+use Rattle.completeness.specs.WellFormed.{HaveProfiles, WellFormed}
 use Rattle.emv_dict.specs.Settings.{IsSettings}
 use Rattle.emv_dict.specs.declared.ending.Ending.{Ending}
 use Rattle.issuer_host.specs.Account.{AccountData}
@@ -10,10 +13,7 @@ use Rattle.issuer_host.specs.History.{host_reply}
 use Rattle.issuer_host.specs.declared.keys.HostKeys.{HostKeys}
 use Rattle.kernel.specs.Dialogue.{dialogue}
 use Rattle.kernel.specs.Reply.{Reply, Over}
-use Rattle.kernel.specs.Terminal.{Deal}
-use Rattle.completeness.specs.Cards.{Now}
-use Rattle.completeness.specs.Told.{Told, IsDecided, IsLinked}
-use Rattle.completeness.specs.WellFormed.{HaveProfiles, WellFormed}
+use Rattle.terminal_state.specs.Terminal.{Deal}
 
 abbrev pub PurchasesAreDecided : Type 0
 PurchasesAreDecided =

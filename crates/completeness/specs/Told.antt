@@ -7,15 +7,15 @@ use Rattle.auth_message.specs.Reply.{ReplyData, reply_of}
 use Rattle.auth_message.specs.declared.fault.MessageFault.{MessageFault}
 use Rattle.card_files.specs.Views.{AppData}
 use Rattle.card_state.specs.Decisions.{Decided}
+use Rattle.completeness.specs.Cards.{Now, powered, says, goes}
 use Rattle.emv_dict.specs.declared.ending.Ending.{Ending}
 use Rattle.emv_dict.specs.declared.ending.Ending.TheVariants.{Approved, Declined, Terminated, CutOff}
 use Rattle.emv_dict.specs.declared.purchase.Logged.{Logged}
 use Rattle.kernel.specs.Dialogue.{dialogue}
 use Rattle.kernel.specs.Reply.{Reply, CardSaid, from_host, ToCard, ToHost}
-use Rattle.kernel.specs.Scripts.{templates}
-use Rattle.kernel.specs.Terminal.{Deal}
 use Rattle.script_run.specs.Script.{script_of}
-use Rattle.completeness.specs.Cards.{Now, powered, says, goes}
+use Rattle.terminal_state.specs.Scripts.{templates}
+use Rattle.terminal_state.specs.Terminal.{Deal}
 
 -- SELECT, GET PROCESSING OPTIONS and GENERATE AC move a transaction on (EMV 4.3 Book 3 section 6.5)
 abbrev pub moves_on : ℕ → Bool

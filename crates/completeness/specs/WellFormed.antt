@@ -14,13 +14,13 @@ use Rattle.card_state.specs.declared.state.AppState.{AppState}
 use Rattle.card_state.specs.declared.state.CardState.{CardState}
 use Rattle.emv_dict.specs.declared.purchase.AidRow.{AidRow}
 use Rattle.env_map.specs.Entries.{value_of}
-use Rattle.kernel.specs.Terminal.{Deal}
 use Rattle.object_lists.specs.CardRead.{ReadCard}
 use Rattle.object_lists.specs.DolEntries.{DolEntry, dol_of, total_of}
 use Rattle.object_lists.specs.declared.dol.DolFault.{DolFault}
 use Rattle.read_records.specs.Afl.{RecordPlace}
 use Rattle.read_records.specs.DataRead.{card_read}
 use Rattle.read_records.specs.Options.{Opened, opened}
+use Rattle.terminal_state.specs.Terminal.{Deal}
 
 -- no application's name begins another's
 abbrev pub AreApart : List AppData → Type 0

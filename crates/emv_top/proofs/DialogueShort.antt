@@ -20,11 +20,7 @@ use Rattle.emv_top.proofs.RecordsShort.{BeginsShort, reading_short, initiating_s
 use Rattle.emv_top.specs.Short.{AllShort, IsShort}
 use Rattle.kernel.specs.Course.{Standing, Rest, stands, by_progress, settled, card_step, cut_off, host_step}
 use Rattle.kernel.specs.Dialogue.{Trade, objects_at, decision, all_failed, left_script, scripts_behind, second, kind_for, scripts_before, issuer_scripts, has_authentication, authentication_by, authentication, kind_unable, unable_online, reply_read, replied, is_offline_only, online, first_answered, first, kind_wanted, analysis, risk, verification, restrictions, read, granted, initiation, opened, candidates_left, dialogue}
-use Rattle.kernel.specs.Marks as mark
-use Rattle.kernel.specs.Marks.{Mark, moment, latest, card_of, or_earlier}
 use Rattle.kernel.specs.Reply.{Reply, CardSaid, CardGone, HostSaid, HostSilent, ToCard, Over}
-use Rattle.kernel.specs.Scripts.{templates, kept}
-use Rattle.kernel.specs.Terminal.{Deal, terminal_objects}
 use Rattle.online_step.specs.Authenticate.{authenticated}
 use Rattle.online_step.specs.Generate.{generated, list_data}
 use Rattle.online_step.specs.Request.{request_of}
@@ -33,6 +29,10 @@ use Rattle.read_records.specs.Options.{Opened, initiating}
 use Rattle.restrictions.specs.Restricted.{restricted}
 use Rattle.risk_mgmt.specs.Risky.{risky}
 use Rattle.script_run.specs.Ran.{template_ran, no_script}
+use Rattle.terminal_state.specs.Marks as mark
+use Rattle.terminal_state.specs.Marks.{Mark, moment, latest, card_of, or_earlier}
+use Rattle.terminal_state.specs.Scripts.{templates, kept}
+use Rattle.terminal_state.specs.Terminal.{Deal, terminal_objects}
 
 abbrev pub IsShortMark : Mark → Type 0
 IsShortMark (mark.HasRead card) = IsShort card

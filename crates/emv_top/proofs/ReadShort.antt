@@ -7,14 +7,16 @@ use Rattle.card_pages.specs.Cuts.{Cut, cut_of}
 use Rattle.card_pages.specs.Pages.{found_of}
 use Rattle.card_pages.specs.Replies.{CardAnswer}
 use Rattle.emv_ports.specs.Cut.{is_named}
-use Rattle.emv_top.specs.Short.{IsShort}
 use Rattle.emv_top.proofs.DialogueShort.{latest_short, dialogue_short}
+use Rattle.emv_top.specs.Short.{IsShort}
 use Rattle.kernel.specs.Dialogue.{dialogue}
 use Rattle.kernel.specs.Ended.{EndData, end_by, end_with}
-use Rattle.kernel.specs.Marks.{moment, latest, card_of}
 use Rattle.kernel.specs.Reply.{Reply, CardSaid, CardGone, Deed, ToCard, ToHost, Over}
 use Rattle.report_text.specs.declared.line.Line.{Line}
 use Rattle.scenario.specs.Plan.{ScenarioData}
+use Rattle.terminal_state.specs.Marks.{moment, latest, card_of}
+use Rattle.txn_replay.proofs.Lists.{at_set, get_or-map_const}
+use Rattle.txn_replay.proofs.Moves.{this_one}
 use Rattle.txn_replay.specs.Changes.{powered, exchanged, told_once, torn, lost}
 use Rattle.txn_replay.specs.Lines.{answer_lines, torn_lines, gone_lines, power_torn_line}
 use Rattle.txn_replay.specs.Part.{Part, lane_ended, settled_by, cut_ends, answered, canned_by, asked_by, asked, begun, begun_by, begun_with, piece_by, piece}
@@ -22,8 +24,6 @@ use Rattle.txn_replay.specs.Payment.{Payment, deal_for, end_at, next_of}
 use Rattle.txn_replay.specs.Reading.{ReadReached, start, turned, data_at, data_by, last_past, past_card}
 use Rattle.txn_replay.specs.Steps.{part_of, turned_by, first_of}
 use Rattle.txn_replay.specs.World.{Holder, Past, CardRow, LaneRow, World, new_lane, lane_at}
-use Rattle.txn_replay.proofs.Lists.{at_set, get_or-map_const}
-use Rattle.txn_replay.proofs.Moves.{this_one}
 
 abbrev pub IsShortPast : Past → Type 0
 IsShortPast past = IfSome past.end.card IsShort

@@ -5,16 +5,16 @@ use Rattle.emv_dict.specs.declared.ending.Ending.TheVariants.{Terminated}
 use Rattle.emv_dict.specs.declared.ending.Kind.{Kind}
 use Rattle.emv_dict.specs.declared.ending.Step.TheVariants as step
 use Rattle.emv_dict.specs.declared.purchase.Logged.{Logged}
-use Rattle.restrictions.specs.Restricted.{restricted}
-use Rattle.online_step.specs.Generate.{list_data, generated}
+use Rattle.kernel.proofs.Following.{trading_stopped}
 use Rattle.kernel.specs.Course.{Standing}
 use Rattle.kernel.specs.Dialogue.{Trade, restrictions, verification, analysis, first, first_answered, kind_wanted, objects_at}
-use Rattle.kernel.specs.Marks.{Mark, HasRead, HasRestricted, HasAnalysed, HasFirst, moment}
 use Rattle.kernel.specs.Reply.{Reply}
 use Rattle.kernel.specs.Stages.{TradingStands, Begins}
 use Rattle.kernel.specs.declared.stage.Trading.TheVariants as trading
-use Rattle.kernel.specs.declared.table.Table.{Table}
-use Rattle.kernel.proofs.Following.{trading_stopped}
+use Rattle.online_step.specs.Generate.{list_data, generated}
+use Rattle.restrictions.specs.Restricted.{restricted}
+use Rattle.terminal_state.specs.Marks.{Mark, HasRead, HasRestricted, HasAnalysed, HasFirst, moment}
+use Rattle.terminal_state.specs.declared.table.Table.{Table}
 
 pub analysed : (trade : Trade) → (marks : List Mark) → (asked : Kind) → (log : List Logged) → (rest : List Reply → Standing Mark) → (t t2 : Table) → Begins t trade.card marks rest (analysis trade marks log) → asked ≡ kind_wanted trade marks → t2.moment ≡ moment (HasAnalysed asked ∷ marks) → Begins t2 trade.card (HasAnalysed asked ∷ marks) rest (first trade asked (HasAnalysed asked ∷ marks) log)
 unfolding analysis

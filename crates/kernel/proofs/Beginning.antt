@@ -1,19 +1,19 @@
 -- Where a kernel begins.
 use Rattle.std.proofs.Common.{◌≡◌, ◌≤◌, ◌+◌, ◌*◌, refl, ap, [], length, arith, Option, None}
-use Rattle.object_lists.specs.CardRead.{ReadCard}
 use Rattle.env_map.specs.Entries.{Entries}
-use Rattle.read_records.specs.Afl.{most_records}
 use Rattle.kernel.specs.BeginEnd.{HasBegun}
 use Rattle.kernel.specs.Dialogue.{dialogue}
 use Rattle.kernel.specs.Kernel.{opening_next}
 use Rattle.kernel.specs.Rank.{opening_rank, rank_behind}
 use Rattle.kernel.specs.Stages.{OpeningStands}
-use Rattle.kernel.specs.Table.{deal_of}
-use Rattle.kernel.specs.Terminal.{Deal}
 use Rattle.kernel.specs.declared.kernel.Next.TheVariants as next
 use Rattle.kernel.specs.declared.stage.Opening.{Opening}
 use Rattle.kernel.specs.declared.stage.Stage.TheVariants as stage
-use Rattle.kernel.specs.declared.table.Table.{Table}
+use Rattle.object_lists.specs.CardRead.{ReadCard}
+use Rattle.read_records.specs.Afl.{most_records}
+use Rattle.terminal_state.specs.Table.{deal_of}
+use Rattle.terminal_state.specs.Terminal.{Deal}
+use Rattle.terminal_state.specs.declared.table.Table.{Table}
 
 pub has_begun : (deal : Deal) (t : Table) (objects : Entries) (held : Option ReadCard) (s : Opening) → held ≡ None → deal_of t ≡ deal → objects ≡ []
     → OpeningStands t [] s [] (dialogue (deal_of t)) → opening_next s ≡ next.ToCard

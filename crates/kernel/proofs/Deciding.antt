@@ -13,15 +13,15 @@ use Rattle.kernel.proofs.Courses.{same}
 use Rattle.kernel.proofs.Following.{trading_stopped}
 use Rattle.kernel.specs.Course.{Standing, over, host_step, cut_off}
 use Rattle.kernel.specs.Dialogue.{Trade, first_answered, online, is_offline_only, replied, unable_online, kind_unable, second, scripts_behind, decision, objects_at}
-use Rattle.kernel.specs.Marks.{Mark, HasFirst, HasSecond, WasUnable, moment, latest, card_of}
 use Rattle.kernel.specs.Reply.{Reply}
 use Rattle.kernel.specs.Stages.{TradingStands, Begins, generating, behind_if}
 use Rattle.kernel.specs.declared.stage.AtSecond.{AtSecond}
 use Rattle.kernel.specs.declared.stage.Trading.TheVariants as trading
-use Rattle.kernel.specs.declared.table.Table.{Table}
 use Rattle.online_step.specs.Ac.{ac_of}
 use Rattle.online_step.specs.Generate.{list_data, generated, generate_command, after_ac}
 use Rattle.online_step.specs.Request.{request_of}
+use Rattle.terminal_state.specs.Marks.{Mark, HasFirst, HasSecond, WasUnable, moment, latest, card_of}
+use Rattle.terminal_state.specs.declared.table.Table.{Table}
 
 -- the dialogue is over
 pub stands_over : (t : Table) → (trade : Trade) → (marks : List Mark) → (log : List Logged) → (rest : List Reply → Standing Mark) → (ending : Ending) → ((later : List Reply) → rest later ≡ over marks ending log later) → t.moment ≡ moment marks → latest card_of None marks ≡ Some trade.card → TradingStands t trade (trading.Over ending) log rest

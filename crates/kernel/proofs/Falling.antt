@@ -7,20 +7,20 @@ use Rattle.app_select.specs.NextLeads.{SearchNextLeads, answers_left_next}
 use Rattle.app_select.specs.Selecting.{SelectedData, opening}
 use Rattle.app_select.specs.declared.search.SearchNext.{SearchNext}
 use Rattle.app_select.specs.declared.search.SearchNext.TheVariants as search
+use Rattle.ber_tlv.proofs.ItemBounds.{item_at-lies, lies-length}
+use Rattle.ber_tlv.proofs.Reading.{reads_list}
 use Rattle.ber_tlv.specs.Item.{ItemData}
 use Rattle.ber_tlv.specs.Items.{Items}
 use Rattle.ber_tlv.specs.Left.{items_of}
 use Rattle.ber_tlv.specs.declared.item.TlvFault.{TlvFault}
-use Rattle.ber_tlv.proofs.ItemBounds.{item_at-lies, lies-length}
-use Rattle.ber_tlv.proofs.Reading.{reads_list}
 use Rattle.emv_dict.specs.Progress.{Done}
 use Rattle.kernel.specs.Kernel.{opening_next}
 use Rattle.kernel.specs.Rank.{bytes_in, search_rank, opening_rank}
-use Rattle.kernel.specs.Scripts.{templates, with_tag}
 use Rattle.kernel.specs.declared.kernel.Next.TheVariants as next
 use Rattle.kernel.specs.declared.stage.Opening.{Opening}
 use Rattle.kernel.specs.declared.stage.Opening.TheVariants as at
-use Rattle.kernel.specs.declared.table.Table.{Table}
+use Rattle.terminal_state.specs.Scripts.{templates, with_tag}
+use Rattle.terminal_state.specs.declared.table.Table.{Table}
 
 -- the bytes of all objects: those of each value, and one for its tag
 abbrev all_bytes : List ItemData → ℕ

@@ -8,26 +8,25 @@ use Rattle.emv_dict.specs.declared.ending.Ending.{Ending}
 use Rattle.emv_dict.specs.declared.ending.Ending.TheVariants.{Approved, Declined, Terminated, CutOff}
 use Rattle.emv_dict.specs.declared.purchase.Logged.{Logged}
 use Rattle.env_map.specs.Entries.{Entries}
-use Rattle.object_lists.specs.CardRead.{ReadCard}
-use Rattle.object_lists.specs.CardRead.{ReadCard}
+use Rattle.kernel.proofs.Showing.{opening_deed, trading_deed, opening_shows, trading_shows}
 use Rattle.kernel.specs.Course.{Standing, stands}
 use Rattle.kernel.specs.Dialogue.{Trade, dialogue}
 use Rattle.kernel.specs.Ended.{EndData, capture, presentment, reversal, end_with, end_of}
 use Rattle.kernel.specs.Kernel.{KernelData, KernelFits, StageFits, KernelStands, StageGoes, deal_in}
-use Rattle.kernel.specs.Marks.{Mark, MomentData, moment, latest, card_of}
 use Rattle.kernel.specs.Reply.{Reply, Deed, Over}
-use Rattle.kernel.specs.Stages.{OpeningStands, TradingStands}
 use Rattle.kernel.specs.Shown.{opening_over, trading_over, stage_over}
+use Rattle.kernel.specs.Stages.{OpeningStands, TradingStands}
 use Rattle.kernel.specs.Tally.{Counts, plus, raised}
-use Rattle.kernel.specs.Terminal.{Deal}
 use Rattle.kernel.specs.declared.stage.Opening.{Opening}
 use Rattle.kernel.specs.declared.stage.Opening.TheVariants as opening
 use Rattle.kernel.specs.declared.stage.Stage.{Stage}
 use Rattle.kernel.specs.declared.stage.Stage.TheVariants as stage
 use Rattle.kernel.specs.declared.stage.Trading.{Trading}
 use Rattle.kernel.specs.declared.stage.Trading.TheVariants as trading
-use Rattle.kernel.specs.declared.table.Table.{Table}
-use Rattle.kernel.proofs.Showing.{opening_deed, trading_deed, opening_shows, trading_shows}
+use Rattle.object_lists.specs.CardRead.{ReadCard}
+use Rattle.terminal_state.specs.Marks.{Mark, MomentData, moment, latest, card_of}
+use Rattle.terminal_state.specs.Terminal.{Deal}
+use Rattle.terminal_state.specs.declared.table.Table.{Table}
 
 -- a stage that is over does nothing else
 opening_ends : (t : Table) → (s : Opening) → (ending : Ending) → opening_over s ≡ Some ending → opening_deed t s ≡ Over ending

@@ -5,15 +5,15 @@ use Rattle.emv_dict.specs.declared.ending.Cause.{Cause}
 use Rattle.emv_dict.specs.declared.ending.Ending.TheVariants.{Terminated}
 use Rattle.emv_dict.specs.declared.ending.Step.{Step}
 use Rattle.emv_dict.specs.declared.purchase.Logged.{Logged}
-use Rattle.object_lists.specs.CardRead.{ReadCard}
+use Rattle.kernel.proofs.Courses.{done, stopped}
 use Rattle.kernel.specs.Course.{Standing, Rest, card_step, cut_off}
 use Rattle.kernel.specs.Dialogue.{Trade}
-use Rattle.kernel.specs.Marks.{Mark, moment, latest, card_of}
 use Rattle.kernel.specs.Reply.{Reply}
 use Rattle.kernel.specs.Stages.{TradingStands, Begins}
 use Rattle.kernel.specs.declared.stage.Trading.TheVariants as trading
-use Rattle.kernel.specs.declared.table.Table.{Table}
-use Rattle.kernel.proofs.Courses.{done, stopped}
+use Rattle.object_lists.specs.CardRead.{ReadCard}
+use Rattle.terminal_state.specs.Marks.{Mark, moment, latest, card_of}
+use Rattle.terminal_state.specs.declared.table.Table.{Table}
 
 -- the step is over for a cause
 pub trading_stopped : {A : Type 0} → (t t2 : Table) → (trade : Trade) → (step : Step) → (marks : List Mark) → (log : List Logged) → (course : List (List ℕ) → Progress A) → (next : A → Rest Mark) → (cause : Cause) → (rest : List Reply → Standing Mark) → t2.moment ≡ t.moment → Begins t trade.card marks rest (card_step (cut_off marks) step step marks course next log) → ((later : List (List ℕ)) → course later ≡ Stopped cause) → TradingStands t2 trade (trading.Over (Terminated step cause)) log rest

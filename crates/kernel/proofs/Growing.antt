@@ -18,13 +18,13 @@ use Rattle.emv_dict.specs.declared.purchase.Logged.{Logged}
 use Rattle.kernel.specs.Course.{Standing, Rest, stands, over, by_progress, settled, card_step, cut_off, host_step}
 use Rattle.kernel.specs.Dialogue.{Trade, all_failed, left_script, scripts_behind, second, scripts_before, authentication, authentication_by, has_authentication, unable_online, kind_unable, reply_read, replied, is_offline_only, first_answered, first, analysis, risk, verification, restrictions, read, granted, initiation, opened, candidates_left, dialogue, decision, kind_for, kind_wanted}
 use Rattle.kernel.specs.Laws.{deeds, deeds_behind}
-use Rattle.kernel.specs.Marks.{Mark, HasRead, HasRestricted, HasVerified, HasJudged, HasAnalysed, HasFirst, HasReply, WasUnable, HasAuthenticated, HasRunBefore, HasSecond, HasRunBehind}
 use Rattle.kernel.specs.Reply.{Reply, CardSaid, CardGone, HostSaid, HostSilent, Deed, Over}
-use Rattle.kernel.specs.Scripts.{templates, kept}
-use Rattle.kernel.specs.Terminal.{Deal}
 use Rattle.online_step.specs.Authenticate.{authenticated}
 use Rattle.read_records.specs.Options.{Opened}
 use Rattle.script_run.specs.Ran.{template_ran, no_script}
+use Rattle.terminal_state.specs.Marks.{Mark, HasRead, HasRestricted, HasVerified, HasJudged, HasAnalysed, HasFirst, HasReply, WasUnable, HasAuthenticated, HasRunBefore, HasSecond, HasRunBehind}
+use Rattle.terminal_state.specs.Scripts.{templates, kept}
+use Rattle.terminal_state.specs.Terminal.{Deal}
 
 -- these steps, and others behind them
 abbrev Behind : List Mark → List Mark → Type 0

@@ -12,13 +12,13 @@ use Rattle.kernel.proofs.Courses.{same, gone}
 use Rattle.kernel.proofs.Deciding.{stands_over}
 use Rattle.kernel.specs.Course.{Standing, Rest, card_step, cut_off, host_step}
 use Rattle.kernel.specs.Dialogue.{Trade, authentication, authentication_by, has_authentication, issuer_scripts, replied, reply_read, unable_online, scripts_behind, decision, left_script, all_failed}
-use Rattle.kernel.specs.Marks.{Mark, HasReply, HasSecond, HasAuthenticated, HasRunBehind, moment, latest, card_of}
 use Rattle.kernel.specs.Reply.{Reply, CardGone, HostSaid, HostSilent}
-use Rattle.kernel.specs.Scripts.{kept}
 use Rattle.kernel.specs.Stages.{TradingStands, Begins, authenticating, behind_if}
 use Rattle.kernel.specs.declared.stage.Trading.TheVariants as trading
-use Rattle.kernel.specs.declared.table.Table.{Table}
 use Rattle.online_step.specs.Authenticate.{authenticate_command, authenticated, verdict_of, after_verdict}
+use Rattle.terminal_state.specs.Marks.{Mark, HasReply, HasSecond, HasAuthenticated, HasRunBehind, moment, latest, card_of}
+use Rattle.terminal_state.specs.Scripts.{kept}
+use Rattle.terminal_state.specs.declared.table.Table.{Table}
 
 -- the host doesn't reply
 pub silent : (t : Table) → (trade : Trade) → (marks : List Mark) → (message : List ℕ) → (log : List Logged) → (rest : List Reply → Standing Mark) → ((later : List Reply) → rest later ≡ host_step marks message (replied trade marks) log later) → t.moment ≡ moment marks → latest card_of None marks ≡ Some trade.card → Begins t trade.card marks (λ later. rest (HostSilent ∷ later)) (unable_online trade true marks log)

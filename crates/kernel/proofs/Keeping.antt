@@ -8,13 +8,13 @@ use Rattle.auth_message.specs.Fields.{◌>>=◌, given, behind, if_there, fixed_
 use Rattle.auth_message.specs.Outer.{outer_of}
 use Rattle.auth_message.specs.Reply.{ReplyData, auth_at, templates as next_templates, behind_templates, bytes_of, scripts_at, reply_at, reply_of, are_few as few_templates}
 use Rattle.auth_message.specs.declared.fault.MessageFault.{MessageFault}
+use Rattle.ber_tlv.proofs.ReadAgain.{both}
+use Rattle.ber_tlv.proofs.Reading.{left-end, no_zeros}
 use Rattle.ber_tlv.specs.Item.{ItemData}
 use Rattle.ber_tlv.specs.Left.{items_of}
 use Rattle.ber_tlv.specs.declared.item.TlvFault.{TlvFault}
-use Rattle.ber_tlv.proofs.ReadAgain.{both}
-use Rattle.ber_tlv.proofs.Reading.{left-end, no_zeros}
-use Rattle.kernel.specs.Scripts.{with_tag, templates, AreFew, are_few}
 use Rattle.kernel.specs.Sound.{IsIssuerData, IsSound}
+use Rattle.terminal_state.specs.Scripts.{with_tag, templates, AreFew, are_few}
 
 pub none_few : AreFew []
 none_few = record { items = []; listed = left-end [] 0 (no_zeros [] 0 (omega arith)); few = omega arith }

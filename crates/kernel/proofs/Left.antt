@@ -7,12 +7,12 @@ use Rattle.emv_dict.specs.Progress.{Stopped, Done}
 use Rattle.emv_dict.specs.declared.ending.Cause.TheVariants.{Answer}
 use Rattle.emv_dict.specs.declared.ending.Step.TheVariants as step
 use Rattle.emv_dict.specs.declared.purchase.Logged.{Logged}
+use Rattle.kernel.proofs.Courses.{done, stopped}
 use Rattle.kernel.specs.Course.{Rest, card_step, cut_off}
 use Rattle.kernel.specs.Dialogue.{initiation, opened, candidates_left}
-use Rattle.kernel.specs.Marks.{Mark}
 use Rattle.kernel.specs.Reply.{Reply, CardSaid, CardGone, HostSaid, HostSilent}
-use Rattle.kernel.specs.Terminal.{Deal}
-use Rattle.kernel.proofs.Courses.{done, stopped}
+use Rattle.terminal_state.specs.Marks.{Mark}
+use Rattle.terminal_state.specs.Terminal.{Deal}
 
 -- what follows the application that is selected
 abbrev pub behind : Deal → SelectedData → Rest Mark

@@ -1,7 +1,6 @@
 pub mod Beginning
 pub mod Courses
 pub mod Left
-pub mod Putting
 pub mod Following
 pub mod Analysis
 pub mod Taking

@@ -1,5 +1,6 @@
 -- How the steps before the card is read follow one another.
 use Rattle.std.proofs.Common.{◌≡◌, refl, ◌∙◌, ℕ, List, [], ◌∷◌, ◌++◌}
+use Rattle.std.specs.declared.option.Option.{Option}
 use Rattle.app_select.specs.Candidates.{CandidateData}
 use Rattle.app_select.specs.NextLeads.{SearchNextLeads}
 use Rattle.app_select.specs.Selecting.{SelectedData}
@@ -11,6 +12,9 @@ use Rattle.emv_dict.specs.declared.ending.Ending.TheVariants.{Terminated, CutOff
 use Rattle.emv_dict.specs.declared.ending.Step.{Step}
 use Rattle.emv_dict.specs.declared.purchase.Logged.{Logged}
 use Rattle.env_map.specs.Entries.{Entries}
+use Rattle.kernel.proofs.Courses.{same, done, stopped, gone, taken}
+use Rattle.kernel.specs.Course.{Standing, Rest, over, card_step, cut_off}
+use Rattle.kernel.specs.Reply.{Reply, CardSaid, CardGone}
 use Rattle.object_lists.specs.CardRead.{ReadCard}
 use Rattle.read_records.specs.Leading.{OptionsNextLeads, CourseNextLeads}
 use Rattle.read_records.specs.Options.{Opened}
@@ -18,11 +22,7 @@ use Rattle.read_records.specs.declared.initiating.OptionsNext.{OptionsNext}
 use Rattle.read_records.specs.declared.initiating.OptionsNext.TheVariants as options
 use Rattle.read_records.specs.declared.reading.CourseNext.{CourseNext}
 use Rattle.read_records.specs.declared.reading.CourseNext.TheVariants as course
-use Rattle.std.specs.declared.option.Option.{Option}
-use Rattle.kernel.specs.Course.{Standing, Rest, over, card_step, cut_off}
-use Rattle.kernel.specs.Marks.{Mark}
-use Rattle.kernel.specs.Reply.{Reply, CardSaid, CardGone}
-use Rattle.kernel.proofs.Courses.{same, done, stopped, gone, taken}
+use Rattle.terminal_state.specs.Marks.{Mark}
 
 module _ {A : Type 0} (cut step : Step) (course : List (List ℕ) → Progress A) (next : A → Rest Mark) (log : List Logged) (rest : List Reply → Standing Mark)
     (passed : (later : List Reply) → rest later ≡ card_step (cut_off []) cut step [] course next log later) where

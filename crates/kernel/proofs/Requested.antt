@@ -9,8 +9,8 @@ use Rattle.emv_dict.specs.Settings.{IsPurchase}
 use Rattle.emv_dict.specs.declared.purchase.AidRow.{AidRow}
 use Rattle.online_step.proofs.Digits.{code_digits, date_digits}
 use Rattle.online_step.specs.TerminalData.{HasTerminalData}
-use Rattle.kernel.specs.Marks.{MomentData}
-use Rattle.kernel.specs.Terminal.{Deal, if_there, lasting_objects, terminal_objects}
+use Rattle.terminal_state.specs.Marks.{MomentData}
+use Rattle.terminal_state.specs.Terminal.{Deal, if_there, lasting_objects, terminal_objects}
 
 pub two_digits-good : (n : ℕ) → n < 100 → has_digits (two_digits n) ≡ true
 two_digits-good n small =

@@ -4,31 +4,31 @@ use Rattle.std.specs.Prelude.{IfSome, cond, not}
 use Rattle.std.proofs.lemmas.List.{length-map}
 use Rattle.std.proofs.lemmas.List.Filters.{length-filter_both}
 use Rattle.std.specs.List.{AllByRecursion}
+use Rattle.auth_message.specs.Reply.{ReplyData}
+use Rattle.ber_tlv.proofs.WalkBounds.{ItemsShort, item_values_short}
 use Rattle.ber_tlv.specs.Item.{ItemData}
 use Rattle.ber_tlv.specs.Left.{items_of}
 use Rattle.ber_tlv.specs.declared.item.TlvFault.{TlvFault}
-use Rattle.ber_tlv.proofs.WalkBounds.{ItemsShort, item_values_short}
 use Rattle.emv_dict.specs.Progress.{Progress, Wants, Done}
 use Rattle.emv_dict.specs.declared.ending.Ending.{Ending}
 use Rattle.emv_dict.specs.declared.ending.Kind.{Kind}
 use Rattle.emv_dict.specs.declared.ending.Step.{Step}
 use Rattle.emv_dict.specs.declared.ending.Step.TheVariants as step
 use Rattle.emv_dict.specs.declared.purchase.Logged.{Logged}
-use Rattle.auth_message.specs.Reply.{ReplyData}
+use Rattle.kernel.proofs.Courses.{done, taken}
+use Rattle.kernel.specs.Course.{Standing, Rest, card_step, cut_off}
+use Rattle.kernel.specs.Dialogue.{Trade, scripts_before, scripts_behind, left_script, second, kind_for}
+use Rattle.kernel.specs.Reply.{Reply, CardSaid}
+use Rattle.kernel.specs.Stages.{TradingStands, Begins}
+use Rattle.kernel.specs.declared.stage.Trading.TheVariants as trading
 use Rattle.object_lists.specs.CardRead.{ReadCard}
 use Rattle.script_run.specs.Leading.{RunNextLeads}
 use Rattle.script_run.specs.Ran.{template_ran}
 use Rattle.script_run.specs.declared.running.RunNext.{RunNext}
 use Rattle.script_run.specs.declared.running.RunNext.TheVariants as run
-use Rattle.kernel.specs.Course.{Standing, Rest, card_step, cut_off}
-use Rattle.kernel.specs.Dialogue.{Trade, scripts_before, scripts_behind, left_script, second, kind_for}
-use Rattle.kernel.specs.Marks.{Mark, HasRunBefore, HasRunBehind, moment, latest, card_of}
-use Rattle.kernel.specs.Reply.{Reply, CardSaid}
-use Rattle.kernel.specs.Scripts.{with_tag, templates, AreFew}
-use Rattle.kernel.specs.Stages.{TradingStands, Begins}
-use Rattle.kernel.specs.declared.stage.Trading.TheVariants as trading
-use Rattle.kernel.specs.declared.table.Table.{Table}
-use Rattle.kernel.proofs.Courses.{done, taken}
+use Rattle.terminal_state.specs.Marks.{Mark, HasRunBefore, HasRunBehind, moment, latest, card_of}
+use Rattle.terminal_state.specs.Scripts.{with_tag, templates, AreFew}
+use Rattle.terminal_state.specs.declared.table.Table.{Table}
 
 pub drop_some : {A : Type 0} (xs : List A) (n : ℕ) (x : A) → slice_get xs n ≡ Some x → drop n xs ≡ x ∷ drop (n + 1) xs
 drop_some [] n x is = cc

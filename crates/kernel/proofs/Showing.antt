@@ -6,16 +6,11 @@ use Rattle.cvm_list.specs.Waiting.{rest_of as verifying_rest}
 use Rattle.emv_dict.specs.declared.ending.Step.TheVariants as step
 use Rattle.emv_dict.specs.declared.purchase.Logged.{Logged}
 use Rattle.env_map.specs.Entries.{Entries}
-use Rattle.read_records.specs.DataRead.{reading}
-use Rattle.read_records.specs.Options.{initiated}
-use Rattle.risk_mgmt.specs.Asked.{rest_of as judging_rest}
-use Rattle.script_run.specs.Ran.{rest_of as running_rest}
+use Rattle.kernel.proofs.Courses.{wants}
 use Rattle.kernel.specs.Course.{Standing, stands, cut_off, host_step}
 use Rattle.kernel.specs.Dialogue.{Trade, dialogue, left_script}
 use Rattle.kernel.specs.Kernel.{KernelData, KernelFits, StageFits, KernelStands, StageGoes, deal_in, next_of, stage_next, opening_next, trading_next, told_next, told_bytes, deed_next, deed_bytes, bytes_by}
-use Rattle.kernel.specs.Marks.{Mark, latest, card_of}
 use Rattle.kernel.specs.Reply.{Reply, Deed, ToCard, ToHost, Over}
-use Rattle.kernel.specs.Scripts.{templates}
 use Rattle.kernel.specs.Stages.{OpeningStands, TradingStands, cut_of, generating, authenticating}
 use Rattle.kernel.specs.declared.stage.Opening.{Opening}
 use Rattle.kernel.specs.declared.stage.Opening.TheVariants as opening
@@ -23,8 +18,13 @@ use Rattle.kernel.specs.declared.stage.Stage.{Stage}
 use Rattle.kernel.specs.declared.stage.Stage.TheVariants as stage
 use Rattle.kernel.specs.declared.stage.Trading.{Trading}
 use Rattle.kernel.specs.declared.stage.Trading.TheVariants as trading
-use Rattle.kernel.specs.declared.table.Table.{Table}
-use Rattle.kernel.proofs.Courses.{wants}
+use Rattle.read_records.specs.DataRead.{reading}
+use Rattle.read_records.specs.Options.{initiated}
+use Rattle.risk_mgmt.specs.Asked.{rest_of as judging_rest}
+use Rattle.script_run.specs.Ran.{rest_of as running_rest}
+use Rattle.terminal_state.specs.Marks.{Mark, latest, card_of}
+use Rattle.terminal_state.specs.Scripts.{templates}
+use Rattle.terminal_state.specs.declared.table.Table.{Table}
 
 -- what a stage does next
 abbrev pub opening_deed : Table → Opening → Deed

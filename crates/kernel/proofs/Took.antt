@@ -1,19 +1,19 @@
 -- A kernel that has taken one reply more.
 use Rattle.std.proofs.Common.{◌≡◌, ap, ◌∙◌, ◌+◌, ◌-◌, ◌^◌, min, ℕ, List, [], ◌∷◌, ◌++◌, length, arith}
 use Rattle.std.proofs.lemmas.List.{append_assoc, length-append}
+use Rattle.std.specs.declared.option.Option.{Option}
 use Rattle.emv_dict.specs.declared.purchase.Logged.{Logged}
 use Rattle.env_map.specs.Entries.{Entries}
-use Rattle.object_lists.specs.CardRead.{ReadCard}
-use Rattle.std.specs.declared.option.Option.{Option}
 use Rattle.kernel.specs.Course.{Standing}
 use Rattle.kernel.specs.Dialogue.{dialogue}
 use Rattle.kernel.specs.Kernel.{KernelData, KernelStands, StageGoes, deal_in}
-use Rattle.kernel.specs.Marks.{Mark}
 use Rattle.kernel.specs.Reply.{Reply}
-use Rattle.kernel.specs.Terminal.{Deal}
 use Rattle.kernel.specs.declared.stage.Stage.{Stage}
 use Rattle.kernel.specs.declared.stage.Stage.TheVariants as stage
-use Rattle.kernel.specs.declared.table.Table.{Table}
+use Rattle.object_lists.specs.CardRead.{ReadCard}
+use Rattle.terminal_state.specs.Marks.{Mark}
+use Rattle.terminal_state.specs.Terminal.{Deal}
+use Rattle.terminal_state.specs.declared.table.Table.{Table}
 
 -- what is left of a dialogue is known by what it makes of all replies
 goes_alike : (t : Table) → (objects : Entries) → (held : Option ReadCard) → (s : Stage) → (log : List Logged) → (rest other : List Reply → Standing Mark) → ((later : List Reply) → other later ≡ rest later) → StageGoes t objects held s log rest → StageGoes t objects held s log other

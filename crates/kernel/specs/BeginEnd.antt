@@ -1,15 +1,15 @@
 -- Where a kernel's dialogue begins, and where it ends.
 use Rattle.std.specs.Prelude.{◌≡◌, ◌≤◌, ◌+◌, List, [], ◌++◌, length, None, Some, option_map}
-use Rattle.kernel.specs.Dialogue.{dialogue}
 use Rattle.emv_dict.specs.declared.ending.Ending.{Ending}
+use Rattle.kernel.specs.Dialogue.{dialogue}
 use Rattle.kernel.specs.Ended.{EndData, capture, end_of}
 use Rattle.kernel.specs.Kernel.{KernelData, KernelStands, deal_in, next_of}
 use Rattle.kernel.specs.Rank.{rank_of}
 use Rattle.kernel.specs.Reply.{Reply}
 use Rattle.kernel.specs.Shown.{EndShown, shown}
 use Rattle.kernel.specs.Tally.{Counts, raised}
-use Rattle.kernel.specs.Terminal.{Deal}
 use Rattle.kernel.specs.declared.kernel.Next.TheVariants as next
+use Rattle.terminal_state.specs.Terminal.{Deal}
 
 -- it begins for this deal: it has taken no reply, and asks the card
 pub record HasBegun (deal : Deal) (k : KernelData) : Type 0 where

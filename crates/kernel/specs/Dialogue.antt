@@ -21,11 +21,7 @@ use Rattle.emv_dict.specs.declared.ending.Step.TheVariants as step
 use Rattle.emv_dict.specs.declared.purchase.AidRow.{AidRow}
 use Rattle.env_map.specs.Entries.{Entries}
 use Rattle.kernel.specs.Course.{Standing, Rest, stands, over, by_progress, card_step, cut_off, host_step}
-use Rattle.kernel.specs.Marks as mark
-use Rattle.kernel.specs.Marks.{Mark, moment}
 use Rattle.kernel.specs.Reply.{Reply, Over}
-use Rattle.kernel.specs.Scripts.{templates, kept}
-use Rattle.kernel.specs.Terminal.{Deal, terminal_objects}
 use Rattle.object_lists.specs.CardRead.{ReadCard}
 use Rattle.online_step.specs.Authenticate.{authenticated}
 use Rattle.online_step.specs.Generate.{generated, list_data}
@@ -35,6 +31,10 @@ use Rattle.read_records.specs.Options.{Opened, initiating}
 use Rattle.restrictions.specs.Restricted.{restricted}
 use Rattle.risk_mgmt.specs.Risky.{risky}
 use Rattle.script_run.specs.Ran.{template_ran, no_script}
+use Rattle.terminal_state.specs.Marks as mark
+use Rattle.terminal_state.specs.Marks.{Mark, moment}
+use Rattle.terminal_state.specs.Scripts.{templates, kept}
+use Rattle.terminal_state.specs.Terminal.{Deal, terminal_objects}
 
 -- a transaction once the card is read: what was dealt, the terminal's row of the application, and the card
 pub record Trade : Type 0 where

@@ -4,14 +4,14 @@ use Rattle.std.specs.Prelude.{ℕ, Bool, false, List, [], ◌∷◌, Option, Som
 use Rattle.emv_dict.specs.declared.ending.Ending.{Ending}
 use Rattle.emv_dict.specs.declared.ending.Ending.TheVariants.{Approved, Declined, Terminated, CutOff}
 use Rattle.env_map.specs.Entries.{value_of}
+use Rattle.kernel.specs.Course.{Standing}
+use Rattle.kernel.specs.Reply.{Deed, ToCard, ToHost, Over}
 use Rattle.object_lists.specs.CardRead.{ReadCard}
 use Rattle.object_lists.specs.DolEntries.{DolEntry, dol_of, place_of}
 use Rattle.object_lists.specs.declared.dol.DolFault.{DolFault}
 use Rattle.online_step.specs.Captures.{presentment_of, reversal_of}
-use Rattle.kernel.specs.Course.{Standing}
-use Rattle.kernel.specs.Marks.{Mark, MomentData, moment, latest, card_of}
-use Rattle.kernel.specs.Reply.{Deed, ToCard, ToHost, Over}
-use Rattle.kernel.specs.Terminal.{Deal}
+use Rattle.terminal_state.specs.Marks.{Mark, MomentData, moment, latest, card_of}
+use Rattle.terminal_state.specs.Terminal.{Deal}
 
 -- the card's data are there exactly where reading is finished; `capture` are the bytes of the message
 pub record EndData : Type 0 where

@@ -6,23 +6,23 @@ use Rattle.emv_dict.specs.Settings.{IsAidRow}
 use Rattle.emv_dict.specs.declared.purchase.AidRow.{AidRow}
 use Rattle.emv_dict.specs.declared.purchase.Logged.{Logged}
 use Rattle.env_map.specs.Entries.{Entries}
+use Rattle.kernel.specs.Course.{Standing}
+use Rattle.kernel.specs.Dialogue.{initiation, candidates_left, restrictions}
+use Rattle.kernel.specs.Reply.{Reply}
+use Rattle.kernel.specs.Stages.{OpeningStands}
+use Rattle.kernel.specs.declared.opening.OpeningNext.{OpeningNext}
+use Rattle.kernel.specs.declared.opening.OpeningNext.TheVariants as next
+use Rattle.kernel.specs.declared.stage.AtRead.{AtRead}
+use Rattle.kernel.specs.declared.stage.AtSelect.{AtSelect}
+use Rattle.kernel.specs.declared.stage.Opening.{Opening}
+use Rattle.kernel.specs.declared.stage.Opening.TheVariants as opening
 use Rattle.object_lists.specs.CardRead.{card_of}
 use Rattle.object_lists.specs.Forms.{HasForms}
 use Rattle.read_records.specs.Checked.{HasOptions}
-use Rattle.kernel.specs.Course.{Standing}
-use Rattle.kernel.specs.Dialogue.{initiation, candidates_left, restrictions}
-use Rattle.kernel.specs.Marks.{Mark, moment}
-use Rattle.kernel.specs.Reply.{Reply}
-use Rattle.kernel.specs.Stages.{OpeningStands}
-use Rattle.kernel.specs.Table.{deal_of}
-use Rattle.kernel.specs.Terminal.{Deal}
-use Rattle.kernel.specs.declared.opening.OpeningNext.{OpeningNext}
-use Rattle.kernel.specs.declared.opening.OpeningNext.TheVariants as next
-use Rattle.kernel.specs.declared.stage.AtSelect.{AtSelect}
-use Rattle.kernel.specs.declared.stage.AtRead.{AtRead}
-use Rattle.kernel.specs.declared.stage.Opening.{Opening}
-use Rattle.kernel.specs.declared.stage.Opening.TheVariants as opening
-use Rattle.kernel.specs.declared.table.Table.{Table}
+use Rattle.terminal_state.specs.Marks.{Mark, moment}
+use Rattle.terminal_state.specs.Table.{deal_of}
+use Rattle.terminal_state.specs.Terminal.{Deal}
+use Rattle.terminal_state.specs.declared.table.Table.{Table}
 
 -- no object is read yet, and there is room for the applications that are still to be found
 pub record SelectFits (t : Table) (objects : Entries) (s : AtSelect) : Type 0 where

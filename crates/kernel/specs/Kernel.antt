@@ -3,15 +3,11 @@ use Rattle.std.specs.Prelude.{◌≡◌, ℕ, ◌-◌, ◌^◌, min, List, [], �
 use Rattle.emv_dict.specs.Settings.{IsAidRow}
 use Rattle.emv_dict.specs.declared.purchase.Logged.{Logged}
 use Rattle.env_map.specs.Entries.{Entries}
-use Rattle.object_lists.specs.CardRead.{ReadCard}
 use Rattle.kernel.specs.Course.{Standing}
 use Rattle.kernel.specs.Dialogue.{dialogue}
 use Rattle.kernel.specs.Fits.{OpeningFits}
-use Rattle.kernel.specs.Marks.{Mark}
 use Rattle.kernel.specs.Reply.{Reply, Deed, ToCard, ToHost, Over}
 use Rattle.kernel.specs.Stages.{OpeningStands, TradingStands, HasRoom, scripts_left}
-use Rattle.kernel.specs.Table.{IsDeal, deal_of}
-use Rattle.kernel.specs.Terminal.{Deal}
 use Rattle.kernel.specs.declared.kernel.Next.{Next}
 use Rattle.kernel.specs.declared.kernel.Next.TheVariants as next
 use Rattle.kernel.specs.declared.stage.AtTrading.{AtTrading}
@@ -21,7 +17,11 @@ use Rattle.kernel.specs.declared.stage.Stage.{Stage}
 use Rattle.kernel.specs.declared.stage.Stage.TheVariants as stage
 use Rattle.kernel.specs.declared.stage.Trading.{Trading}
 use Rattle.kernel.specs.declared.stage.Trading.TheVariants as trading
-use Rattle.kernel.specs.declared.table.Table.{Table}
+use Rattle.object_lists.specs.CardRead.{ReadCard}
+use Rattle.terminal_state.specs.Marks.{Mark}
+use Rattle.terminal_state.specs.Table.{IsDeal, deal_of}
+use Rattle.terminal_state.specs.Terminal.{Deal}
+use Rattle.terminal_state.specs.declared.table.Table.{Table}
 
 -- the parts of a kernel
 pub record KernelData : Type 0 where

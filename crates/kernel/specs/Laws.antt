@@ -2,9 +2,9 @@
 use Rattle.std.specs.Prelude.{◌≡◌, List, [], ◌∷◌, ◌++◌}
 use Rattle.emv_dict.specs.declared.ending.Ending.{Ending}
 use Rattle.kernel.specs.Dialogue.{dialogue}
-use Rattle.kernel.specs.Marks.{Mark}
 use Rattle.kernel.specs.Reply.{Reply, Deed, Over}
-use Rattle.kernel.specs.Terminal.{Deal}
+use Rattle.terminal_state.specs.Marks.{Mark}
+use Rattle.terminal_state.specs.Terminal.{Deal}
 
 -- what a terminal did at first, and behind each reply
 abbrev pub deeds_behind : Deal → List Reply → List Reply → List Deed

@@ -2,12 +2,8 @@ pub mod BeginEnd
 pub mod Trades
 pub mod Reply
 pub mod Course
-pub mod Marks
-pub mod Terminal
-pub mod Scripts
 pub mod Dialogue
 pub mod Ended
-pub mod Table
 pub mod Stages
 pub mod Fits
 pub mod Kernel

@@ -4,10 +4,7 @@ use Rattle.app_select.specs.Candidates.{CandidateData}
 use Rattle.app_select.specs.Leading.{answers_left}
 use Rattle.app_select.specs.declared.search.SearchNext.{SearchNext}
 use Rattle.app_select.specs.declared.search.SearchNext.TheVariants as search
-use Rattle.read_records.specs.Afl.{most_records}
-use Rattle.risk_mgmt.specs.Asked.{counters_by}
 use Rattle.kernel.specs.Kernel.{KernelData}
-use Rattle.kernel.specs.Scripts.{templates}
 use Rattle.kernel.specs.Stages.{behind_if}
 use Rattle.kernel.specs.declared.opening.OpeningNext.{OpeningNext}
 use Rattle.kernel.specs.declared.opening.OpeningNext.TheVariants as next
@@ -17,7 +14,10 @@ use Rattle.kernel.specs.declared.stage.Stage.{Stage}
 use Rattle.kernel.specs.declared.stage.Stage.TheVariants as stage
 use Rattle.kernel.specs.declared.stage.Trading.{Trading}
 use Rattle.kernel.specs.declared.stage.Trading.TheVariants as trading
-use Rattle.kernel.specs.declared.table.Table.{Table}
+use Rattle.read_records.specs.Afl.{most_records}
+use Rattle.risk_mgmt.specs.Asked.{counters_by}
+use Rattle.terminal_state.specs.Scripts.{templates}
+use Rattle.terminal_state.specs.declared.table.Table.{Table}
 
 -- scripts ask no more commands than they have bytes: those of each value, and one for its tag
 abbrev pub bytes_in : List (List ℕ) → ℕ

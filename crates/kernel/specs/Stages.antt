@@ -11,17 +11,12 @@ use Rattle.emv_dict.specs.declared.purchase.Logged.{Logged}
 use Rattle.env_map.specs.Entries.{Entries}
 use Rattle.kernel.specs.Course.{Standing, Rest, over, card_step, cut_off, host_step}
 use Rattle.kernel.specs.Dialogue.{Trade, initiation, granted, candidates_left, restrictions, risk, analysis, first_answered, replied, issuer_scripts, scripts_before, scripts_behind, decision, left_script}
-use Rattle.kernel.specs.Marks as mark
-use Rattle.kernel.specs.Marks.{Mark, moment, latest, card_of}
 use Rattle.kernel.specs.Reply.{Reply}
-use Rattle.kernel.specs.Scripts.{templates}
-use Rattle.kernel.specs.Table.{deal_of}
 use Rattle.kernel.specs.declared.stage.AtSelect.{AtSelect}
 use Rattle.kernel.specs.declared.stage.Opening.{Opening}
 use Rattle.kernel.specs.declared.stage.Opening.TheVariants as opening
 use Rattle.kernel.specs.declared.stage.Trading.{Trading}
 use Rattle.kernel.specs.declared.stage.Trading.TheVariants as trading
-use Rattle.kernel.specs.declared.table.Table.{Table}
 use Rattle.object_lists.specs.CardRead.{ReadCard}
 use Rattle.online_step.specs.Ac.{ac_of}
 use Rattle.online_step.specs.Authenticate.{verdict_of, after_verdict}
@@ -30,6 +25,11 @@ use Rattle.read_records.specs.DataRead.{reading}
 use Rattle.read_records.specs.Options.{initiated}
 use Rattle.risk_mgmt.specs.Asked.{rest_of as judging_rest}
 use Rattle.script_run.specs.Ran.{rest_of as running_rest}
+use Rattle.terminal_state.specs.Marks as mark
+use Rattle.terminal_state.specs.Marks.{Mark, moment, latest, card_of}
+use Rattle.terminal_state.specs.Scripts.{templates}
+use Rattle.terminal_state.specs.Table.{deal_of}
+use Rattle.terminal_state.specs.declared.table.Table.{Table}
 
 -- GENERATE AC was asked by this command
 abbrev pub generating : List ℕ → Kind → Bool → List (List ℕ) → Progress AcData

@@ -7,15 +7,15 @@ ghost use Rattle.kernel.specs.Kernel.{stage_next, trading_next};
 ghost use Rattle.kernel.specs.Shown.{shown, stage_over, trading_over};
 
 use crate::kernel::Next;
-use crate::moment::Moment;
 use crate::stage::{Opening, Stage, Trading};
 use arrayvec::ArrayVec;
 use auth_message::Message;
 use ber_tlv::Tag;
-use emv_dict::{Digits, Ending, Purchase, Settings, Tsi, Tvr};
+use emv_dict::{Ac, Digits, Ending, Purchase, Settings, Tsi, Tvr};
 use object_lists::{CardData, place, read_dol};
-use online_step::{Ac, presentment, reversal};
+use online_step::{presentment, reversal};
 use std::marker::Model;
+use terminal_state::Moment;
 
 /// The object list of the second GENERATE AC (CDOL2).
 const SECOND_LIST: Tag = Tag(0x8d);

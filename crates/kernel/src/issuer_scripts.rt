@@ -6,26 +6,24 @@ ghost use Rattle.emv_dict.specs.declared.ending.Step.TheVariants as step;
 ghost use Rattle.emv_dict.specs.declared.purchase.Logged.{Logged};
 ghost use Rattle.kernel.specs.Course.{Standing, card_step, cut_off};
 ghost use Rattle.kernel.specs.Dialogue.{Trade, scripts_before, scripts_behind, left_script, all_failed, kind_for as kind_of_code};
-ghost use Rattle.kernel.specs.Marks.{Mark, HasRunBefore, HasRunBehind, moment as moment_of};
 ghost use Rattle.kernel.specs.Rank.{trading_rank, bytes_in};
 ghost use Rattle.kernel.specs.Reply.{Reply, CardSaid, CardGone};
-ghost use Rattle.kernel.specs.Scripts.{templates};
 ghost use Rattle.kernel.specs.Stages.{TradingStands, Begins, HasRoom, scripts_left};
-ghost use Rattle.kernel.specs.Table.{IsDeal, deal_of};
 ghost use Rattle.kernel.specs.Trades.{trade_of};
 ghost use Rattle.kernel.specs.declared.stage.Trading.TheVariants as stage;
 ghost use Rattle.script_run.specs.Leading.{RunNextLeads, left_next};
+ghost use Rattle.terminal_state.specs.Marks.{Mark, HasRunBefore, HasRunBehind, moment as moment_of};
+ghost use Rattle.terminal_state.specs.Scripts.{templates};
+ghost use Rattle.terminal_state.specs.Table.{IsDeal, deal_of};
 
-use crate::moment::Moment;
 use crate::online::begin_second;
-use crate::scripts::template_at;
 use crate::stage::{AtScript, AtSecond, Trading};
-use crate::table::{HostReply, Table};
 use ber_tlv::Tag;
 use emv_dict::{AidRow, Ending, Kind};
 use env_map::Env;
 use object_lists::CardData;
 use script_run::{RunNext, Running};
+use terminal_state::{HostReply, Moment, Table, template_at};
 
 /// The tag of a script before the second GENERATE AC.
 const BEFORE: Tag = Tag(0x71);

@@ -3,19 +3,14 @@
 #![tactic(auto)]
 
 pub mod ended;
-mod held;
 mod issuer_scripts;
 pub mod kernel;
 pub mod laws;
-mod moment;
 mod online;
 mod opening;
 mod replies;
-mod scripts;
 mod stage;
-mod table;
 pub mod tally;
-mod terminal;
 mod trading;
 mod turns;
 

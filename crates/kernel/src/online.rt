@@ -6,30 +6,28 @@ ghost use Rattle.emv_dict.specs.Views.{AcData};
 ghost use Rattle.emv_dict.specs.declared.purchase.Logged.{Logged};
 ghost use Rattle.kernel.specs.Course.{Standing};
 ghost use Rattle.kernel.specs.Dialogue.{first_answered, online, unable_online, second, authentication, decision as decision_of, kind_for as kind_of_code, is_offline_only as offline_test, has_authentication as authentication_test};
-ghost use Rattle.kernel.specs.Marks.{Mark, HasFirst, HasReply, latest, ac_of};
 ghost use Rattle.kernel.specs.Rank.{trading_rank, bytes_in, most_scripts};
 ghost use Rattle.kernel.specs.Reply.{Reply, CardSaid, HostSaid, HostSilent};
-ghost use Rattle.kernel.specs.Scripts.{templates};
 ghost use Rattle.kernel.specs.Stages.{TradingStands, Begins, HasRoom, scripts_left, behind_if};
-ghost use Rattle.kernel.specs.Table.{IsDeal, deal_of};
-ghost use Rattle.kernel.specs.Terminal.{terminal_objects};
 ghost use Rattle.kernel.specs.Trades.{trade_of};
 ghost use Rattle.kernel.specs.declared.stage.Trading.TheVariants as stage;
 ghost use Rattle.online_step.specs.Request.{request_of};
 ghost use Rattle.online_step.specs.TerminalData.{HasTerminalData};
+ghost use Rattle.terminal_state.specs.Marks.{Mark, HasFirst, HasReply, latest, ac_of};
+ghost use Rattle.terminal_state.specs.Scripts.{templates};
+ghost use Rattle.terminal_state.specs.Table.{IsDeal, deal_of};
+ghost use Rattle.terminal_state.specs.Terminal.{terminal_objects};
 
-use crate::moment::Moment;
 use crate::stage::{AtSecond, Trading};
-use crate::table::Table;
-use crate::terminal::put_terminal;
 use action_analysis::{codes_of, unable};
 use arrayvec::ArrayVec;
 use auth_message::Message;
 use ber_tlv::Tag;
-use emv_dict::{AidRow, Cause, Ending, Kind, Purchase, Settings, Step};
+use emv_dict::{Ac, AidRow, Cause, Ending, Kind, Purchase, Settings, Step};
 use env_map::Env;
 use object_lists::CardData;
-use online_step::{Ac, fill_list, read_ac, request, write_generate};
+use online_step::{fill_list, read_ac, request, write_generate};
+use terminal_state::{Moment, Table, put_terminal};
 
 /// The object list of the second GENERATE AC (CDOL2).
 const SECOND_LIST: Tag = Tag(0x8d);

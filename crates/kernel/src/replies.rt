@@ -6,27 +6,27 @@ ghost use Rattle.ber_tlv.specs.Left.{items_of};
 ghost use Rattle.emv_dict.specs.declared.purchase.Logged.{Logged};
 ghost use Rattle.kernel.specs.Course.{Standing};
 ghost use Rattle.kernel.specs.Dialogue.{Trade, authentication, scripts_behind, decision, has_authentication as authentication_test};
-ghost use Rattle.kernel.specs.Marks.{Mark, HasReply, HasSecond};
 ghost use Rattle.kernel.specs.Rank.{trading_rank, bytes_in, most_scripts};
 ghost use Rattle.kernel.specs.Reply.{Reply, CardSaid, HostSaid, HostSilent};
-ghost use Rattle.kernel.specs.Scripts.{templates, are_few as few_test, kept as kept_reply};
 ghost use Rattle.kernel.specs.Sound.{IsSound, IsIssuerData};
 ghost use Rattle.kernel.specs.Stages.{TradingStands, Begins, HasRoom, scripts_left, behind_if};
-ghost use Rattle.kernel.specs.Table.{IsDeal, deal_of};
 ghost use Rattle.kernel.specs.Trades.{trade_of};
 ghost use Rattle.kernel.specs.declared.stage.Trading.TheVariants as stage;
+ghost use Rattle.terminal_state.specs.Marks.{Mark, HasReply, HasSecond};
+ghost use Rattle.terminal_state.specs.Scripts.{templates, are_few as few_test, kept as kept_reply};
+ghost use Rattle.terminal_state.specs.Table.{IsDeal, deal_of};
 
 use crate::issuer_scripts::{run_before, run_behind};
-use crate::moment::kept;
 use crate::online::be_unable;
 use crate::stage::{AtSecond, Trading};
-use crate::table::{HostReply, Table};
 use auth_message::{Reply as Said, read_reply};
 use ber_tlv::{Cursor, append};
-use emv_dict::{AidRow, Ending, Kind, Step};
+use emv_dict::{Ac, AidRow, Ending, Kind, Step};
 use env_map::Env;
 use object_lists::CardData;
-use online_step::{Ac, authenticate_command, read_ac, read_verdict};
+use online_step::{authenticate_command, read_ac, read_verdict};
+use terminal_state::moment::kept;
+use terminal_state::{HostReply, Table};
 
 /// The most script templates of a reply.
 const MOST_TEMPLATES: usize = 8;

@@ -12,19 +12,16 @@ ghost use Rattle.emv_dict.specs.declared.purchase.Logged.{Logged};
 ghost use Rattle.emv_dict.specs.declared.verified.Verified.{Verified};
 ghost use Rattle.kernel.specs.Course.{Standing, card_step, cut_off};
 ghost use Rattle.kernel.specs.Dialogue.{Trade, restrictions, verification, risk, analysis, first, first_answered, unable_online, online};
-ghost use Rattle.kernel.specs.Marks.{Mark, HasVerified, HasJudged, HasRead, HasRestricted, moment};
 ghost use Rattle.kernel.specs.Rank.{trading_rank, rank_behind, most_scripts};
 ghost use Rattle.kernel.specs.Reply.{Reply, CardSaid};
 ghost use Rattle.kernel.specs.Stages.{TradingStands, Begins, HasRoom, scripts_left};
-ghost use Rattle.kernel.specs.Table.{IsDeal, deal_of};
 ghost use Rattle.kernel.specs.declared.stage.Trading.TheVariants as stage;
 ghost use Rattle.risk_mgmt.specs.Asked.{counters_by};
 ghost use Rattle.risk_mgmt.specs.Judging.{NextLeads as JudgeLeads, counters_left};
+ghost use Rattle.terminal_state.specs.Marks.{Mark, HasVerified, HasJudged, HasRead, HasRestricted, moment};
+ghost use Rattle.terminal_state.specs.Table.{IsDeal, deal_of};
 
-use crate::moment::Moment;
 use crate::stage::Trading;
-use crate::table::Table;
-use crate::terminal::put_terminal;
 use action_analysis::{codes_of, wanted};
 use arrayvec::ArrayVec;
 use ber_tlv::Tag;
@@ -35,6 +32,7 @@ use object_lists::CardData;
 use online_step::{fill_list, write_generate};
 use restrictions::restrict;
 use risk_mgmt::{JudgeNext, Judging};
+use terminal_state::{Moment, Table, put_terminal};
 
 /// The object list of the first GENERATE AC (CDOL1).
 const FIRST_LIST: Tag = Tag(0x8c);

@@ -6,23 +6,23 @@ ghost use Rattle.emv_dict.specs.declared.purchase.Logged.{Logged as LoggedRow};
 ghost use Rattle.kernel.specs.Course.{Standing};
 ghost use Rattle.kernel.specs.Dialogue.{Trade};
 ghost use Rattle.kernel.specs.Kernel.{trading_next};
-ghost use Rattle.kernel.specs.Marks.{Mark};
 ghost use Rattle.kernel.specs.Rank.{trading_rank};
 ghost use Rattle.kernel.specs.Reply.{Reply, CardSaid, CardGone, from_host};
 ghost use Rattle.kernel.specs.Stages.{TradingStands, HasRoom, scripts_left};
-ghost use Rattle.kernel.specs.Table.{IsDeal, deal_of};
 ghost use Rattle.kernel.specs.Trades.{trade_of};
 ghost use Rattle.kernel.specs.declared.kernel.Next.TheVariants as next;
+ghost use Rattle.terminal_state.specs.Marks.{Mark};
+ghost use Rattle.terminal_state.specs.Table.{IsDeal, deal_of};
 
 use crate::issuer_scripts::{gone_behind, on_script_before, on_script_behind};
 use crate::online::on_first;
 use crate::replies::{on_authenticate, on_reply, on_second, on_silence};
 use crate::stage::Trading;
-use crate::table::Table;
 use crate::trading::{on_judge, on_verify};
 use emv_dict::{AidRow, Ending, Logged, Step};
 use env_map::Env;
 use object_lists::CardData;
+use terminal_state::Table;
 
 /// The card's answer.
 pub(crate) fn on_card<'s>(

@@ -7,9 +7,8 @@ use crate::deal::{Deal, Difference, put_bytes};
 use crate::names::text_of;
 use arrayvec::ArrayVec;
 use auth_message::Message;
-use emv_dict::{Logged, Purchase, Settings};
+use emv_dict::{Ac, Logged, Purchase, Settings};
 use kernel::{Capture, EndRecord, Kernel, Next, Tally};
-use online_step::Ac;
 use report_text::{EndParts, Line, Text, write_line};
 use std::alloc::Global;
 

@@ -6,8 +6,8 @@ use Rattle.emv_dict.specs.declared.purchase.AidRow.{AidRow}
 use Rattle.kernel.specs.Course.{card_step}
 use Rattle.kernel.specs.Dialogue.{dialogue}
 use Rattle.kernel.specs.Kernel.{told_next}
-use Rattle.kernel.specs.Terminal.{Deal}
 use Rattle.kernel.specs.declared.kernel.Next.TheVariants as next
+use Rattle.terminal_state.specs.Terminal.{Deal}
 
 pub first_waits : (deal : Deal) → IsSettings deal.settings → told_next (dialogue deal []) ≡ next.ToCard
 unfolding dialogue card_step listing

@@ -15,14 +15,16 @@ use Rattle.emv_ports.specs.Memory.{Memory, IsBlank}
 use Rattle.emv_ports.specs.declared.tear.Tear.{Tear}
 use Rattle.kernel.specs.Dialogue.{dialogue}
 use Rattle.kernel.specs.Kernel.{KernelData, KernelStands, deal_in}
-use Rattle.kernel.specs.Marks.{latest, card_of}
 use Rattle.kernel.specs.Reply.{Reply}
-use Rattle.kernel.specs.Terminal.{Deal}
 use Rattle.object_lists.specs.CardRead.{ReadCard}
 use Rattle.scenario.specs.Cards.{CardData}
 use Rattle.scenario.specs.Plan.{ScenarioData, IsScenario}
 use Rattle.scenario_lanes.specs.Plan.{LaneData, HasCards, purchase_count}
 use Rattle.scenario_lanes.specs.declared.plan.Planned.{Planned}
+use Rattle.terminal_state.specs.Marks.{latest, card_of}
+use Rattle.terminal_state.specs.Terminal.{Deal}
+use Rattle.txn_replay.proofs.Few.{sum_below}
+use Rattle.txn_replay.proofs.Lists.{some_at}
 use Rattle.txn_replay.specs.Banked.{IsLeft, AreGiven}
 use Rattle.txn_replay.specs.Bounds.{purchases_in}
 use Rattle.txn_replay.specs.Payment.{Payment, payment_with, payment_of, payment_on, payment_in, next_of, deal_for}
@@ -34,8 +36,6 @@ use Rattle.txn_replay.specs.Sound.{RunsIn}
 use Rattle.txn_replay.specs.Standing.{RunStands, PlaceStands, card_in}
 use Rattle.txn_replay.specs.World.{Holder, CardRow, LaneRow, World, new_lane, card_at, lane_at}
 use Rattle.txn_replay.specs.declared.lane.Lane.{Lane}
-use Rattle.txn_replay.proofs.Few.{sum_below}
-use Rattle.txn_replay.proofs.Lists.{some_at}
 
 -- a purchase is left exactly where fewer have ended than the lane has
 pub is_left : (s : ScenarioData) (l n : ℕ) (terminal : LaneData) → IsScenario s → slice_get s.lanes l ≡ Some terminal → n ≤ length terminal.purchases

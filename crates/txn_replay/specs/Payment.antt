@@ -6,11 +6,11 @@ use Rattle.issuer_host.specs.declared.keys.HostKeys.{HostKeys}
 use Rattle.kernel.specs.Dialogue.{dialogue}
 use Rattle.kernel.specs.Ended.{EndData, end_of}
 use Rattle.kernel.specs.Reply.{Reply}
-use Rattle.kernel.specs.Terminal.{Deal}
 use Rattle.scenario.specs.Cards.{CardData}
 use Rattle.scenario.specs.Plan.{ScenarioData}
 use Rattle.scenario_lanes.specs.Plan.{LaneData}
 use Rattle.scenario_lanes.specs.declared.plan.Planned.{Planned}
+use Rattle.terminal_state.specs.Terminal.{Deal}
 use Rattle.txn_replay.specs.World.{World, lane_at}
 
 -- the issuer, the lane's number and its terminal's settings, what is planned, and the card

@@ -2,7 +2,6 @@
 use Rattle.std.specs.Prelude.{◌≡◌, ℕ, ◌+◌, Bool, true, false, is_some, List, [], ◌∷◌, ◌++◌, map, flat_map, Option, Some, None, option_map, option_and_then}
 use Rattle.emv_dict.specs.declared.ending.Ending.{Ending}
 use Rattle.kernel.specs.Dialogue.{dialogue}
-use Rattle.kernel.specs.Marks.{latest, card_of}
 use Rattle.kernel.specs.Reply.{Reply}
 use Rattle.object_lists.specs.CardRead.{ReadCard}
 use Rattle.report_text.specs.declared.line.Line.{Line}
@@ -10,6 +9,7 @@ use Rattle.report_text.specs.declared.line.Line.TheVariants as line
 use Rattle.scenario.specs.Plan.{ScenarioData}
 use Rattle.scenario_lanes.specs.Plan.{LaneData}
 use Rattle.scenario_lanes.specs.declared.plan.Planned.{Planned}
+use Rattle.terminal_state.specs.Marks.{latest, card_of}
 use Rattle.txn_replay.specs.Payment.{Payment, deal_for, next_of}
 use Rattle.txn_replay.specs.Steps.{Step}
 use Rattle.txn_replay.specs.World.{Past, World, first_world, lane_at}

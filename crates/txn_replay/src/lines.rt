@@ -8,8 +8,8 @@ ghost use Rattle.txn_replay.specs.Lines as spec;
 use arrayvec::ArrayVec;
 use ber_tlv::append;
 use card_state::{AppState, CardState, flags};
+use emv_dict::Ac;
 use kernel::EndRecord;
-use online_step::Ac;
 use report_text::{EndParts, Line, Shown};
 
 /// The lines of one event.

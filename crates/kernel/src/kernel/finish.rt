@@ -5,9 +5,9 @@ ghost use Rattle.kernel.specs.Kernel.{next_of};
 
 use super::{Kernel, Next};
 use crate::ended::{EndRecord, Ended, end_record, ending_of, with_card};
-use crate::moment::Moment;
 use crate::tally::Tally;
 use std::mem;
+use terminal_state::Moment;
 
 impl<'s> Kernel<'s> {
     /// The end of the dialogue. The tally counts it, with the replies that it took. What is captured is handed

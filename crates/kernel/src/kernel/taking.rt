@@ -2,37 +2,36 @@
 ghost use Rattle.std.specs.Prelude.{◌≡◌, ◌≤◌, ◌<◌, ◌∷◌, ◌++◌, [], List, Option, Some, None, option_map};
 ghost use Rattle.std.specs.List.{All};
 ghost use Rattle.emv_dict.specs.Settings.{most_amount};
+ghost use Rattle.emv_dict.specs.declared.ending.Ending.TheVariants.{Terminated};
+ghost use Rattle.emv_dict.specs.declared.ending.Step.TheVariants as steps;
 ghost use Rattle.emv_dict.specs.declared.purchase.Logged.{Logged as LoggedRow};
-ghost use Rattle.kernel.specs.Course.{Standing};
 ghost use Rattle.env_map.specs.Entries.{Entries};
-ghost use Rattle.object_lists.specs.CardRead.{ReadCard, card_of};
-ghost use Rattle.object_lists.specs.Forms.{HasForms};
+ghost use Rattle.kernel.specs.Course.{Standing};
 ghost use Rattle.kernel.specs.Dialogue.{restrictions};
 ghost use Rattle.kernel.specs.Fits.{OpeningFits, HasReadCard};
-ghost use Rattle.kernel.specs.Reading.{IsBeforeReading};
 ghost use Rattle.kernel.specs.Kernel.{KernelStands, StageFits, StageGoes, TradingFits, TradingGoes, deal_in, next_of, stage_next, opening_next, trading_next};
-ghost use Rattle.kernel.specs.Marks.{Mark};
 ghost use Rattle.kernel.specs.Rank.{rank_of, stage_rank, opening_rank, trading_rank, rank_behind};
+ghost use Rattle.kernel.specs.Reading.{IsBeforeReading};
 ghost use Rattle.kernel.specs.Reply.{Reply, CardSaid, CardGone, HostSaid, HostSilent, from_host};
 ghost use Rattle.kernel.specs.Stages.{OpeningStands};
-ghost use Rattle.kernel.specs.Table.{IsDeal, deal_of};
 ghost use Rattle.kernel.specs.declared.kernel.Next.TheVariants as next;
 ghost use Rattle.kernel.specs.declared.stage.Opening.TheVariants as openings;
 ghost use Rattle.kernel.specs.declared.stage.Stage.TheVariants as stages;
-ghost use Rattle.emv_dict.specs.declared.ending.Ending.TheVariants.{Terminated};
-ghost use Rattle.emv_dict.specs.declared.ending.Step.TheVariants as steps;
+ghost use Rattle.object_lists.specs.CardRead.{ReadCard, card_of};
+ghost use Rattle.object_lists.specs.Forms.{HasForms};
+ghost use Rattle.terminal_state.specs.Marks.{Mark};
+ghost use Rattle.terminal_state.specs.Table.{IsDeal, deal_of};
 
 use super::Kernel;
-use crate::held::HeldCard;
 use crate::opening;
 use crate::stage::{AtTrading, Opening, Stage, Trading};
-use crate::table::Table;
 use crate::trading::begin_trading;
 use crate::turns::{on_card, on_gone, on_host};
 use emv_dict::{AidRow, Cause, Ending, Logged, Step};
 use env_map::Env;
 use read_records::CourseStep;
 use std::mem;
+use terminal_state::{HeldCard, Table};
 
 /// What stands in place of a stage while it is taken out.
 const TAKEN_OUT: Ending = Ending::CutOff(Step::Power);

@@ -1,14 +1,14 @@
 use Rattle.std.proofs.Common.{◌≡◌, refl, sym, ap, ◌∷◌, ◌+◌, ℕ, List, length, drop, arith}
 use Rattle.emv_dict.specs.declared.ending.Step.TheVariants as step
-use Rattle.kernel.specs.Course.{cut_off}
-use Rattle.kernel.specs.Dialogue.{scripts_before}
-use Rattle.kernel.specs.Marks.{HasRunBefore}
-use Rattle.kernel.specs.Rank.{bytes_in}
-use Rattle.kernel.specs.Scripts.{templates}
-use Rattle.kernel.specs.Trades.{trade_of}
-use Rattle.script_run.specs.Ran.{template_ran}
 use Rattle.kernel.proofs.Scripting.{drop_some, drop_none, script_begins, scripts_end, left_next}
 use Rattle.kernel.proofs.issuer_scripts.+before.Goals as goal
+use Rattle.kernel.specs.Course.{cut_off}
+use Rattle.kernel.specs.Dialogue.{scripts_before}
+use Rattle.kernel.specs.Rank.{bytes_in}
+use Rattle.kernel.specs.Trades.{trade_of}
+use Rattle.script_run.specs.Ran.{template_ran}
+use Rattle.terminal_state.specs.Marks.{HasRunBefore}
+use Rattle.terminal_state.specs.Scripts.{templates}
 
 pub before_next-returns-in-Done-clause-stands : goal.before_next-returns-in-Done-clause-stands
 before_next-returns-in-Done-clause-stands t c = λ marks log course rest begins leads.

@@ -1,12 +1,12 @@
 use Rattle.std.proofs.Common.{◌≡◌, refl, sym, ap, ◌∷◌, ◌+◌, ℕ, List, length, drop, arith}
 use Rattle.emv_dict.specs.declared.ending.Step.TheVariants as step
-use Rattle.kernel.specs.Dialogue.{scripts_behind, left_script}
-use Rattle.kernel.specs.Marks.{HasRunBehind}
-use Rattle.kernel.specs.Rank.{bytes_in}
-use Rattle.kernel.specs.Scripts.{templates}
-use Rattle.script_run.specs.Ran.{template_ran}
 use Rattle.kernel.proofs.Scripting.{drop_some, drop_none, behind_begins, behind_end, left_next}
 use Rattle.kernel.proofs.issuer_scripts.+behind.Goals as goal
+use Rattle.kernel.specs.Dialogue.{scripts_behind, left_script}
+use Rattle.kernel.specs.Rank.{bytes_in}
+use Rattle.script_run.specs.Ran.{template_ran}
+use Rattle.terminal_state.specs.Marks.{HasRunBehind}
+use Rattle.terminal_state.specs.Scripts.{templates}
 
 pub behind_next-returns-in-Done-clause-stands : goal.behind_next-returns-in-Done-clause-stands
 behind_next-returns-in-Done-clause-stands t c = λ trade marks log course rest begins leads.

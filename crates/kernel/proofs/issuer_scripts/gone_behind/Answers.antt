@@ -1,10 +1,10 @@
 use Rattle.std.proofs.Common.{refl, [], ◌∷◌, drop}
-use Rattle.kernel.specs.Dialogue.{scripts_behind}
-use Rattle.kernel.specs.Marks.{HasRunBehind}
-use Rattle.kernel.specs.Scripts.{templates}
-use Rattle.script_run.specs.Ran.{rest_of}
 use Rattle.kernel.proofs.Hearing.{script_left}
 use Rattle.kernel.proofs.issuer_scripts.gone_behind.Goals as goal
+use Rattle.kernel.specs.Dialogue.{scripts_behind}
+use Rattle.script_run.specs.Ran.{rest_of}
+use Rattle.terminal_state.specs.Marks.{HasRunBehind}
+use Rattle.terminal_state.specs.Scripts.{templates}
 
 pub returns-clause-stands : goal.returns-clause-stands
 returns-clause-stands c = λ trade log rest stands.

@@ -1,13 +1,13 @@
 use Rattle.std.proofs.Common.{refl, [], ◌∷◌, drop}
 use Rattle.emv_dict.specs.declared.ending.Step.TheVariants as step
-use Rattle.kernel.specs.Course.{cut_off}
-use Rattle.kernel.specs.Dialogue.{scripts_before}
-use Rattle.kernel.specs.Marks.{HasRunBefore}
-use Rattle.kernel.specs.Scripts.{templates}
-use Rattle.kernel.specs.Trades.{trade_of}
-use Rattle.script_run.specs.Ran.{rest_of}
 use Rattle.kernel.proofs.Scripting.{left_taken, run_shifted}
 use Rattle.kernel.proofs.issuer_scripts.on_script_before.Goals as goal
+use Rattle.kernel.specs.Course.{cut_off}
+use Rattle.kernel.specs.Dialogue.{scripts_before}
+use Rattle.kernel.specs.Trades.{trade_of}
+use Rattle.script_run.specs.Ran.{rest_of}
+use Rattle.terminal_state.specs.Marks.{HasRunBefore}
+use Rattle.terminal_state.specs.Scripts.{templates}
 
 pub returns-clause-stands : goal.returns-clause-stands
 returns-clause-stands c = λ before now rest stands.

@@ -1,11 +1,11 @@
 use Rattle.std.proofs.Common.{refl, [], ◌∷◌, drop}
 use Rattle.emv_dict.specs.declared.ending.Step.TheVariants as step
-use Rattle.kernel.specs.Dialogue.{scripts_behind, left_script}
-use Rattle.kernel.specs.Marks.{HasRunBehind}
-use Rattle.kernel.specs.Scripts.{templates}
-use Rattle.script_run.specs.Ran.{rest_of}
 use Rattle.kernel.proofs.Scripting.{left_taken, run_shifted}
 use Rattle.kernel.proofs.issuer_scripts.on_script_behind.Goals as goal
+use Rattle.kernel.specs.Dialogue.{scripts_behind, left_script}
+use Rattle.script_run.specs.Ran.{rest_of}
+use Rattle.terminal_state.specs.Marks.{HasRunBehind}
+use Rattle.terminal_state.specs.Scripts.{templates}
 
 pub returns-clause-stands : goal.returns-clause-stands
 returns-clause-stands c = λ trade before now rest stands.

@@ -1,7 +1,7 @@
 use Rattle.std.proofs.Common.{List, ℕ, ap, ◌∙◌, slice_get}
-use Rattle.kernel.specs.Scripts.{templates}
 use Rattle.kernel.proofs.Scripting.{template_short, template_few}
 use Rattle.kernel.proofs.issuer_scripts.template_of.Goals as goal
+use Rattle.terminal_state.specs.Scripts.{templates}
 
 pub returns-clause-short : goal.returns-clause-short
 returns-clause-short c =

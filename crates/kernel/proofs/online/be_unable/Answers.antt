@@ -1,9 +1,9 @@
 use Rattle.std.proofs.Common.{◌≡◌, refl, ◌∷◌, ◌∙◌}
-use Rattle.kernel.specs.Dialogue.{kind_unable}
-use Rattle.kernel.specs.Marks.{WasUnable}
-use Rattle.kernel.specs.Trades.{trade_of}
 use Rattle.kernel.proofs.Deciding.{unabled}
 use Rattle.kernel.proofs.online.be_unable.Goals as goal
+use Rattle.kernel.specs.Dialogue.{kind_unable}
+use Rattle.kernel.specs.Trades.{trade_of}
+use Rattle.terminal_state.specs.Marks.{WasUnable}
 
 pub returns-clause-stands : goal.returns-clause-stands
 returns-clause-stands c = λ marks log rest begins.

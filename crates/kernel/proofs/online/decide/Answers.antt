@@ -6,8 +6,8 @@ use Rattle.emv_dict.specs.declared.ending.Kind.TheVariants.{Aac, Tc, Arqc}
 use Rattle.kernel.proofs.Deciding.{decided, asks_issuer}
 use Rattle.kernel.proofs.online.decide.Goals as goal
 use Rattle.kernel.specs.Dialogue.{first_answered}
-use Rattle.kernel.specs.Marks.{HasFirst}
 use Rattle.kernel.specs.Trades.{trade_of}
+use Rattle.terminal_state.specs.Marks.{HasFirst}
 
 pub returns-in-Tc-clause-stands : goal.returns-in-Tc-clause-stands
 returns-in-Tc-clause-stands c = λ marks log rest begins.

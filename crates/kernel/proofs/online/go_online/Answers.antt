@@ -1,8 +1,8 @@
 use Rattle.std.proofs.Common.{refl, sym, ap, ◌∙◌}
-use Rattle.kernel.specs.Marks.{MomentData}
-use Rattle.kernel.specs.Trades.{trade_of}
 use Rattle.kernel.proofs.Deciding.{offline_only, asked_online}
 use Rattle.kernel.proofs.online.go_online.Goals as goal
+use Rattle.kernel.specs.Trades.{trade_of}
+use Rattle.terminal_state.specs.Marks.{MomentData}
 
 pub returns-then-is_offline_only-clause-stands : goal.returns-then-is_offline_only-clause-stands
 returns-then-is_offline_only-clause-stands c = λ marks log ac rest last begins.

@@ -1,13 +1,13 @@
 use Rattle.std.proofs.Common.{refl, ◌∷◌, false}
 use Rattle.emv_dict.specs.declared.ending.Step.TheVariants as step
-use Rattle.kernel.specs.Dialogue.{first_answered}
-use Rattle.kernel.specs.Marks.{HasFirst}
-use Rattle.kernel.specs.Stages.{generating}
-use Rattle.kernel.specs.Trades.{trade_of}
 use Rattle.kernel.proofs.Deciding.{ac_given, ac_refused}
 use Rattle.kernel.proofs.Following.{trading_stopped, begins_next}
 use Rattle.kernel.proofs.Taking.{begins_taken}
 use Rattle.kernel.proofs.online.on_first.Goals as goal
+use Rattle.kernel.specs.Dialogue.{first_answered}
+use Rattle.kernel.specs.Stages.{generating}
+use Rattle.kernel.specs.Trades.{trade_of}
+use Rattle.terminal_state.specs.Marks.{HasFirst}
 
 pub returns-in-Ok-clause-stands : goal.returns-in-Ok-clause-stands
 returns-in-Ok-clause-stands c = λ before now rest stands.

@@ -1,10 +1,10 @@
 use Rattle.std.proofs.Common.{refl, [], if◌then◌else◌}
-use Rattle.emv_dict.specs.declared.ending.Step.TheVariants as step
-use Rattle.kernel.specs.Table.{deal_of}
 use Rattle.app_select.specs.Leading.{rest_with}
-use Rattle.kernel.specs.Fits.{selected_then}
+use Rattle.emv_dict.specs.declared.ending.Step.TheVariants as step
 use Rattle.kernel.proofs.Opened.{asks_on}
 use Rattle.kernel.proofs.opening.ask_search.Goals as goal
+use Rattle.kernel.specs.Fits.{selected_then}
+use Rattle.terminal_state.specs.Table.{deal_of}
 
 pub returns-clause-stands : goal.returns-clause-stands
 returns-clause-stands c = λ log course rest passed equal.

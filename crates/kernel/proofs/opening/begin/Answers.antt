@@ -3,12 +3,12 @@ use Rattle.app_select.specs.Leading.{rest_with}
 use Rattle.app_select.specs.Selecting.{selecting}
 use Rattle.emv_dict.specs.Views.{PurchaseData}
 use Rattle.emv_dict.specs.declared.ending.Step.TheVariants as step
-use Rattle.kernel.specs.Dialogue.{dialogue}
-use Rattle.kernel.specs.Fits.{selected_then}
-use Rattle.kernel.specs.Table.{deal_of}
-use Rattle.kernel.specs.Terminal.{Deal}
 use Rattle.kernel.proofs.Opened.{asks_on}
 use Rattle.kernel.proofs.opening.begin.Goals as goal
+use Rattle.kernel.specs.Dialogue.{dialogue}
+use Rattle.kernel.specs.Fits.{selected_then}
+use Rattle.terminal_state.specs.Table.{deal_of}
+use Rattle.terminal_state.specs.Terminal.{Deal}
 
 pub returns-clause-stands : goal.returns-clause-stands
 unfolding dialogue

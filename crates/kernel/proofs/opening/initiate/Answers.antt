@@ -1,12 +1,12 @@
 use Rattle.std.proofs.Common.{[]}
 use Rattle.emv_dict.specs.declared.ending.Step.TheVariants as step
-use Rattle.kernel.specs.Table.{deal_of}
-use Rattle.kernel.specs.Dialogue.{initiation, granted, candidates_left}
-use Rattle.kernel.specs.Marks.{moment}
-use Rattle.kernel.specs.Terminal.{terminal_objects}
-use Rattle.read_records.specs.Options.{initiating}
 use Rattle.kernel.proofs.Opened.{stopped_on}
 use Rattle.kernel.proofs.opening.initiate.Goals as goal
+use Rattle.kernel.specs.Dialogue.{initiation, granted, candidates_left}
+use Rattle.read_records.specs.Options.{initiating}
+use Rattle.terminal_state.specs.Marks.{moment}
+use Rattle.terminal_state.specs.Table.{deal_of}
+use Rattle.terminal_state.specs.Terminal.{terminal_objects}
 
 pub returns-in-Err-clause-stands : goal.returns-in-Err-clause-stands
 unfolding initiation

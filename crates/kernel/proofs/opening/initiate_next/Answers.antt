@@ -1,15 +1,15 @@
 use Rattle.std.proofs.Common.{refl, sym, ◌∙◌, [], arith}
-use Rattle.emv_dict.specs.declared.ending.Step.TheVariants as step
-use Rattle.kernel.specs.Table.{deal_of}
 use Rattle.std.proofs.Common.{Some, None}
 use Rattle.app_select.specs.Selecting.{opening}
-use Rattle.kernel.specs.Dialogue.{read, granted, candidates_left}
-use Rattle.read_records.specs.DataRead.{reading}
-use Rattle.read_records.specs.Options.{Opened}
+use Rattle.emv_dict.specs.declared.ending.Step.TheVariants as step
 use Rattle.kernel.proofs.Falling.{refused_falls}
 use Rattle.kernel.proofs.Left.{left_is_opening}
 use Rattle.kernel.proofs.Opened.{done_on, stopped_on}
 use Rattle.kernel.proofs.opening.initiate_next.Goals as goal
+use Rattle.kernel.specs.Dialogue.{read, granted, candidates_left}
+use Rattle.read_records.specs.DataRead.{reading}
+use Rattle.read_records.specs.Options.{Opened}
+use Rattle.terminal_state.specs.Table.{deal_of}
 
 pub returns-in-Refused-clause-stands : goal.returns-in-Refused-clause-stands
 returns-in-Refused-clause-stands c = λ log course rest passed leads.

@@ -3,17 +3,17 @@ use Rattle.app_select.specs.Leading.{rest_with}
 use Rattle.emv_dict.specs.declared.ending.Ending.TheVariants.{CutOff}
 use Rattle.emv_dict.specs.declared.ending.Step.{Step}
 use Rattle.emv_dict.specs.declared.ending.Step.TheVariants as step
+use Rattle.kernel.proofs.Opened.{gone_on}
+use Rattle.kernel.proofs.opening.on_gone.Goals as goal
 use Rattle.kernel.specs.Course.{Standing, over}
 use Rattle.kernel.specs.Dialogue.{granted, candidates_left, restrictions}
 use Rattle.kernel.specs.Fits.{selected_then}
-use Rattle.kernel.specs.Marks.{Mark}
 use Rattle.kernel.specs.Stages.{OpeningStands, cut_of}
-use Rattle.kernel.specs.Table.{deal_of}
 use Rattle.kernel.specs.declared.stage.Opening.TheVariants as stage
 use Rattle.read_records.specs.DataRead.{reading}
 use Rattle.read_records.specs.Options.{Opened, initiated}
-use Rattle.kernel.proofs.Opened.{gone_on}
-use Rattle.kernel.proofs.opening.on_gone.Goals as goal
+use Rattle.terminal_state.specs.Marks.{Mark}
+use Rattle.terminal_state.specs.Table.{deal_of}
 
 pub returns-in-Select-clause-stands : goal.returns-in-Select-clause-stands
 returns-in-Select-clause-stands c = λ table objects before rest at_stage.

@@ -1,10 +1,10 @@
 use Rattle.std.proofs.Common.{refl, [], ◌∷◌}
 use Rattle.emv_dict.specs.declared.ending.Step.TheVariants as step
-use Rattle.kernel.specs.Table.{deal_of}
-use Rattle.kernel.specs.Dialogue.{granted, candidates_left}
-use Rattle.read_records.specs.Options.{initiated}
 use Rattle.kernel.proofs.Opened.{taken_on, options_shifted}
 use Rattle.kernel.proofs.opening.on_initiate.Goals as goal
+use Rattle.kernel.specs.Dialogue.{granted, candidates_left}
+use Rattle.read_records.specs.Options.{initiated}
+use Rattle.terminal_state.specs.Table.{deal_of}
 
 pub returns-clause-stands : goal.returns-clause-stands
 returns-clause-stands c = λ before now rest stands.

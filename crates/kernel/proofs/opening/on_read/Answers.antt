@@ -1,11 +1,11 @@
 use Rattle.std.proofs.Common.{refl, [], ◌∷◌}
 use Rattle.emv_dict.specs.declared.ending.Step.TheVariants as step
-use Rattle.kernel.specs.Table.{deal_of}
+use Rattle.kernel.proofs.Opened.{taken_on, course_shifted}
+use Rattle.kernel.proofs.opening.on_read.Goals as goal
 use Rattle.kernel.specs.Dialogue.{restrictions}
 use Rattle.read_records.specs.DataRead.{reading}
 use Rattle.read_records.specs.Options.{Opened}
-use Rattle.kernel.proofs.Opened.{taken_on, course_shifted}
-use Rattle.kernel.proofs.opening.on_read.Goals as goal
+use Rattle.terminal_state.specs.Table.{deal_of}
 
 pub returns-clause-stands : goal.returns-clause-stands
 returns-clause-stands c = λ before now rest stands.

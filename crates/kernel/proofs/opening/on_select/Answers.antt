@@ -1,11 +1,11 @@
 use Rattle.std.proofs.Common.{refl, [], ◌∷◌}
-use Rattle.emv_dict.specs.declared.ending.Step.TheVariants as step
-use Rattle.kernel.specs.Table.{deal_of}
 use Rattle.app_select.specs.Leading.{rest_with}
-use Rattle.kernel.specs.Fits.{selected_then}
-use Rattle.kernel.specs.Stages.{cut_of}
+use Rattle.emv_dict.specs.declared.ending.Step.TheVariants as step
 use Rattle.kernel.proofs.Opened.{taken_on, search_shifted}
 use Rattle.kernel.proofs.opening.on_select.Goals as goal
+use Rattle.kernel.specs.Fits.{selected_then}
+use Rattle.kernel.specs.Stages.{cut_of}
+use Rattle.terminal_state.specs.Table.{deal_of}
 
 pub returns-clause-stands : goal.returns-clause-stands
 returns-clause-stands c = λ before now rest stands.

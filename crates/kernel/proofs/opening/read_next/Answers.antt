@@ -1,12 +1,12 @@
 use Rattle.std.proofs.Common.{refl, []}
 use Rattle.emv_dict.specs.declared.ending.Step.TheVariants as step
-use Rattle.kernel.specs.Table.{deal_of}
+use Rattle.kernel.proofs.Opened.{asks_on, done_on, stopped_on}
+use Rattle.kernel.proofs.opening.read_next.Goals as goal
 use Rattle.kernel.specs.Dialogue.{restrictions}
 use Rattle.object_lists.specs.CardRead.{card_of}
 use Rattle.read_records.specs.DataRead.{reading}
 use Rattle.read_records.specs.Options.{Opened}
-use Rattle.kernel.proofs.Opened.{asks_on, done_on, stopped_on}
-use Rattle.kernel.proofs.opening.read_next.Goals as goal
+use Rattle.terminal_state.specs.Table.{deal_of}
 
 pub returns-in-Ask-clause-stands : goal.returns-in-Ask-clause-stands
 returns-in-Ask-clause-stands c = λ log course rest passed leads.

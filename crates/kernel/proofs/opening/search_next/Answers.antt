@@ -1,9 +1,9 @@
-use Rattle.emv_dict.specs.declared.ending.Step.TheVariants as step
-use Rattle.kernel.specs.Table.{deal_of}
 use Rattle.app_select.specs.Leading.{selected_with}
-use Rattle.kernel.specs.Fits.{selected_then}
+use Rattle.emv_dict.specs.declared.ending.Step.TheVariants as step
 use Rattle.kernel.proofs.Opened.{done_on, stopped_on}
 use Rattle.kernel.proofs.opening.search_next.Goals as goal
+use Rattle.kernel.specs.Fits.{selected_then}
+use Rattle.terminal_state.specs.Table.{deal_of}
 
 pub returns-in-Ask-clause-stands : goal.returns-in-Ask-clause-stands
 returns-in-Ask-clause-stands c = λ log course rest passed leads. c.ask_search.ensures.stands log course rest passed (rw c.in-Ask.is at leads)

@@ -2,8 +2,8 @@ use Rattle.std.proofs.Common.{◌≡◌, ℕ, ◌≤◌, ◌+◌, ◌-◌, nat_l
 use Rattle.ber_tlv.specs.Item.{ItemData}
 use Rattle.ber_tlv.specs.Left.{items_behind, items_of}
 use Rattle.ber_tlv.specs.declared.item.TlvFault.{TlvFault}
-use Rattle.kernel.specs.Scripts.{are_few}
 use Rattle.kernel.proofs.replies.are_few.Given as goal
+use Rattle.terminal_state.specs.Scripts.{are_few}
 
 -- the same behind so many objects
 abbrev pub few_behind : ℕ → Result (List ItemData) TlvFault → Bool

@@ -1,10 +1,10 @@
 use Rattle.std.proofs.Common.{refl, ◌∷◌, [], Bool, ap}
-use Rattle.kernel.specs.Marks.{HasSecond}
-use Rattle.kernel.specs.Scripts.{templates}
-use Rattle.kernel.specs.Stages.{behind_if}
 use Rattle.kernel.proofs.Hearing.{settles}
 use Rattle.kernel.proofs.Scripting.{behind_end}
 use Rattle.kernel.proofs.replies.finish.Goals as goal
+use Rattle.kernel.specs.Stages.{behind_if}
+use Rattle.terminal_state.specs.Marks.{HasSecond}
+use Rattle.terminal_state.specs.Scripts.{templates}
 
 pub returns-then-online-clause-stands : goal.returns-then-online-clause-stands
 returns-then-online-clause-stands c = λ trade marks log rest begins.

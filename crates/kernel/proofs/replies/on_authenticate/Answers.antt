@@ -1,13 +1,13 @@
 use Rattle.std.proofs.Common.{refl, ◌∷◌}
 use Rattle.emv_dict.specs.declared.ending.Step.TheVariants as step
-use Rattle.kernel.specs.Dialogue.{issuer_scripts}
-use Rattle.kernel.specs.Marks.{HasAuthenticated}
-use Rattle.kernel.specs.Stages.{authenticating}
-use Rattle.kernel.specs.Trades.{trade_of}
 use Rattle.kernel.proofs.Following.{trading_stopped, begins_next}
 use Rattle.kernel.proofs.Hearing.{verdict_given, verdict_refused}
 use Rattle.kernel.proofs.Taking.{begins_taken}
 use Rattle.kernel.proofs.replies.on_authenticate.Goals as goal
+use Rattle.kernel.specs.Dialogue.{issuer_scripts}
+use Rattle.kernel.specs.Stages.{authenticating}
+use Rattle.kernel.specs.Trades.{trade_of}
+use Rattle.terminal_state.specs.Marks.{HasAuthenticated}
 
 pub returns-in-Ok-clause-stands : goal.returns-in-Ok-clause-stands
 returns-in-Ok-clause-stands c = λ before now rest stands.

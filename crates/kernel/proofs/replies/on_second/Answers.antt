@@ -1,12 +1,12 @@
 use Rattle.std.proofs.Common.{refl, ◌∷◌, true}
 use Rattle.emv_dict.specs.declared.ending.Step.TheVariants as step
-use Rattle.kernel.specs.Dialogue.{scripts_behind, decision}
-use Rattle.kernel.specs.Marks.{HasSecond}
-use Rattle.kernel.specs.Stages.{generating, behind_if}
 use Rattle.kernel.proofs.Deciding.{ac_given, ac_refused}
 use Rattle.kernel.proofs.Following.{trading_stopped, begins_next}
 use Rattle.kernel.proofs.Taking.{begins_taken}
 use Rattle.kernel.proofs.replies.on_second.Goals as goal
+use Rattle.kernel.specs.Dialogue.{scripts_behind, decision}
+use Rattle.kernel.specs.Stages.{generating, behind_if}
+use Rattle.terminal_state.specs.Marks.{HasSecond}
 
 pub returns-in-Ok-clause-stands : goal.returns-in-Ok-clause-stands
 returns-in-Ok-clause-stands c = λ trade before now rest stands.

@@ -1,11 +1,11 @@
 use Rattle.std.proofs.Common.{◌∷◌, ap, sym, ◌∙◌, arith}
 use Rattle.auth_message.specs.Reply.{ReplyData}
-use Rattle.kernel.specs.Marks.{HasReply}
-use Rattle.kernel.specs.Scripts.{kept}
-use Rattle.kernel.specs.Trades.{trade_of}
 use Rattle.kernel.proofs.Falling.{scripts_bytes}
 use Rattle.kernel.proofs.Hearing.{reply_kept}
 use Rattle.kernel.proofs.replies.take_reply.Goals as goal
+use Rattle.kernel.specs.Trades.{trade_of}
+use Rattle.terminal_state.specs.Marks.{HasReply}
+use Rattle.terminal_state.specs.Scripts.{kept}
 
 pub returns-clause-stands : goal.returns-clause-stands
 returns-clause-stands c = λ marks log rest begins.

@@ -1,9 +1,9 @@
 use Rattle.std.proofs.Common.{◌≡◌, refl, ◌∙◌, ◌∷◌}
-use Rattle.kernel.specs.Dialogue.{Trade, kind_wanted}
-use Rattle.kernel.specs.Marks.{HasAnalysed}
-use Rattle.kernel.specs.Table.{deal_of}
 use Rattle.kernel.proofs.Analysis.{analysed}
 use Rattle.kernel.proofs.trading.analyse.Goals as goal
+use Rattle.kernel.specs.Dialogue.{Trade, kind_wanted}
+use Rattle.terminal_state.specs.Marks.{HasAnalysed}
+use Rattle.terminal_state.specs.Table.{deal_of}
 
 pub begin_first-requires-clause-room : goal.begin_first-requires-clause-room
 begin_first-requires-clause-room c = rw c.has_analysed.ensures.scripts c.requires.room

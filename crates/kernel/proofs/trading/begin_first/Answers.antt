@@ -1,8 +1,8 @@
 use Rattle.std.proofs.Common.{refl, sym}
-use Rattle.kernel.specs.Dialogue.{Trade}
-use Rattle.kernel.specs.Table.{deal_of}
 use Rattle.kernel.proofs.Analysis.{first_unfilled}
 use Rattle.kernel.proofs.trading.begin_first.Goals as goal
+use Rattle.kernel.specs.Dialogue.{Trade}
+use Rattle.terminal_state.specs.Table.{deal_of}
 
 pub returns-else-fill_list-clause-stands : goal.returns-else-fill_list-clause-stands
 returns-else-fill_list-clause-stands c = λ marks log rest begins.

@@ -1,9 +1,9 @@
 use Rattle.std.proofs.Common.{[], ◌∷◌}
-use Rattle.kernel.specs.Dialogue.{Trade}
-use Rattle.kernel.specs.Marks.{HasRead, HasRestricted}
-use Rattle.kernel.specs.Table.{deal_of}
 use Rattle.kernel.proofs.Analysis.{traded}
 use Rattle.kernel.proofs.trading.begin_trading.Goals as goal
+use Rattle.kernel.specs.Dialogue.{Trade}
+use Rattle.terminal_state.specs.Marks.{HasRead, HasRestricted}
+use Rattle.terminal_state.specs.Table.{deal_of}
 
 pub returns-clause-stands : goal.returns-clause-stands
 returns-clause-stands c = λ rest passed.

@@ -1,10 +1,10 @@
 use Rattle.std.proofs.Common.{refl, ◌∷◌}
 use Rattle.emv_dict.specs.declared.ending.Step.TheVariants as step
-use Rattle.kernel.specs.Dialogue.{Trade, analysis}
-use Rattle.kernel.specs.Marks.{HasJudged}
-use Rattle.kernel.specs.Table.{deal_of}
 use Rattle.kernel.proofs.Following.{trading_stopped, begins_next}
 use Rattle.kernel.proofs.trading.judge_next.Goals as goal
+use Rattle.kernel.specs.Dialogue.{Trade, analysis}
+use Rattle.terminal_state.specs.Marks.{HasJudged}
+use Rattle.terminal_state.specs.Table.{deal_of}
 
 pub analyse-requires-clause-room : goal.analyse-requires-clause-room
 analyse-requires-clause-room c = rw c.has_judged.ensures.scripts c.requires.room

@@ -1,12 +1,12 @@
 use Rattle.std.proofs.Common.{refl, [], ◌∷◌}
-use Rattle.risk_mgmt.specs.Asked.{rest_of}
 use Rattle.emv_dict.specs.declared.ending.Step.TheVariants as step
-use Rattle.kernel.specs.Dialogue.{Trade, analysis}
-use Rattle.kernel.specs.Marks.{HasJudged}
-use Rattle.kernel.specs.Table.{deal_of}
-use Rattle.kernel.proofs.Taking.{begins_taken}
 use Rattle.kernel.proofs.NextOf.{judge_shifted}
+use Rattle.kernel.proofs.Taking.{begins_taken}
 use Rattle.kernel.proofs.trading.on_judge.Goals as goal
+use Rattle.kernel.specs.Dialogue.{Trade, analysis}
+use Rattle.risk_mgmt.specs.Asked.{rest_of}
+use Rattle.terminal_state.specs.Marks.{HasJudged}
+use Rattle.terminal_state.specs.Table.{deal_of}
 
 pub returns-clause-stands : goal.returns-clause-stands
 returns-clause-stands c = λ before now rest stands.

@@ -1,12 +1,12 @@
 use Rattle.std.proofs.Common.{refl, [], ◌∷◌}
 use Rattle.cvm_list.specs.Waiting.{rest_of}
 use Rattle.emv_dict.specs.declared.ending.Step.TheVariants as step
-use Rattle.kernel.specs.Dialogue.{Trade, risk}
-use Rattle.kernel.specs.Marks.{HasVerified}
-use Rattle.kernel.specs.Table.{deal_of}
-use Rattle.kernel.proofs.Taking.{begins_taken}
 use Rattle.kernel.proofs.NextOf.{verify_shifted}
+use Rattle.kernel.proofs.Taking.{begins_taken}
 use Rattle.kernel.proofs.trading.on_verify.Goals as goal
+use Rattle.kernel.specs.Dialogue.{Trade, risk}
+use Rattle.terminal_state.specs.Marks.{HasVerified}
+use Rattle.terminal_state.specs.Table.{deal_of}
 
 pub returns-clause-stands : goal.returns-clause-stands
 returns-clause-stands c = λ before rest stands.

@@ -1,10 +1,10 @@
 use Rattle.std.proofs.Common.{refl, ◌∷◌}
 use Rattle.emv_dict.specs.declared.ending.Step.TheVariants as step
-use Rattle.kernel.specs.Dialogue.{Trade, risk}
-use Rattle.kernel.specs.Marks.{HasVerified}
-use Rattle.kernel.specs.Table.{deal_of}
 use Rattle.kernel.proofs.Following.{trading_stopped, begins_next}
 use Rattle.kernel.proofs.trading.verify_next.Goals as goal
+use Rattle.kernel.specs.Dialogue.{Trade, risk}
+use Rattle.terminal_state.specs.Marks.{HasVerified}
+use Rattle.terminal_state.specs.Table.{deal_of}
 
 pub begin_risk-requires-clause-room : goal.begin_risk-requires-clause-room
 begin_risk-requires-clause-room c = rw c.has_verified.ensures.scripts c.requires.room

@@ -3,17 +3,17 @@ use Rattle.emv_dict.specs.declared.purchase.Logged.{Logged}
 use Rattle.kernel.specs.Dialogue.{dialogue}
 use Rattle.kernel.specs.Kernel.{KernelStands, told_bytes}
 use Rattle.kernel.specs.Reply.{Reply, CardSaid, CardGone}
-use Rattle.kernel.specs.Terminal.{Deal}
 use Rattle.report_text.specs.declared.line.Line.{Line}
+use Rattle.terminal_state.specs.Terminal.{Deal}
+use Rattle.txn_replay.proofs.Endings.{runs_as}
+use Rattle.txn_replay.proofs.Exchanges.{lane_on, answered_part, asked_answered, runs_on, gone_moved, gone_counted}
+use Rattle.txn_replay.proofs.exchange.ask_card.Goals as goal
 use Rattle.txn_replay.specs.Called.{IsAnswered, IsGone, no_answer_lines}
 use Rattle.txn_replay.specs.Lines.{answer_lines, end_line}
 use Rattle.txn_replay.specs.Part.{Part, Moved, settled}
 use Rattle.txn_replay.specs.Payment.{deal_for}
 use Rattle.txn_replay.specs.Slot.{IsSlotOf}
 use Rattle.txn_replay.specs.Standing.{MovedTo, IsCounted, seen_payment}
-use Rattle.txn_replay.proofs.Endings.{runs_as}
-use Rattle.txn_replay.proofs.Exchanges.{lane_on, answered_part, asked_answered, runs_on, gone_moved, gone_counted}
-use Rattle.txn_replay.proofs.exchange.ask_card.Goals as goal
 
 pub returns-in-Ok-clause-moved : goal.returns-in-Ok-clause-moved
 returns-in-Ok-clause-moved g c = λ issuer accounts replies part runs.

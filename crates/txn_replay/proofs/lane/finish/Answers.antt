@@ -9,15 +9,15 @@ use Rattle.kernel.specs.Ended.{EndData, end_of}
 use Rattle.kernel.specs.Kernel.{deal_in}
 use Rattle.kernel.specs.Shown.{EndShown, shown}
 use Rattle.kernel.specs.Tally.{raised}
-use Rattle.kernel.specs.Terminal.{Deal}
+use Rattle.terminal_state.specs.Terminal.{Deal}
+use Rattle.txn_replay.proofs.Endings.{last_past-push, some_shown, runs_as, rests_as}
+use Rattle.txn_replay.proofs.lane.finish.Goals as goal
 use Rattle.txn_replay.specs.Lines.{end_line}
 use Rattle.txn_replay.specs.Part.{approval}
 use Rattle.txn_replay.specs.Payment.{end_at}
 use Rattle.txn_replay.specs.Reading.{past_card}
 use Rattle.txn_replay.specs.Standing.{seen_payment}
 use Rattle.txn_replay.specs.World.{Past}
-use Rattle.txn_replay.proofs.Endings.{last_past-push, some_shown, runs_as, rests_as}
-use Rattle.txn_replay.proofs.lane.finish.Goals as goal
 
 pub returns-clause-stands : goal.returns-clause-stands
 returns-clause-stands c = λ issuer accounts replies row stands.

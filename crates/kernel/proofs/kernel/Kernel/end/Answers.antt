@@ -1,13 +1,13 @@
 use Rattle.std.proofs.Common.{◌≡◌, length, sym, ap, ◌∙◌, Some, option_map}
 use Rattle.std.specs.declared.option.Option.{Option}
+use Rattle.kernel.proofs.Finishing.{kernel_ends, kernel_stays, raised_taken, ends_with_card, nothing_captured}
+use Rattle.kernel.proofs.kernel.Kernel.end.Goals as goal
 use Rattle.kernel.specs.Ended.{EndData, end_with}
 use Rattle.kernel.specs.Kernel.{KernelData, deal_in, next_of}
-use Rattle.kernel.specs.Marks.{MomentData}
 use Rattle.kernel.specs.Shown.{EndShown, shown}
 use Rattle.kernel.specs.Tally.{raised}
 use Rattle.object_lists.specs.CardRead.{ReadCard}
-use Rattle.kernel.proofs.Finishing.{kernel_ends, kernel_stays, raised_taken, ends_with_card, nothing_captured}
-use Rattle.kernel.proofs.kernel.Kernel.end.Goals as goal
+use Rattle.terminal_state.specs.Marks.{MomentData}
 
 pub returns-clause-ends : goal.returns-clause-ends
 returns-clause-ends c =

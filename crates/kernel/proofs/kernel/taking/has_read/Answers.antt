@@ -1,10 +1,10 @@
 use Rattle.std.proofs.Common.{◌≡◌, List, Some, option_map, sym, ap, ◌∙◌, subst}
 use Rattle.std.proofs.lemmas.Option.{same_Some}
-use Rattle.object_lists.specs.CardRead.{ReadCard, card_of}
+use Rattle.kernel.proofs.kernel.taking.has_read.Goals as goal
 use Rattle.kernel.specs.Dialogue.{restrictions}
 use Rattle.kernel.specs.Reply.{Reply}
-use Rattle.kernel.specs.Table.{deal_of}
-use Rattle.kernel.proofs.kernel.taking.has_read.Goals as goal
+use Rattle.object_lists.specs.CardRead.{ReadCard, card_of}
+use Rattle.terminal_state.specs.Table.{deal_of}
 
 pub returns-clause-stands : goal.returns-clause-stands
 returns-clause-stands c = λ rest passed.

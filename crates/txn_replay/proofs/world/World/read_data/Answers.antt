@@ -1,14 +1,14 @@
 use Rattle.std.proofs.Common.{◌≡◌, ◌<◌, List, None, length, map, sym, ap, ◌∙◌, subst, arith}
+use Rattle.std.specs.Prelude.{option_map}
 use Rattle.kernel.specs.Dialogue.{dialogue}
 use Rattle.kernel.specs.Kernel.{KernelData, KernelStands, deal_in}
-use Rattle.kernel.specs.Marks.{latest, card_of}
 use Rattle.kernel.specs.Reply.{Reply}
-use Rattle.txn_replay.specs.Seen.{WorldSeen, WorldStands}
-use Rattle.std.specs.Prelude.{option_map}
-use Rattle.txn_replay.specs.Reading.{data_at}
+use Rattle.terminal_state.specs.Marks.{latest, card_of}
 use Rattle.txn_replay.proofs.Lists.{found_at}
 use Rattle.txn_replay.proofs.Values.{rests_data, told_data}
 use Rattle.txn_replay.proofs.world.World.read_data.Goals as goal
+use Rattle.txn_replay.specs.Reading.{data_at}
+use Rattle.txn_replay.specs.Seen.{WorldSeen, WorldStands}
 
 pub returns-in-Some : goal.returns-in-Some
 returns-in-Some g c = λ w stands.

@@ -1,5 +1,5 @@
-use Rattle.kernel.proofs.Putting.{put_last}
-use Rattle.kernel.proofs.terminal.add_last.Goals as goal
+use Rattle.terminal_state.proofs.Putting.{put_last}
+use Rattle.terminal_state.proofs.terminal.add_last.Goals as goal
 
 pub unreachable-requires : goal.unreachable-requires
 unreachable-requires c =

@@ -1,7 +1,7 @@
 -- What was dealt, as it lies on the terminal's table.
 use Rattle.emv_dict.specs.Settings.{IsSettings, IsPurchase}
-use Rattle.kernel.specs.Terminal.{Deal}
-use Rattle.kernel.specs.declared.table.Table.{Table}
+use Rattle.terminal_state.specs.Terminal.{Deal}
+use Rattle.terminal_state.specs.declared.table.Table.{Table}
 
 abbrev pub deal_of : Table → Deal
 deal_of t = record { settings = t.settings.now; purchase = t.purchase.now }

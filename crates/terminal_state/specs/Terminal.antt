@@ -1,12 +1,12 @@
 -- The data objects that a terminal gives to the object lists of a card (EMV 4.3 Book 3 Annex A).
 use Rattle.std.specs.Prelude.{ℕ, List, [], ◌∷◌, ◌++◌, Option, Some, None}
+use Rattle.std.specs.Int.{to_be_bytes, w16}
 use Rattle.emv_dict.specs.Bcd.{numeric, two_digits}
 use Rattle.emv_dict.specs.Flags.{tvr_bytes}
-use Rattle.std.specs.Int.{to_be_bytes, w16}
 use Rattle.emv_dict.specs.Views.{SettingsData, PurchaseData}
 use Rattle.emv_dict.specs.declared.purchase.AidRow.{AidRow}
 use Rattle.env_map.specs.Entries.{Entries}
-use Rattle.kernel.specs.Marks.{MomentData}
+use Rattle.terminal_state.specs.Marks.{MomentData}
 
 -- a terminal with its settings, and a purchase that it is asked for
 pub record Deal : Type 0 where

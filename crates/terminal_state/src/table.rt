@@ -1,8 +1,8 @@
 //! What lies on the terminal's table while a dialogue goes on: what was dealt, what is known, and the
 //! buffers that are lent to the steps.
 ghost use Rattle.std.specs.Prelude.{◌≡◌, []};
-ghost use Rattle.kernel.specs.Marks.{moment};
-ghost use Rattle.kernel.specs.Table.{deal_of};
+ghost use Rattle.terminal_state.specs.Marks.{moment};
+ghost use Rattle.terminal_state.specs.Table.{deal_of};
 
 use crate::moment::{IssuerData, Moment};
 use apdu_core::Out;
@@ -14,7 +14,7 @@ use std::marker::Model;
 
 /// The host's reply, kept for the steps behind it.
 #[derive(Drop)]
-pub(crate) struct HostReply {
+pub struct HostReply {
     /// The authorisation response code (8A).
     pub code: [u8; 2],
     /// The issuer authentication data (91).
@@ -31,14 +31,14 @@ impl Model for HostReply {
 
     ghost view = { λ r. record { code = r.code; auth = option_map (λ value. value.items) r.issuer_data; scripts = r.scripts.items } };
 
-    ghost use Rattle.kernel.specs.Scripts.{AreFew};
+    ghost use Rattle.terminal_state.specs.Scripts.{AreFew};
 
     ghost invariant = { λ r. AreFew r.scripts.items };
 }
 
 /// The table.
 #[derive(Drop)]
-pub(crate) struct Table<'s> {
+pub struct Table<'s> {
     pub settings: &'s Settings,
     pub purchase: &'s Purchase,
     pub candidates: Candidates<'s>,
@@ -50,7 +50,7 @@ pub(crate) struct Table<'s> {
 
 impl<'s> Table<'s> {
     /// The table for another dialogue. The command stays until the next one is asked.
-    pub(crate) fn clear_for(&mut self, settings: &'s Settings, purchase: &'s Purchase)
+    pub fn clear_for(&mut self, settings: &'s Settings, purchase: &'s Purchase)
         ensures deal { deal_of self.new ≡ record { settings = settings.now; purchase = purchase.now } }
         ensures candidates { self.new.candidates ≡ [] }
         ensures moment { self.new.moment ≡ moment [] }
@@ -67,7 +67,7 @@ impl<'s> Table<'s> {
 
 impl HostReply {
     /// No reply.
-    pub(crate) fn none() -> HostReply
+    pub fn none() -> HostReply
         ensures { result.scripts ≡ [] }
     {
         HostReply {

@@ -2,7 +2,7 @@
 ghost use Rattle.std.specs.Prelude.{◌≡◌, ◌≤◌, ◌<◌, [], ◌∷◌, ◌++◌, length, option_map};
 ghost use Rattle.std.specs.List.{AllByRecursion};
 ghost use Rattle.emv_dict.specs.Settings.{IsSettings, IsPurchase};
-ghost use Rattle.kernel.specs.Terminal.{terminal_objects, lasting_objects, if_there};
+ghost use Rattle.terminal_state.specs.Terminal.{terminal_objects, lasting_objects, if_there};
 
 use crate::moment::{IssuerData, Moment};
 use ber_tlv::Tag;
@@ -11,7 +11,7 @@ use env_map::Env;
 
 /// Puts the terminal's objects in this application at this moment, in place of what the map held.
 #[tactic(auto, unfolding(crate::specs::Terminal::terminal_objects))]
-pub(crate) fn put_terminal(
+pub fn put_terminal(
     env: &mut Env,
     settings: &Settings,
     purchase: &Purchase,

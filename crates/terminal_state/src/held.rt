@@ -11,7 +11,7 @@ use std::mem;
 /// The card's data, where reading is finished. Where they are let go their place stays as it is, since it has
 /// 20 KB to clear.
 #[derive(Drop)]
-pub(crate) struct HeldCard {
+pub struct HeldCard {
     card: Option<CardData>,
     is_held: bool,
 }
@@ -27,7 +27,7 @@ impl Model for HeldCard {
 
 impl HeldCard {
     /// No data.
-    pub(crate) fn none() -> HeldCard
+    pub fn none() -> HeldCard
         ensures { result ≡ None }
     {
         HeldCard {
@@ -37,7 +37,7 @@ impl HeldCard {
     }
 
     /// The data.
-    pub(crate) fn get(&self) -> Option<&CardData>
+    pub fn get(&self) -> Option<&CardData>
         ensures { option_map (λ card. card.now) result ≡ self.now }
     {
         if self.is_held {
@@ -48,7 +48,7 @@ impl HeldCard {
     }
 
     /// Keeps what these objects make.
-    pub(crate) fn keep(&mut self, objects: &mut Env)
+    pub fn keep(&mut self, objects: &mut Env)
         requires { HasForms objects.old }
         ensures { self.new ≡ Some (card_of objects.old) }
     {
@@ -57,14 +57,14 @@ impl HeldCard {
     }
 
     /// Lets the data go.
-    pub(crate) fn let_go(&mut self)
+    pub fn let_go(&mut self)
         ensures { self.new ≡ None }
     {
         self.is_held = false;
     }
 
     /// Gives the data.
-    pub(crate) fn into_data(self) -> Option<CardData>
+    pub fn into_data(self) -> Option<CardData>
         ensures { result ≡ self }
     {
         if self.is_held { self.card } else { None }

@@ -1,24 +1,21 @@
 //! What a terminal holds at a moment of the dialogue (EMV 4.3 Book 3 Annexes C5 and C6, Book 4 Annex A6).
 ghost use Rattle.std.specs.Prelude.{◌≡◌, ◌+◌, [], ◌∷◌, ◌<◌, ◌≤◌, ℕ, List, length, option_map, IfSome, Some, not};
 ghost use Rattle.emv_dict.specs.Digits.{HasPinLength};
-ghost use Rattle.kernel.specs.Marks.{Mark, HasRead, HasRestricted, HasVerified, HasJudged, HasAnalysed, HasFirst, HasReply, WasUnable, HasAuthenticated, HasRunBefore, HasSecond, HasRunBehind, moment, offline_code as spec_offline, unable_code as spec_unable, is_whole as whole_test, bits_if, sound_pin as sound};
 ghost use Rattle.object_lists.specs.CardRead.{ReadCard};
+ghost use Rattle.terminal_state.specs.Marks.{Mark, HasRead, HasRestricted, HasVerified, HasJudged, HasAnalysed, HasFirst, HasReply, WasUnable, HasAuthenticated, HasRunBefore, HasSecond, HasRunBehind, moment, offline_code as spec_offline, unable_code as spec_unable, is_whole as whole_test, bits_if, sound_pin as sound};
 
 use arrayvec::ArrayVec;
 use auth_message::Reply;
 use ber_tlv::append;
-use cvm_list::Verified;
-use emv_dict::{Digits, Kind, Tsi, Tvr, is_pin_length};
-use online_step::Ac;
-use risk_mgmt::Judged;
+use emv_dict::{Ac, Digits, Judged, Kind, Tsi, Tvr, Verified, is_pin_length};
 use std::marker::Model;
 
 /// The issuer authentication data (91): 8 to 16 bytes.
-pub(crate) type IssuerData = ArrayVec<u8, 16>;
+pub type IssuerData = ArrayVec<u8, 16>;
 
 /// What the steps that are finished leave.
 #[derive(Drop)]
-pub(crate) struct Moment {
+pub struct Moment {
     /// The terminal verification results (95) and the transaction status information (9B).
     pub tvr: Tvr,
     pub tsi: Tsi,
@@ -44,7 +41,7 @@ pub(crate) struct Moment {
 
 impl Model for Moment {
     ghost use Rattle.std.specs.Prelude.{option_map};
-    ghost use Rattle.kernel.specs.Marks.{MomentData};
+    ghost use Rattle.terminal_state.specs.Marks.{MomentData};
 
     ghost Value = { MomentData };
 
@@ -71,7 +68,7 @@ impl Model for Moment {
 
 impl Moment {
     /// Before any step is finished.
-    pub(crate) fn new() -> Moment
+    pub fn new() -> Moment
         ensures { result ≡ moment [] }
     {
         Moment {
@@ -91,7 +88,7 @@ impl Moment {
     }
 
     /// The PIN that goes to the issuer.
-    pub(crate) fn pin(&self) -> Option<&Digits>
+    pub fn pin(&self) -> Option<&Digits>
         ensures pin { option_map (λ digits. digits.now) result ≡ self.now.pin }
         ensures length { IfSome result (λ digits. HasPinLength digits.now) }
     {
@@ -99,28 +96,30 @@ impl Moment {
     }
 
     /// The card's last cryptogram.
-    pub(crate) fn last(&self) -> Option<&Ac>
+    pub fn last(&self) -> Option<&Ac>
         ensures { option_map (λ ac. ac.now) result ≡ self.now.last }
     {
         self.last.as_ref()
     }
 
     /// The card is read: without offline data authentication.
-    pub(crate) fn has_read(&mut self)
+    pub fn has_read(&mut self)
         ensures marks { (marks : List Mark) (card : ReadCard) → self.old ≡ moment marks → self.new ≡ moment (HasRead card ∷ marks) }
         ensures scripts { self.new.scripts ≡ self.old.scripts }
     {
         self.tvr = Tvr(self.tvr.0 | Tvr::OFFLINE_DATA_AUTHENTICATION_NOT_PERFORMED.0);
     }
 
-    pub(crate) fn has_restricted(&mut self, bits: Tvr)
+    /// The processing restrictions are looked at, and these flags found.
+    pub fn has_restricted(&mut self, bits: Tvr)
         ensures marks { (marks : List Mark) → self.old ≡ moment marks → self.new ≡ moment (HasRestricted bits.0 ∷ marks) }
         ensures scripts { self.new.scripts ≡ self.old.scripts }
     {
         self.tvr = Tvr(self.tvr.0 | bits.0);
     }
 
-    pub(crate) fn has_verified(&mut self, verified: Verified)
+    /// Cardholder verification is finished.
+    pub fn has_verified(&mut self, verified: Verified)
         ensures marks { (marks : List Mark) → self.old ≡ moment marks → self.new ≡ moment (HasVerified verified ∷ marks) }
         ensures scripts { self.new.scripts ≡ self.old.scripts }
     {
@@ -135,7 +134,8 @@ impl Moment {
         self.pin = sound_pin(online_pin);
     }
 
-    pub(crate) fn has_judged(&mut self, judged: Judged)
+    /// Terminal risk management is finished.
+    pub fn has_judged(&mut self, judged: Judged)
         ensures marks { (marks : List Mark) → self.old ≡ moment marks → self.new ≡ moment (HasJudged judged ∷ marks) }
         ensures scripts { self.new.scripts ≡ self.old.scripts }
     {
@@ -143,7 +143,8 @@ impl Moment {
         self.tsi = Tsi(self.tsi.0 | tsi_if(judged.performed, Tsi::TERMINAL_RISK_MANAGEMENT));
     }
 
-    pub(crate) fn has_analysed(&mut self, wanted: Kind)
+    /// Terminal action analysis asks the card for this kind of cryptogram.
+    pub fn has_analysed(&mut self, wanted: Kind)
         ensures marks { (marks : List Mark) → self.old ≡ moment marks → self.new ≡ moment (HasAnalysed wanted ∷ marks) }
         ensures scripts { self.new.scripts ≡ self.old.scripts }
     {
@@ -151,7 +152,8 @@ impl Moment {
         self.code = offline_code(wanted);
     }
 
-    pub(crate) fn has_first(&mut self, ac: Ac)
+    /// The card has answered the first GENERATE AC.
+    pub fn has_first(&mut self, ac: Ac)
         ensures marks { (marks : List Mark) → self.old ≡ moment marks → self.new ≡ moment (HasFirst ac ∷ marks) }
         ensures last { self.new.last ≡ Some ac }
         ensures scripts { self.new.scripts ≡ self.old.scripts }
@@ -162,7 +164,9 @@ impl Moment {
         self.last = Some(ac);
     }
 
-    pub(crate) fn has_reply(&mut self, reply: &Reply)
+    /// The host's reply is read: its authorisation response code, and its issuer authentication data of at
+    /// most 16 bytes.
+    pub fn has_reply(&mut self, reply: &Reply)
         requires { IfSome reply.now.auth (λ value. length value ≤ 16) }
         ensures marks { (marks : List Mark) → self.old ≡ moment marks → self.new ≡ moment (HasReply reply.now ∷ marks) }
         ensures scripts { self.new.scripts ≡ self.old.scripts }
@@ -172,7 +176,9 @@ impl Moment {
         self.is_open = reply.code == *b"00";
     }
 
-    pub(crate) fn was_unable(&mut self, sent: bool, wanted: Kind)
+    /// The terminal was unable to go online, behind a request that was `sent` or without one, and asks for
+    /// this kind of cryptogram.
+    pub fn was_unable(&mut self, sent: bool, wanted: Kind)
         ensures marks { (marks : List Mark) → self.old ≡ moment marks → self.new ≡ moment (WasUnable sent wanted ∷ marks) }
         ensures scripts { self.new.scripts ≡ self.old.scripts }
     {
@@ -180,7 +186,8 @@ impl Moment {
         self.is_open = sent;
     }
 
-    pub(crate) fn has_authenticated(&mut self, good: bool)
+    /// The card has answered EXTERNAL AUTHENTICATE, and found the issuer's cryptogram `good` or not.
+    pub fn has_authenticated(&mut self, good: bool)
         ensures marks { (marks : List Mark) → self.old ≡ moment marks → self.new ≡ moment (HasAuthenticated good ∷ marks) }
         ensures scripts { self.new.scripts ≡ self.old.scripts }
     {
@@ -188,7 +195,9 @@ impl Moment {
         self.tsi = Tsi(self.tsi.0 | Tsi::ISSUER_AUTHENTICATION.0);
     }
 
-    pub(crate) fn has_run_before(&mut self, script: [u8; 5])
+    /// A script of the reply has run before the second GENERATE AC, with this result: the digit of its last
+    /// command, and its identifier (EMV 4.3 Book 4 Annex A5).
+    pub fn has_run_before(&mut self, script: [u8; 5])
         requires { length self.old.scripts < 8 }
         ensures marks { (marks : List Mark) → self.old ≡ moment marks → self.new ≡ moment (HasRunBefore script ∷ marks) }
         ensures scripts { length self.new.scripts ≡ length self.old.scripts + 1 }
@@ -199,7 +208,8 @@ impl Moment {
         self.scripts.push(script);
     }
 
-    pub(crate) fn has_second(&mut self, ac: Ac)
+    /// The card has answered the second GENERATE AC.
+    pub fn has_second(&mut self, ac: Ac)
         ensures marks { (marks : List Mark) → self.old ≡ moment marks → self.new ≡ moment (HasSecond ac ∷ marks) }
         ensures scripts { self.new.scripts ≡ self.old.scripts }
     {
@@ -207,7 +217,8 @@ impl Moment {
         self.last = Some(ac);
     }
 
-    pub(crate) fn has_run_behind(&mut self, script: [u8; 5])
+    /// A script of the reply has run behind the second GENERATE AC, with this result.
+    pub fn has_run_behind(&mut self, script: [u8; 5])
         requires { length self.old.scripts < 8 }
         ensures marks { (marks : List Mark) → self.old ≡ moment marks → self.new ≡ moment (HasRunBehind script ∷ marks) }
         ensures scripts { length self.new.scripts ≡ length self.old.scripts + 1 }
@@ -274,7 +285,7 @@ fn unable_code(kind: Kind) -> [u8; 2]
 }
 
 /// A copy of the issuer authentication data.
-pub(crate) fn kept(given: Option<&[u8]>) -> Option<IssuerData>
+pub fn kept(given: Option<&[u8]>) -> Option<IssuerData>
     requires { IfSome given (λ value. length value.now ≤ 16) }
     ensures { option_map (λ value. value.items) result ≡ option_map (λ value. value.now) given.entry }
 {

@@ -1,7 +1,7 @@
 use Rattle.std.proofs.Common.{◌≡◌, ◌≤◌, ◌-◌, length, IsOk, slice_get}
 use Rattle.ber_tlv.specs.Left.{items_behind, items_of}
-use Rattle.kernel.specs.Scripts.{with_tag}
-use Rattle.kernel.proofs.scripts.template_at.Given as goal
+use Rattle.terminal_state.proofs.scripts.template_at.Given as goal
+use Rattle.terminal_state.specs.Scripts.{with_tag}
 
 abbrev pub invariant-loop-item : goal.invariant-loop-item
 invariant-loop-item l = record {

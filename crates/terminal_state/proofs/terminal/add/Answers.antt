@@ -1,5 +1,5 @@
-use Rattle.kernel.proofs.Putting.{put_first}
-use Rattle.kernel.proofs.terminal.add.Goals as goal
+use Rattle.terminal_state.proofs.Putting.{put_first}
+use Rattle.terminal_state.proofs.terminal.add.Goals as goal
 
 pub unreachable-requires : goal.unreachable-requires
 unreachable-requires c =

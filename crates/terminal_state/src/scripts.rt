@@ -1,13 +1,13 @@
 //! The script templates of a reply (EMV 4.3 Book 3 section 10.10).
 ghost use Rattle.std.specs.Prelude.{◌≡◌, ◌≤◌, length, option_map, slice_get, IsOk};
 ghost use Rattle.ber_tlv.specs.Left.{items_behind, items_of};
-ghost use Rattle.kernel.specs.Scripts.{templates};
+ghost use Rattle.terminal_state.specs.Scripts.{templates};
 
 use ber_tlv::{Cursor, Tag};
 
 /// The template of this tag that has so many of it before it, counted from 0.
 #[tactic(auto, unfolding(crate::specs::Scripts::templates))]
-pub(crate) fn template_at(scripts: &[u8], tag: Tag, index: usize) -> Option<&[u8]>
+pub fn template_at(scripts: &[u8], tag: Tag, index: usize) -> Option<&[u8]>
     requires { IsOk (items_of scripts.now) }
     ensures template { option_map (λ value. value.now) result ≡ slice_get (templates tag.0 scripts.now) index }
 {

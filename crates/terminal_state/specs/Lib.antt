@@ -1,0 +1,4 @@
+pub mod Marks
+pub mod Terminal
+pub mod Scripts
+pub mod Table
