@@ -68,22 +68,24 @@ fn second_byte(
     second
 }
 
-/// Usage controls, and whether they allow (y) or refuse (n) each use, as other implementations say:
-/// goods, services, cash, goods with cashback and services with cashback, each at home and abroad.
+/// A kind of transaction, whether it is for services, and the issuer's country: goods, services, cash,
+/// goods with cashback and services with cashback, each at home and abroad.
+const USES: [(u8, bool, [u8; 2]); 10] = [
+    (0x00, false, [0x08, 0x40]),
+    (0x00, false, [0x09, 0x78]),
+    (0x00, true, [0x08, 0x40]),
+    (0x00, true, [0x09, 0x78]),
+    (0x01, false, [0x08, 0x40]),
+    (0x01, false, [0x09, 0x78]),
+    (0x09, false, [0x08, 0x40]),
+    (0x09, false, [0x09, 0x78]),
+    (0x09, true, [0x08, 0x40]),
+    (0x09, true, [0x09, 0x78]),
+];
+
+/// Usage controls, and whether they allow (y) or refuse (n) each use, as other implementations say.
 #[test]
 fn usage_controls_allow_what_they_name(rt: HostRuntime) {
-    let uses: [(u8, bool, [u8; 2]); 10] = [
-        (0x00, false, [0x08, 0x40]),
-        (0x00, false, [0x09, 0x78]),
-        (0x00, true, [0x08, 0x40]),
-        (0x00, true, [0x09, 0x78]),
-        (0x01, false, [0x08, 0x40]),
-        (0x01, false, [0x09, 0x78]),
-        (0x09, false, [0x08, 0x40]),
-        (0x09, false, [0x09, 0x78]),
-        (0x09, true, [0x08, 0x40]),
-        (0x09, true, [0x09, 0x78]),
-    ];
     let rows: [([u8; 2], &[u8]); 13] = [
         ([0x00, 0x00], b"nn"),
         ([0x01, 0x40], b"nn"),
@@ -100,7 +102,7 @@ fn usage_controls_allow_what_they_name(rt: HostRuntime) {
         ([0xff, 0xc0], b"yy"),
     ];
     for (usage, answers) in rows {
-        for ((trade, services, country), answer) in uses.iter().zip(answers) {
+        for ((trade, services, country), answer) in USES.iter().zip(answers) {
             let purchase = purchase(&rt, *trade, *services, [0x24, 0x06, 0x15]);
             let objects: [(u32, &[u8]); 2] = [(0x9f07, &usage), (0x5f28, country)];
             let refused = second_byte(&rt, &objects, &purchase) == 0x10;
