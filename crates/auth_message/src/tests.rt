@@ -82,6 +82,8 @@ fn the_first_fault_is_told(rt: HostRuntime) {
     assert!(rt; fault(&[0xE2, 0x04, 0x8A, 0x02, 0x30, 0x30]) == Some(MessageFault::Coding(0)));
     assert!(rt; fault(&[]) == Some(MessageFault::Coding(0)));
     assert!(rt; fault(&[0xE4, 0x00, 0xE4, 0x00]) == Some(MessageFault::Coding(2)));
+    // A cut object within an outer one of another tag: faults of the coding come first.
+    assert!(rt; fault(&[0xE5, 0x02, 0x9F, 0x02]) == Some(MessageFault::Coding(2)));
     assert!(rt; fault(&[0xE4, 0x00]) == Some(MessageFault::Missing(Tag(0x9F1C))));
     assert!(rt; fault(&REVERSAL_TOO_LONG) == Some(MessageFault::Coding(0)));
     assert!(rt; fault(&REVERSAL_WITHOUT_CURRENCY) == Some(MessageFault::Missing(Tag(0x5F2A))));
