@@ -1,7 +1,11 @@
-ghost use Rattle.std.specs.Prelude.{◌≡◌, ℕ, ◌<◌, length, IfOk};
+ghost use Rattle.std.specs.Prelude.{◌≡◌, ℕ, ◌<◌, length, IfOk, OnErr, IsErr, Ok, MatchResult};
 ghost use Rattle.std.specs.declared.option.Option.{Option};
+ghost use Rattle.std.specs.Io.{ReadsAtMost};
+ghost use Rattle.std.specs.Io.KnownBytes.{ReadConsumes};
+ghost use Rattle.emv_ports.specs.Causes.{HasCause, one_more};
 
 use crate::{Failed, Sink, Source};
+use std::io;
 use std::io::{Read, Write};
 
 /// A source over standard input, or any reader. It tells what is left only where the reader does.
@@ -19,6 +23,23 @@ impl<R: Read + Drop> StdinSource<R> {
     {
         StdinSource { reader, faults: 0 }
     }
+
+    /// What a read is answered with. The reader's count is passed on, 0 at its end too: only the reader's
+    /// own error is a fault.
+    fn answered(&mut self, given: io::Result<usize>) -> Result<usize, Failed>
+        ensures exact { MatchResult given (λ count. result ≡ Ok count) (λ _. IsErr result) }
+        ensures reader { self.new.reader ≡ self.old.reader }
+        ensures cause { HasCause self.old.faults self.new.faults result }
+        ensures raised { OnErr result (self.new.faults ≡ one_more self.old.faults) }
+    {
+        match given {
+            Ok(count) => Ok(count),
+            Err(_) => {
+                self.faults = self.faults.saturating_add(1);
+                Err(Failed)
+            }
+        }
+    }
 }
 
 impl<R: Read + Drop> Source for StdinSource<R> {
@@ -26,14 +47,15 @@ impl<R: Read + Drop> Source for StdinSource<R> {
 
     ghost faults = { λ s. s.faults };
 
-    fn read(&mut self, out: &mut [u8]) -> Result<usize, Failed> {
-        match self.reader.read(out) {
-            Ok(count) => Ok(count),
-            Err(_) => {
-                self.faults = self.faults.saturating_add(1);
-                Err(Failed)
-            }
-        }
+    fn read(&mut self, out: &mut [u8]) -> Result<usize, Failed>
+        ensures bound { ReadsAtMost result out.new }
+        ensures bytes { ReadConsumes (R.remaining self.old.reader) (R.remaining self.new.reader) result out.new }
+        ensures cause { HasCause self.old.faults self.new.faults result }
+        // A fault counts once.
+        ensures raised { OnErr result (self.new.faults ≡ one_more self.old.faults) }
+    {
+        let given = self.reader.read(out);
+        self.answered(given)
     }
 }
 

@@ -110,6 +110,19 @@ fn the_adapters_pass_bytes_through(rt: HostRuntime) -> Result<(), Fail> {
 }
 
 #[test]
+fn a_reader_is_read_to_its_end(rt: HostRuntime) -> Result<(), Fail> {
+    let alloc = rt.alloc();
+    let input = b"abc".to_vec(alloc)?;
+    let mut source = StdinSource::new(input.as_slice());
+    let mut out = [0u8; 2];
+    for (count, front) in [(2, *b"ab"), (1, *b"cb"), (0, *b"cb"), (0, *b"cb")] {
+        assert_eq!(rt; source.read(&mut out), Ok(count));
+        assert_eq!(rt; out, front);
+    }
+    Ok(())
+}
+
+#[test]
 fn held_pages_are_the_pages_within(rt: HostRuntime) -> Result<(), Fail> {
     let mut held = Held::new(rt.alloc(), MemoryPages::blank())?;
     held.power_up();

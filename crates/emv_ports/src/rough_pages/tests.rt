@@ -1,5 +1,6 @@
 use super::*;
 use crate::TearAt;
+use std::process::Abort;
 use std::test::Fail;
 
 const OLD: [u8; 64] = [0xaa; 64];
@@ -13,9 +14,8 @@ fn half_new() -> [u8; 64] {
     page
 }
 
-/// The word is 18 * 256 + 52. Page 7 adds 49 to it, power-up 3 adds 93: cell i gives 194 + i.
-#[test]
-fn the_unsure_cells_of_a_torn_page_give_rough_bytes(rt: HostRuntime) -> Result<(), Fail> {
+/// Pages of the word 18 * 256 + 52 after two power-ups: page 7 was written, and then its write was torn.
+fn torn(rt: &impl Abort) -> Result<RoughPages, Fail> {
     let mut pages = RoughPages::blank(4660);
     pages.power_up();
     assert_eq!(rt; pages.read(7), [0; 64]);
@@ -23,8 +23,6 @@ fn the_unsure_cells_of_a_torn_page_give_rough_bytes(rt: HostRuntime) -> Result<(
     assert_eq!(rt; pages.write(7, &OLD), Ok(()));
     assert_eq!(rt; pages.release(), Ok(()));
     pages.power_off();
-
-    // Power-up 2: the write is torn.
     pages.plan(Some(Tear {
         commit: 1,
         at: TearAt::Within(1),
@@ -33,6 +31,13 @@ fn the_unsure_cells_of_a_torn_page_give_rough_bytes(rt: HostRuntime) -> Result<(
     assert_eq!(rt; pages.read(7), OLD);
     pages.mark();
     assert_eq!(rt; pages.write(7, &half_new()), Err(Gone));
+    Ok(pages)
+}
+
+/// Page 7 adds 49 to the word, and power-up 3 adds 93: cell i gives 194 + i.
+#[test]
+fn the_unsure_cells_of_a_torn_page_give_rough_bytes(rt: HostRuntime) -> Result<(), Fail> {
+    let mut pages = torn(&rt)?;
 
     // Power-up 3: cells 32 to 61 give 226 to 255, and the last two 0 and 1, until it is over.
     pages.power_up();
