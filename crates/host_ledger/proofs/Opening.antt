@@ -1,6 +1,7 @@
 -- One more account is opened, or stands twice.
-use Rattle.std.proofs.Common.{◌≡◌, ℕ, ◌+◌, ◌≤◌, Bool, true, false, cond, is_some, List, [], ◌∷◌, ◌++◌, map, take, get_or, Option, Some, None, refl, sym, ap, subst, ◌∙◌, arith, pos}
+use Rattle.std.proofs.Common.{◌≡◌, ℕ, ◌+◌, ◌≤◌, Bool, true, false, ◌||◌, cond, is_some, List, [], ◌∷◌, ◌++◌, map, take, get_or, Option, Some, None, refl, sym, ap, subst, ◌∙◌, arith, pos}
 use Rattle.std.specs.Prelude.{option_map, slice_get}
+use Rattle.std.specs.List.{list_any}
 use Rattle.std.specs.Str.{bytes_eq}
 use Rattle.std.proofs.lemmas.Int.{ints}
 use Rattle.std.proofs.lemmas.List.{map-append, take_more}
@@ -20,6 +21,31 @@ mapped (Some a) = refl
 before : (items : List (List ℕ × ℕ)) (place : ℕ) (pan : List ℕ) (accounts : List (List ℕ × Account)) → map opened accounts ≡ take place items
     → is_some (opening_of pan (take place items)) ≡ is_some (account_at pan accounts)
 before items place pan accounts seen = ap (λ l. is_some (opening_of pan l)) (sym seen) ∙ ap is_some (opening_found pan accounts) ∙ mapped (account_at pan accounts)
+
+-- an account number is looked for as its opening balance is
+pub any_opening : (pan : List ℕ) (accounts : List (List ℕ × ℕ)) → list_any (λ account. bytes_eq pan account.0) accounts ≡ is_some (opening_of pan accounts)
+any_opening pan [] = refl
+any_opening pan (account ∷ accounts) =
+    elim (bytes_eq pan account.0) as (λ b. b || list_any (λ (other : List ℕ × ℕ). bytes_eq pan other.0) accounts ≡ is_some (cond b (Some account.1) (opening_of pan accounts))) [
+      | true ↦ refl
+      | false ↦ any_opening pan accounts
+    ]
+
+pub repeats : (items : List (List ℕ × ℕ)) (place : ℕ) (item : List ℕ × ℕ) → slice_get items place ≡ Some item
+    → list_any (λ account. bytes_eq item.0 account.0) (take place items) ≡ true → IsRepeat items place
+repeats items place item there found = record { account = item; there = there; earlier = sym (any_opening item.0 (take place items)) ∙ found }
+
+-- no account before this one has its account number, so it is no repeat
+pub passed : (items : List (List ℕ × ℕ)) (place : ℕ) (item : List ℕ × ℕ) → slice_get items place ≡ Some item
+    → list_any (λ account. bytes_eq item.0 account.0) (take place items) ≡ false → AreDistinctBelow items place → AreDistinctBelow items (place + 1)
+passed items place item there none below = below_more (λ k. IsRepeat items k → ⊥) place below new
+  where
+    new : IsRepeat items place → ⊥
+    new repeat =
+        let one : repeat.account ≡ item = cc (repeat.there, there) in
+        let some : is_some (opening_of item.0 (take place items)) ≡ true = ap (λ (account : List ℕ × ℕ). is_some (opening_of account.0 (take place items))) (sym one) ∙ repeat.earlier in
+        let lacking : is_some (opening_of item.0 (take place items)) ≡ false = sym (any_opening item.0 (take place items)) ∙ none in
+        absurd cc
 
 pub is_repeat : (items : List (List ℕ × ℕ)) (place : ℕ) (item : List ℕ × ℕ) (accounts : List (List ℕ × Account)) → map opened accounts ≡ take place items
     → slice_get items place ≡ Some item → is_some (account_at item.0 accounts) ≡ true → IsRepeat items place

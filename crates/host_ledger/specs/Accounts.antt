@@ -1,5 +1,5 @@
 -- What a contract sees of a ledger, and the balance of an account.
-use Rattle.std.specs.Prelude.{◌≡◌, ◌≢◌, ℕ, ◌+◌, ◌<◌, ℤ, pos, ◌-ℤ◌, ⊤, if◌then◌else◌, List, [], ◌∷◌, take, Option, Some, None, IsSome, option_map, slice_get}
+use Rattle.std.specs.Prelude.{◌≡◌, ◌≢◌, ℕ, ◌+◌, ◌<◌, ℤ, pos, ◌-ℤ◌, if◌then◌else◌, List, [], ◌∷◌, length, take, Option, Some, None, IsSome, option_map, slice_get}
 use Rattle.std.specs.Str.{bytes_eq}
 use Rattle.host_ledger.specs.declared.entry.Entry.{Entry}
 use Rattle.host_ledger.specs.declared.key.Key.{Key}
@@ -31,13 +31,14 @@ pub record IsRepeat (accounts : List (List ℕ × ℕ)) (place : ℕ) : Type 0 w
 abbrev pub AreDistinctBelow : List (List ℕ × ℕ) → ℕ → Type 0
 AreDistinctBelow accounts place = (k : ℕ) → k < place → IsRepeat accounts k → ⊥
 
--- why no ledger is made of these accounts: the first repeat, or want of memory
+-- why no ledger is made of these accounts: the first repeat, or want of memory, which comes only where
+-- there is none
 abbrev pub RefusesAccounts : List (List ℕ × ℕ) → LedgerFault → Type 0
 RefusesAccounts accounts (SamePan place) = IsRepeat accounts place × AreDistinctBelow accounts place
 RefusesAccounts accounts UnknownAccount = ⊥
 RefusesAccounts accounts (AlreadyBooked entry) = ⊥
 RefusesAccounts accounts (NoFunds balance) = ⊥
-RefusesAccounts accounts OutOfMemory = ⊤
+RefusesAccounts accounts OutOfMemory = AreDistinctBelow accounts (length accounts)
 
 -- the entry is kept, in place of its transaction's one if there was one, and nothing else changes
 pub record Keeps (entry : Entry) (old new : LedgerData) : Type 0 where

@@ -1,5 +1,6 @@
 ghost use Rattle.std.specs.Prelude.{◌≡◌, ◌≤◌, ◌+ℤ◌, ◌-ℤ◌, ◌≤ℤ◌, pos, negsuc, map, length, [], Some, None, Err, IfOk, IfErr, OnOk, OnErr, IsSome};
-ghost use Rattle.std.specs.List.{All};
+ghost use Rattle.std.specs.List.{All, list_any};
+ghost use Rattle.std.specs.Str.{bytes_eq};
 ghost use Rattle.emv_dict.specs.Settings.{most_amount};
 ghost use Rattle.host_ledger.specs.Account.{account_at, opened, AreBalanced};
 ghost use Rattle.host_ledger.specs.Accounts.{balance_of, AreDistinctBelow, RefusesAccounts, Keeps};
@@ -41,7 +42,8 @@ impl Model for Ledger {
 impl Ledger {
     /// A ledger of these account numbers with their opening balances, each at most 12 digits in the least
     /// unit of its currency, and no entries. `SamePan` comes exactly where an account number stands twice,
-    /// and has the place, from 0, of the first account whose number an earlier one has.
+    /// also where memory is wanting, and has the place, from 0, of the first account whose number an
+    /// earlier one has.
     pub fn new(alloc: Global, accounts: Vec<(Digits, u64)>) -> Result<Ledger, LedgerFault>
         requires { All (λ account. account.1 ≤ most_amount) accounts.items }
         ensures ok { IfOk result (λ ledger. ledger ≡ record { accounts = accounts.items; entries = [] }) }
@@ -57,7 +59,9 @@ impl Ledger {
                 opening: account.1,
                 balance: i128::from(account.1),
             };
-            opened.put(account.0.copy(), entry)?;
+            let Ok(()) = opened.put(account.0.copy(), entry) else {
+                return Err(without_memory(accounts.as_slice()));
+            };
         }
         Ok(Ledger {
             accounts: opened,
@@ -155,6 +159,25 @@ impl Ledger {
         keep(&mut self.accounts, &mut self.rows, account, entry)?;
         Ok(())
     }
+}
+
+/// Why no ledger is made where memory is wanting: a repeat comes first, wherever memory ended.
+fn without_memory(accounts: &[(Digits, u64)]) -> LedgerFault
+    ensures { RefusesAccounts accounts.now result }
+{
+    for place in 0..accounts.len() {
+        if has_pan(&accounts[..place], &accounts[place].0) {
+            return LedgerFault::SamePan(place);
+        }
+    }
+    LedgerFault::OutOfMemory
+}
+
+/// Whether one of the accounts has an account number.
+fn has_pan(accounts: &[(Digits, u64)], pan: &Digits) -> bool
+    ensures { result ≡ list_any (λ account. bytes_eq pan.now account.0) accounts.now }
+{
+    accounts.iter().any(|account| *pan == account.0)
 }
 
 /// The entry where it is booked or released.

@@ -18,8 +18,8 @@ loop-place-preserved c =
     let none : account_at c.account-item.result.0 c.loop-place.opened ≡ None = none_of _ (ap is_some (sym c.get.ensures) ∙ sym c.is_some.ensures ∙ c.if-is_some.false) in
     let small : c.account-item.result.1 ≤ most_amount = let at = c.requires c.loop-place.place c.account-item.result (omega (arith, c.loop-place-test.true)) in let same : get_or c.args.accounts.items c.loop-place.place c.account-item.result ≡ c.account-item.result = get_or_from_slice_get c.args.accounts.items c.loop-place.place c.account-item.result c.account-item.result there in subst (λ (account : List ℕ × ℕ). account.1 ≤ most_amount) same at in
     record {
-      seen = rw (c.in_ok-put.ensures.ok, c.copy.ensures) (seen_more c.args.accounts.items c.loop-place.place c.account-item.result c.loop-place.opened _ c.loop-place.invariant.seen there none refl);
-      balanced = rw (c.in_ok-put.ensures.ok, c.copy.ensures) (balanced_more c.account-item.result.0 _ c.loop-place.opened c.loop-place.invariant.balanced small (omega (arith, ints, c.from.ensures)));
+      seen = rw (c.in-Ok.ensures.ok, c.copy.ensures) (seen_more c.args.accounts.items c.loop-place.place c.account-item.result c.loop-place.opened _ c.loop-place.invariant.seen there none refl);
+      balanced = rw (c.in-Ok.ensures.ok, c.copy.ensures) (balanced_more c.account-item.result.0 _ c.loop-place.opened c.loop-place.invariant.balanced small (omega (arith, ints, c.from.ensures)));
       distinct = distinct_more c.args.accounts.items c.loop-place.place c.account-item.result c.loop-place.opened c.loop-place.invariant.seen there none c.loop-place.invariant.distinct;
     }
 
