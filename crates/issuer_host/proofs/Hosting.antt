@@ -1,15 +1,17 @@
 -- What a host knows of an account, and what it keeps true as it keeps a message.
-use Rattle.std.proofs.Common.{◌≡◌, ℕ, Bool, true, false, ◌&&◌, ◌||◌, List, [], ◌∷◌, ◌++◌, map, length, Option, Some, None, refl, sym, ap, subst, ◌∙◌, arith, ◌<◌, ◌-ℤ◌, pos, ℤ, length-set, zero, suc, ◌⊎◌, inl, inr, Bor, IfSome}
+use Rattle.std.proofs.Common.{◌≡◌, ℕ, ◌+◌, take, Bool, true, false, ◌&&◌, ◌||◌, List, [], ◌∷◌, ◌++◌, map, length, Option, Some, None, refl, sym, ap, subst, ◌∙◌, arith, ◌<◌, ◌-ℤ◌, pos, ℤ, length-set, zero, suc, ◌⊎◌, inl, inr, Bor, IfSome}
 use Rattle.std.proofs.Math.ListN.{set}
 use Rattle.std.proofs.lemmas.Bool.{false_from_ne_true, cases_eq}
 use Rattle.std.specs.Prelude.{◌≢◌, option_map, slice_get, replicate}
-use Rattle.std.specs.List.{All}
+use Rattle.std.specs.List.{All, list_any}
 use Rattle.std.specs.Str.{bytes_eq}
-use Rattle.std.proofs.lemmas.List.{length-replicate, length-map}
+use Rattle.std.proofs.lemmas.List.{length-replicate, length-map, take-map}
+use Rattle.std.proofs.lemmas.Option.{slice_get-map}
 use Rattle.std.proofs.lemmas.List.Elements.{recursion_from_All}
 use Rattle.std.proofs.lemmas.List.Folds.{list_any-append}
 use Rattle.host_ledger.specs.Accounts.{opening_of, AreDistinctBelow, IsRepeat}
 use Rattle.host_ledger.proofs.Keys.{same_pan, own_pan}
+use Rattle.host_ledger.proofs.Opening.{repeats, passed}
 use Rattle.issuer_host.specs.Account.{AccountData, IsAccount}
 use Rattle.issuer_host.specs.Balance.{account_of, balance_in, taken}
 use Rattle.issuer_host.specs.Books.{Kept, no_books}
@@ -152,3 +154,25 @@ pub distinct_openings : (accounts : List AccountData) (openings : List (List ℕ
 distinct_openings accounts openings is distinct k within repeat =
     let count : length openings ≡ length accounts = ap length is ∙ length-map accounts opening in
     distinct k (omega arith) (subst (λ l. IsRepeat l k) (sym is) repeat)
+
+any_opened : (pan : List ℕ) (accounts : List AccountData) → list_any (λ account. bytes_eq pan account.pan) accounts ≡ list_any (λ item. bytes_eq pan item.0) (map opening accounts)
+any_opened pan [] = refl
+any_opened pan (a ∷ accounts) = ap (λ b. bytes_eq pan a.pan || b) (any_opened pan accounts)
+
+-- an account before a place is looked for as its opening balance is
+looked : (pan : List ℕ) (accounts : List AccountData) (place : ℕ) (b : Bool) → list_any (λ account. bytes_eq pan account.pan) (take place accounts) ≡ b
+    → list_any (λ item. bytes_eq pan item.0) (take place (map opening accounts)) ≡ b
+looked pan accounts place b is = ap (list_any (λ (item : List ℕ × ℕ). bytes_eq pan item.0)) (take-map opening place accounts) ∙ sym (any_opened pan (take place accounts)) ∙ is
+
+opening_there : (accounts : List AccountData) (place : ℕ) (a : AccountData) → slice_get accounts place ≡ Some a → slice_get (map opening accounts) place ≡ Some (opening a)
+opening_there accounts place a there = slice_get-map opening accounts place ∙ ap (option_map opening) there
+
+pub account_repeats : (accounts : List AccountData) (place : ℕ) (a : AccountData) → slice_get accounts place ≡ Some a
+    → list_any (λ account. bytes_eq a.pan account.pan) (take place accounts) ≡ true → IsRepeat (map opening accounts) place
+account_repeats accounts place a there found =
+    repeats (map opening accounts) place (opening a) (opening_there accounts place a there) (looked a.pan accounts place true found)
+
+pub account_passed : (accounts : List AccountData) (place : ℕ) (a : AccountData) → slice_get accounts place ≡ Some a
+    → list_any (λ account. bytes_eq a.pan account.pan) (take place accounts) ≡ false → AreDistinctBelow (map opening accounts) place → AreDistinctBelow (map opening accounts) (place + 1)
+account_passed accounts place a there lacking below =
+    passed (map opening accounts) place (opening a) (opening_there accounts place a there) (looked a.pan accounts place false lacking) below

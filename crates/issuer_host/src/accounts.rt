@@ -1,13 +1,16 @@
 //! The host's accounts by their places.
 ghost use Rattle.std.specs.Prelude.{◌≡◌, ◌≤◌, ◌+◌, map, length, option_map, IfOk, IfErr};
-ghost use Rattle.std.specs.List.{All};
+ghost use Rattle.std.specs.List.{All, list_any};
+ghost use Rattle.std.specs.Str.{bytes_eq};
 ghost use Rattle.emv_dict.specs.Settings.{most_amount};
+ghost use Rattle.host_ledger.specs.Accounts.{RefusesAccounts};
 ghost use Rattle.issuer_host.specs.Account.{IsAccount};
 ghost use Rattle.issuer_host.specs.Holds.{place_in, account_in, flag_at, with_flag, opening};
 ghost use Rattle.std.specs.Prelude.{replicate, false};
 
 use crate::account::Account;
 use emv_dict::Digits;
+use host_ledger::LedgerFault;
 use std::alloc::{AllocError, Global};
 
 /// The account numbers with their opening balances.
@@ -32,6 +35,26 @@ pub fn none_served(alloc: Global, accounts: &[Account]) -> Result<Vec<bool>, All
         flags.push(false)?;
     }
     Ok(flags)
+}
+
+/// Why no host is made where memory is wanting: a repeat comes first, wherever memory ended.
+pub fn without_memory(accounts: &[Account]) -> LedgerFault
+    ensures { RefusesAccounts (map opening accounts.now) result }
+{
+    for place in 0..accounts.len() {
+        let account = &accounts[place];
+        if has_pan(&accounts[..place], &account.pan) {
+            return LedgerFault::SamePan(place);
+        }
+    }
+    LedgerFault::OutOfMemory
+}
+
+/// Whether one of the accounts has an account number.
+fn has_pan(accounts: &[Account], pan: &Digits) -> bool
+    ensures { result ≡ list_any (λ account. bytes_eq pan.now account.pan) accounts.now }
+{
+    accounts.iter().any(|account| *pan == account.pan)
 }
 
 /// The place of the account of an account number.

@@ -15,7 +15,7 @@ ghost use Rattle.issuer_host.specs.Holds.{place_in, opening};
 ghost use Rattle.issuer_host.specs.Reply.{reply_in, request_key as key_of_request, present_key as key_of_present, reversal_key as key_of_reversal};
 
 use crate::account::Account;
-use crate::accounts::{none_served, openings, place_of, set_flag};
+use crate::accounts::{none_served, openings, place_of, set_flag, without_memory};
 use crate::answering::{reply_to_presentment, reply_to_request, reply_to_reversal};
 use crate::code::Code;
 use crate::decision::{present_key, request_key, reversal_key};
@@ -54,7 +54,8 @@ impl<'a> Model for Host<'a> {
 
 impl<'a> Host<'a> {
     /// A host with these accounts that has had no message. `SamePan` comes exactly where an account number
-    /// stands twice, and has the place, from 0, of the first account whose number an earlier one has.
+    /// stands twice, also where memory is wanting, and has the place, from 0, of the first account whose
+    /// number an earlier one has.
     pub fn new(
         alloc: Global,
         keys: HostKeys,
@@ -67,8 +68,12 @@ impl<'a> Host<'a> {
         ensures distinct { OnOk result (AreDistinctBelow (map opening accounts.now) (length accounts.now)) }
         ensures refused { IfErr result (RefusesAccounts (map opening accounts.now)) }
     {
-        let openings = openings(alloc, accounts)?;
-        let served = none_served(alloc, accounts)?;
+        let Ok(openings) = openings(alloc, accounts) else {
+            return Err(without_memory(accounts));
+        };
+        let Ok(served) = none_served(alloc, accounts) else {
+            return Err(without_memory(accounts));
+        };
         let records = Records::new(alloc, openings)?;
         Ok(Host {
             alloc,
