@@ -18,7 +18,7 @@ pub struct History {
     pub marks: [u32; 2],
 }
 
-pub const HISTORIES: [History; 32] = [
+pub const HISTORIES: [History; 33] = [
     // The base payment.
     History {
         changes: &[],
@@ -611,5 +611,20 @@ done 2
 ",
         counts: [1, 0, 1, 20],
         marks: [8, 0],
+    },
+    // A card without a PIN whose tries are 0 answers VERIFY as one without a PIN, 6A88, which isn't the answer of
+    // a card whose tries are used up: the signature verifies, and the terminal needn't go online.
+    History {
+        changes: &[("pin = \"1234\"\ntries = 3", "tries = 0")],
+        more: &[],
+        told: "L0 power c1 10,9,0,0,0,0
+L0 end 1 approved offline
+S0 < e2048a023030
+A c1 power 11,9,1,2500,0,0
+balance 4761739001010010 97500
+done 1
+",
+        counts: [1, 0, 0, 10],
+        marks: [2, 0],
     },
 ];
