@@ -45,10 +45,9 @@ fn holds_what_is_there(rt: HostRuntime) -> Result<(), Fail> {
 }
 
 #[test]
-fn books_and_releases_once(rt: HostRuntime) -> Result<(), Fail> {
+fn books_once(rt: HostRuntime) -> Result<(), Fail> {
     let mut ledger = ledger(rt.alloc())?;
     let first = key(&PAN, 11)?;
-    let second = key(&PAN, 12)?;
     assert!(rt; ledger.hold(&first, 2000) == Ok(()));
     assert!(rt; ledger.book(&first, 1500) == Ok(()));
     assert!(rt; ledger.balance(&first.pan) == Some(1000));
@@ -58,16 +57,29 @@ fn books_and_releases_once(rt: HostRuntime) -> Result<(), Fail> {
         state: EntryState::Booked,
     };
     assert!(rt; ledger.release(&first, 1500) == Err(LedgerFault::AlreadyBooked(booked)));
+    assert!(rt; ledger.balance(&digits(&OTHER)?) == Some(10));
+    Ok(())
+}
+
+#[test]
+fn releases_once(rt: HostRuntime) -> Result<(), Fail> {
+    let mut ledger = ledger(rt.alloc())?;
+    let second = key(&PAN, 12)?;
     assert!(rt; ledger.hold(&second, 1000) == Ok(()));
     assert!(rt; ledger.release(&second, 1000) == Ok(()));
-    assert!(rt; ledger.balance(&first.pan) == Some(1000));
+    assert!(rt; ledger.balance(&second.pan) == Some(2500));
     assert!(rt; ledger.book(&second, 1000).is_err());
+    assert!(rt; ledger.balance(&digits(&[1])?) == None);
+    Ok(())
+}
+
+#[test]
+fn books_and_releases_what_was_not_held(rt: HostRuntime) -> Result<(), Fail> {
+    let mut ledger = ledger(rt.alloc())?;
     assert!(rt; ledger.book(&key(&PAN, 13)?, 4000) == Ok(()));
-    assert!(rt; ledger.balance(&first.pan) == Some(-3000));
+    assert!(rt; ledger.balance(&digits(&PAN)?) == Some(-1500));
     assert!(rt; ledger.release(&key(&PAN, 14)?, 4000) == Ok(()));
     assert!(rt; ledger.hold(&key(&PAN, 14)?, 1).is_err());
-    assert!(rt; ledger.balance(&digits(&OTHER)?) == Some(10));
-    assert!(rt; ledger.balance(&digits(&[1])?) == None);
     Ok(())
 }
 
