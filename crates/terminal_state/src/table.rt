@@ -2,7 +2,7 @@
 //! buffers that are lent to the steps.
 ghost use Rattle.std.specs.Prelude.{◌≡◌, []};
 ghost use Rattle.terminal_state.specs.Marks.{moment};
-ghost use Rattle.terminal_state.specs.Table.{deal_of};
+ghost use Rattle.terminal_state.specs.Table.{deal_of, no_reply};
 
 use crate::moment::{IssuerData, Moment};
 use apdu_core::Out;
@@ -54,7 +54,9 @@ impl<'s> Table<'s> {
         ensures deal { deal_of self.new ≡ record { settings = settings.now; purchase = purchase.now } }
         ensures candidates { self.new.candidates ≡ [] }
         ensures moment { self.new.moment ≡ moment [] }
-        ensures scripts { self.new.reply.scripts ≡ [] }
+        ensures reply { self.new.reply ≡ no_reply }
+        ensures message { self.new.message.items ≡ [] }
+        ensures command { self.new.command ≡ self.old.command }
     {
         self.settings = settings;
         self.purchase = purchase;
@@ -68,7 +70,7 @@ impl<'s> Table<'s> {
 impl HostReply {
     /// No reply.
     pub fn none() -> HostReply
-        ensures { result.scripts ≡ [] }
+        ensures { result ≡ no_reply }
     {
         HostReply {
             code: [0; 2],
