@@ -1,5 +1,13 @@
 //! Purchases with what an independent implementation of the rules reports.
-use super::document::{Part, SECOND_CARD, SECOND_LANE, WITH_FIRST_CARD, WITH_SECOND_CARD};
+use super::document::{
+    LANE, PURCHASE, Part, SECOND_CARD, SECOND_LANE, WITH_FIRST_CARD, WITH_SECOND_CARD,
+};
+
+/// A terminal without a purchase.
+const IDLE_LANE: Part = Part {
+    text: LANE,
+    changes: &[("\"TERM0001\"", "\"TERM0001\"\npurchase = []")],
+};
 
 /// A document, and what becomes of it.
 #[derive(Clone, Copy)]
@@ -18,7 +26,7 @@ pub struct History {
     pub marks: [u32; 2],
 }
 
-pub const HISTORIES: [History; 33] = [
+pub const HISTORIES: [History; 36] = [
     // The base payment.
     History {
         changes: &[],
@@ -626,5 +634,81 @@ done 1
 ",
         counts: [1, 0, 0, 10],
         marks: [2, 0],
+    },
+    // An approval online is in the terminal's log too: with it the second amount is at the floor limit, for which
+    // the terminal's code declines.
+    History {
+        changes: &[
+            ("count_limit = 5", "count_limit = 0"),
+            ("denial = \"0010000000\"", "denial = \"0010008000\""),
+            ("amount = 2500", "amount = 6000"),
+        ],
+        more: &[Part {
+            text: PURCHASE,
+            changes: &[("amount = 2500", "amount = 4500")],
+        }],
+        told: "L0 power c1 10,9,0,0,3,0
+L0 end 1 approved online
+L0 power c1 11,11,0,0,3,0
+L0 end 2 declined offline
+S0 < e2048a023030
+A c1 power 12,11,0,0,3,0
+balance 4761739001010010 94000
+done 2
+",
+        counts: [1, 1, 0, 23],
+        marks: [10, 0],
+    },
+    // The PIN is wrong once, and PIN UNBLOCK restores the five tries of the card.
+    History {
+        changes: &[
+            (
+                "balance = 100000\npin = \"1234\"\n",
+                "balance = 100000\npin = \"1234\"\n\n[[account.scripts]]\nwhen = \"before\"\ncommands = [\"pin_unblock\"]\n",
+            ),
+            ("tries = 3", "tries = 5"),
+            ("pins = [\"1234\"]", "pins = [\"1111\"]"),
+        ],
+        more: &[],
+        told: "L0 power c1 10,9,0,0,5,0
+L0 end 1 approved online
+S0 < e2048a023030
+A c1 power 11,11,0,0,5,0
+balance 4761739001010010 97500
+done 1
+",
+        counts: [1, 0, 0, 14],
+        marks: [6, 0],
+    },
+    // The eleventh terminal is lane 10.
+    History {
+        changes: &[],
+        more: &[
+            SECOND_CARD,
+            IDLE_LANE,
+            IDLE_LANE,
+            IDLE_LANE,
+            IDLE_LANE,
+            IDLE_LANE,
+            IDLE_LANE,
+            IDLE_LANE,
+            IDLE_LANE,
+            IDLE_LANE,
+            SECOND_LANE,
+            WITH_SECOND_CARD,
+        ],
+        told: "L0 power c1 10,9,0,0,3,0
+L10 power c2 10,9,0,0,3,0
+L0 end 1 approved offline
+L10 end 1 approved online
+S0 < e2048a023030
+S10 < e2048a023030
+A c1 power 11,9,1,2500,3,0
+A c2 power 11,11,0,0,3,0
+balance 4761739001010010 95000
+done 2
+",
+        counts: [2, 0, 0, 23],
+        marks: [4, 6],
     },
 ];
