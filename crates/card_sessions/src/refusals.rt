@@ -56,7 +56,7 @@ const BEHIND_REQUEST: [bool; 6] = [false, false, false, true, false, true];
 
 /// Each command with its refusals, where several checks fail by the first of them: the bytes, the class
 /// and the instruction, P1 P2, the phase, the length of the data, and the command's own rules.
-const REFUSALS: [Row; 84] = [
+const REFUSALS: [Row; 85] = [
     // The bytes
     ("", ANY, 0x6700),
     ("00a404", ANY, 0x6700),
@@ -149,6 +149,7 @@ const REFUSALS: [Row; 84] = [
     ("841800000700000000000000", BEHIND_REQUEST, 0x6700),
     ("84180000080000000000000000", BEHIND_REQUEST, 0x6988),
     ("8416010001aa", ANY, 0x6a86),
+    ("8416000101aa", ANY, 0x6a86),
     ("8416000009000000000000000000", BEHIND_REQUEST, 0x6700),
     ("84160000080000000000000000", BEHIND_REQUEST, 0x6988),
     // PIN CHANGE/UNBLOCK

@@ -211,7 +211,7 @@ const OWN_OPTIONS: Line = (
 
 /// Cards at their limits and with object lists of their own. The answers follow from the rules, by an
 /// implementation of these apart from this program.
-const LIMITS: [(Variant, &[Line]); 17] = [
+const LIMITS: [(Variant, &[Line]); 26] = [
     // own lists, offline
     (
         Variant::OwnLists,
@@ -544,6 +544,103 @@ const LIMITS: [(Variant, &[Line]); 17] = [
             VERIFY,
             REQUEST,
             ("008200001000000000000000000000000000000000", "6300"),
+        ],
+    ),
+    // a second list with other values than the first one's: all of them are taken
+    (
+        Variant::Online,
+        &[
+            SELECT,
+            OPTIONS,
+            VERIFY,
+            REQUEST,
+            AUTHENTICATE,
+            (
+                "80ae40001f3030000000002600000000000100097880000000010978240616090506070800",
+                "801140000bee14e35e8eea1b620140000003019000",
+            ),
+        ],
+    ),
+    // issuer authentication is sent once in a transaction, also where it was wrong
+    (
+        Variant::Online,
+        &[
+            SELECT,
+            OPTIONS,
+            VERIFY,
+            REQUEST,
+            ("008200000a00000000000000003030", "6300"),
+            ("008200000a0e66769950e1f3be3030", "6985"),
+        ],
+    ),
+    // ten bytes authenticate, and no more of them
+    (
+        Variant::Online,
+        &[
+            SELECT,
+            OPTIONS,
+            VERIFY,
+            REQUEST,
+            ("008200000b0e66769950e1f3be303000", "6300"),
+        ],
+    ),
+    // eight bytes have a right length
+    (
+        Variant::Online,
+        &[
+            SELECT,
+            OPTIONS,
+            VERIFY,
+            REQUEST,
+            ("00820000080e66769950e1f3be", "6300"),
+        ],
+    ),
+    // the length is tried before that there is no PIN
+    (
+        Variant::NoPin,
+        &[
+            SELECT,
+            OPTIONS,
+            ("0020008007241234ffffffff", "6700"),
+            ("0020008008241234ffffffffff", "6a88"),
+        ],
+    ),
+    // 9F17 has the tries that are left
+    (
+        Variant::Base,
+        &[
+            SELECT,
+            OPTIONS,
+            ("0020008008241111ffffffffff", "63c2"),
+            ("80ca9f1700", "9f1701029000"),
+        ],
+    ),
+    // the form of GET PROCESSING OPTIONS is tried before the block and the counter
+    (
+        Variant::Blocked,
+        &[
+            (
+                "00a4040007a000000003101000",
+                "6f168407a0000000031010a50b50064352454449548701016283",
+            ),
+            ("80a8000000", "6700"),
+        ],
+    ),
+    (Variant::CounterUsedUp, &[SELECT, ("80a8000000", "6700")]),
+    // Y1 at the second GENERATE AC isn't Y3: without the issuer the card declines
+    (
+        Variant::Base,
+        &[
+            SELECT,
+            OPTIONS,
+            (
+                "80ae80001d000000002500000000000000084080000000000840240615000102030400",
+                "801180000b204bb40db680038e0180000003019000",
+            ),
+            (
+                "80ae40001f5931000000002500000000000000084080000000000840240615000102030400",
+                "801100000bce662d9e0740373e0100000003019000",
+            ),
         ],
     ),
 ];
