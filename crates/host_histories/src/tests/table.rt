@@ -24,7 +24,7 @@ const DECLINED: &str = "e2048a023035";
 
 const UNKNOWN_ACCOUNT: &str = "e2048a023134";
 
-pub const HISTORIES: [History; 23] = [
+pub const HISTORIES: [History; 24] = [
     // Two cards of one account, whose balance covers one of the payments.
     History {
         accounts: &[Opening {
@@ -1025,5 +1025,32 @@ pub const HISTORIES: [History; 23] = [
             ),
         ],
         balances: &[("4761739001010010", 3000)],
+    },
+    // A cryptogram that isn't the card's is answered 05 alone; the account's script goes with the first reply that
+    // authenticates the issuer, which is the next one.
+    History {
+        accounts: &[Opening {
+            pan: "4761739001010010",
+            currency: Currency::Dollar,
+            balance: 3000,
+            blocked: false,
+            pin: None,
+            scripts: &[Planned {
+                before: true,
+                id: None,
+                commands: &["block"],
+            }],
+        }],
+        turns: &[
+            Turn::Says(
+                "e16e9f1c085445524d303030315a0847617390010100105f3401015f24032612319f02060000000025009f03060000000000009f1a020840950580000000005f2a0208409a032406159c01009f37040102030482021c009f3602000a9f260800000000000000009f1006018000000301",
+                DECLINED,
+            ),
+            Turn::Says(
+                "e16e9f1c085445524d303030315a0847617390010100105f3401015f24032612319f02060000000025009f03060000000000009f1a020840950580000000005f2a0208409a032406159c01009f37040102030482021c009f3602000b9f2608204bb40db680038e9f1006018000000301",
+                "e2218a023030910a0e66769950e1f3be3030710f860d841e000008c8f7aeabb5b88a5c",
+            ),
+        ],
+        balances: &[("4761739001010010", 500)],
     },
 ];
