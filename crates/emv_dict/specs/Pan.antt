@@ -1,4 +1,4 @@
--- The primary account number as the object 5A holds it: 13 to 16 digits of this profile, filled on the
+-- The primary account number as the object 5A holds it: 13 to 19 digits of this profile, filled on the
 -- right with F (EMV 4.3 Book 3 Annex A).
 use Rattle.std.specs.Prelude.{ℕ, ◌+◌, ◌*◌, ◌==◌, Bool, not, nat_le, ◌&&◌, if◌then◌else◌, IsTrue, List, [], ◌∷◌, length, take, drop, find, Option, Some, None, Result, Ok, Err}
 use Rattle.std.specs.List.{position_or_len}
@@ -27,9 +27,15 @@ from_filler ns = drop (filler_place ns) ns
 abbrev pub stray_nibble : List ℕ → Option ℕ
 stray_nibble ns = option_or (find (λ n. not (is_decimal n)) (before_filler ns)) (find (λ n. not (is_filler n)) (from_filler ns))
 
--- so many digits as an account number of this profile has
+-- an account number of this profile has at least 13 digits, and as many as the object 5A holds at most
+abbrev pub least_pan : ℕ
+least_pan = 13
+
+abbrev pub most_pan : ℕ
+most_pan = 19
+
 abbrev pub is_pan_length : ℕ → Bool
-is_pan_length count = nat_le 13 count && nat_le count 16
+is_pan_length count = nat_le least_pan count && nat_le count most_pan
 
 abbrev pub HasPanLength : List ℕ → Type 0
 HasPanLength digits = IsTrue (is_pan_length (length digits))

@@ -28,7 +28,7 @@ pub use ending::{Cause, Ending, Kind, Step};
 pub use judged::Judged;
 pub use name::Name;
 pub use nibble::nibble_at;
-pub use pan::{PanFault, is_pan_length, pan_digits, pan_field};
+pub use pan::{LEAST_PAN, MOST_PAN, PanFault, is_pan_length, pan_digits, pan_field};
 pub use purchase::{AidRow, Logged, Purchase, Settings};
 pub use tsi::Tsi;
 pub use tvr::Tvr;

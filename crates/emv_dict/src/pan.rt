@@ -7,19 +7,25 @@ use crate::digits::Digits;
 use crate::nibble::nibble_at;
 use arrayvec::ArrayVec;
 
+/// The fewest digits of an account number of this profile.
+pub const LEAST_PAN: usize = 13;
+
+/// The most digits of an account number of this profile, and of the object 5A (EMV 4.3 Book 3 Annex A).
+pub const MOST_PAN: usize = 19;
+
 /// Why a field is no primary account number.
 #[derive(Clone, Copy, PartialEq, Eq, Debug)]
 pub enum PanFault {
     /// This hexadecimal digit stands where a decimal digit or the filler F has to.
     NotDigit(u8),
-    /// So many digits, and not 13 to 16.
+    /// So many digits, and not 13 to 19.
     Length(usize),
 }
 
 /// The digits of a primary account number in the form of the object 5A: two digits a byte, filled
 /// on the right with the hexadecimal digit F (EMV 4.3 Book 3 Annex A). `NotDigit` comes exactly where
 /// a digit before the first F is above 9 or anything but F stands behind it, and has the first such
-/// one; else `Length` exactly where the digits aren't 13 to 16.
+/// one; else `Length` exactly where the digits aren't 13 to 19.
 #[tactic(auto, unfolding(crate::specs::Pan::pan_of))]
 pub fn pan_digits(field: &[u8]) -> Result<Digits, PanFault>
     ensures { result ≡ pan_of field.now }
@@ -67,7 +73,7 @@ fn append_packed(field: &mut ArrayVec<u8, 10>, digits: &[u8])
 pub fn is_pan_length(count: usize) -> bool
     ensures { result ≡ pan_length_test count }
 {
-    13 <= count && count <= 16
+    LEAST_PAN <= count && count <= MOST_PAN
 }
 
 /// How many nibbles stand before the first F.

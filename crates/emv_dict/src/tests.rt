@@ -167,11 +167,18 @@ fn account_numbers_are_read_up_to_their_filler(rt: HostRuntime) {
     );
     let thirteen_digits = digits(&rt, &[4, 7, 6, 1, 7, 3, 9, 0, 0, 1, 0, 1, 0]);
     assert_eq!(rt; pan_field(&thirteen_digits).as_slice(), &thirteen[..7]);
+    let nineteen: &[u8] = &[0x47, 0x61, 0x73, 0x90, 0x01, 0x01, 0x00, 0x10, 0x12, 0x3F];
+    let nineteen_digits = digits(
+        &rt,
+        &[4, 7, 6, 1, 7, 3, 9, 0, 0, 1, 0, 1, 0, 0, 1, 0, 1, 2, 3],
+    );
+    assert_eq!(rt; pan_field(&nineteen_digits).as_slice(), nineteen);
+    assert_eq!(rt; pan_digits(nineteen), Ok(nineteen_digits));
     let refused: [(&[u8], PanFault); 6] = [
         (&[0x47, 0x61, 0x73, 0x90, 0x01, 0x01], PanFault::Length(12)),
         (
-            &[0x47, 0x61, 0x73, 0x90, 0x01, 0x01, 0x00, 0x10, 0x1F],
-            PanFault::Length(17),
+            &[0x47, 0x61, 0x73, 0x90, 0x01, 0x01, 0x00, 0x10, 0x12, 0x34],
+            PanFault::Length(20),
         ),
         (&[], PanFault::Length(0)),
         (
