@@ -1,6 +1,6 @@
 -- The cryptograms between a card and its issuer, EMV 4.3 Book 2 sections 8 and 9, under session keys of
 -- sixteen bytes.
-use Rattle.std.specs.Prelude.{ℕ, List, [], ◌∷◌, ◌++◌, replicate}
+use Rattle.std.specs.Prelude.{ℕ, List, [], ◌∷◌, ◌++◌, take, replicate}
 use Rattle.std.specs.Int.{to_be_bytes, w16}
 use Rattle.triple_des.specs.Bits.{xor_bytes}
 use Rattle.triple_des.specs.TripleDes.{tdes}
@@ -21,6 +21,11 @@ ac_of session fields iad = mac session (ac_fields_bytes fields ++ iad)
 -- first two bytes, enciphered (Book 2 section 8.2.1)
 unfoldable pub arpc_of : List ℕ → List ℕ → List ℕ → List ℕ
 arpc_of session arqc code = tdes session (xor_bytes arqc (code ++ replicate 6 0))
+
+-- the response cryptogram of method 2: the leftmost four bytes of the code of the request cryptogram, the four
+-- status bytes and the further bytes (Book 2 section 8.2.2)
+unfoldable pub arpc_two_of : List ℕ → List ℕ → List ℕ → List ℕ → List ℕ
+arpc_two_of session arqc status further = take 4 (mac session (arqc ++ status ++ further))
 
 -- the code of a script command: its header, the transaction counter, the first cryptogram and the
 -- command's data (Book 2 section 9.2)

@@ -1,6 +1,6 @@
-ghost use Rattle.std.specs.Prelude.{◌≡◌, [], ◌++◌};
+ghost use Rattle.std.specs.Prelude.{◌≡◌, ◌≤◌, [], ◌++◌, length};
 ghost use Rattle.std.specs.Int.{to_be_bytes, w16};
-ghost use Rattle.app_cryptogram.specs.Cryptograms.{ac_of, arpc_of, script_mac_of};
+ghost use Rattle.app_cryptogram.specs.Cryptograms.{ac_of, arpc_of, arpc_two_of, script_mac_of};
 
 use crate::fields::AcFields;
 use crate::joining::put;
@@ -26,6 +26,22 @@ pub fn arpc_one(session: &Key16, arqc: [u8; 8], code: [u8; 2]) -> [u8; 8]
     let mut response = [0; 8];
     response[..2].copy_from_slice(&code);
     session.encipher(xor_blocks(arqc, response))
+}
+
+/// The authorisation response cryptogram by method 2: the leftmost four bytes of the message
+/// authentication code, under the session key of the transaction, of the request cryptogram, the four
+/// bytes of the Card Status Update and at most eight bytes of Proprietary Authentication Data behind
+/// them (EMV 4.3 Book 2 section 8.2.2).
+#[tactic(auto, unfolding(crate::specs::Cryptograms::arpc_two_of))]
+pub fn arpc_two(session: &Key16, arqc: [u8; 8], status: [u8; 4], further: &[u8]) -> [u8; 4]
+    requires { length further.now ≤ 8 }
+    ensures { result ≡ arpc_two_of session.now arqc status further.now }
+{
+    let mut head = [0; 12];
+    put(&mut head, 0, &arqc);
+    put(&mut head, 8, &status);
+    let [a, b, c, d, ..] = mac_joined(session, &head, further);
+    [a, b, c, d]
 }
 
 /// The code over a script command under its session key: the message authentication code of the four

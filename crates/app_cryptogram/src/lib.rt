@@ -7,7 +7,7 @@ mod cryptograms;
 mod fields;
 mod joining;
 
-pub use cryptograms::{ac, arpc_one, script_mac};
+pub use cryptograms::{ac, arpc_one, arpc_two, script_mac};
 pub use fields::AcFields;
 
 #[cfg(test)]

@@ -105,6 +105,31 @@ const RESPONSES: [(u128, u64, u16, u64); 4] = [
     ),
 ];
 
+/// Session keys, request cryptograms, status bytes, further bytes and response cryptograms by method 2.
+const RESPONSES_TWO: [(u128, u64, u32, &[u8], u32); 3] = [
+    (
+        0xca3b_4748_45e4_c085_5d37_bc3e_0652_2e0d,
+        0x6982_54bc_d9e0_d4dd,
+        0x8080_0000,
+        &[],
+        0x8385_1d62,
+    ),
+    (
+        0xec9a_8a93_4970_d2bc_be0a_3c83_24fe_97f8,
+        0xc430_eb72_fe33_6b87,
+        0x80c0_0000,
+        &[0x5a],
+        0xe07c_2f57,
+    ),
+    (
+        0x5a86_2dd8_d94d_2cd0_9965_c630_e15f_c3a7,
+        0xdbad_7a82_f6b5_0e6f,
+        0x0000_0000,
+        &[1, 2, 3, 4, 5, 6, 7, 8],
+        0xfe83_5c21,
+    ),
+];
+
 /// Session keys, headers, counters, cryptograms, data and the codes over them.
 const SCRIPTS: [(u128, u32, u16, u64, &[u8], u64); 4] = [
     (
@@ -159,6 +184,19 @@ fn response_cryptograms(rt: HostRuntime) {
         let session = Key16::new(key.to_be_bytes());
         assert_eq!(rt;
             arpc_one(&session, arqc.to_be_bytes(), code.to_be_bytes()),
+            wanted.to_be_bytes(),
+            "under {key:032x}"
+        );
+    }
+}
+
+#[test]
+fn response_cryptograms_by_method_two(rt: HostRuntime) {
+    for (key, arqc, status, further, wanted) in RESPONSES_TWO {
+        let session = Key16::new(key.to_be_bytes());
+        assert!(rt; further.len() <= 8);
+        assert_eq!(rt;
+            arpc_two(&session, arqc.to_be_bytes(), status.to_be_bytes(), further),
             wanted.to_be_bytes(),
             "under {key:032x}"
         );

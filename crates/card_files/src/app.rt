@@ -48,7 +48,7 @@ pub struct AppImage {
     pub cdol2: Vec<u8>,
     /// At most 64 records, no two of one number in one file.
     pub records: Vec<RecordImage>,
-    /// The primary account number: 13 to 16 digits.
+    /// The primary account number: 13 to 19 digits.
     pub pan: Digits,
     /// The account number's sequence number, object 5F34: the byte of its two decimal digits.
     pub sequence: u8,

@@ -1,3 +1,4 @@
-pub mod Packing
 pub mod OddBytes
 pub mod TwoBlocks
+pub mod DecimalLists
+pub mod BehindZeros

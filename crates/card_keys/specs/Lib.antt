@@ -1,3 +1,4 @@
 pub mod Parity
+pub mod Decimal
 pub mod Master
 pub mod Session

@@ -2,11 +2,14 @@
 //! keys of a transaction. No call takes memory.
 #![tactic(auto)]
 
+mod decimal;
 mod joining;
 mod master;
+mod packing;
 mod parity;
 mod session;
 
+pub use decimal::decimalise;
 pub use emv_dict::{PanFault, pan_digits};
 pub use master::master_key;
 pub use session::{session_ac, session_script};

@@ -1,9 +1,11 @@
 use super::*;
 use emv_dict::Digits;
+use sha1::Sha1;
 use triple_des::Key16;
 
-/// Issuer master keys, account numbers, sequence numbers and master keys.
-const MASTERS: [(u128, &str, u8, u128); 7] = [
+/// Issuer master keys, account numbers, sequence numbers and master keys. OpenSSL did each SHA-1 and each
+/// DES of those from 99.. on (scripts/make-key-vectors).
+const MASTERS: [(u128, &str, u8, u128); 14] = [
     (
         0xa84c_7a63_c467_21a0_7f5d_05fc_d16b_ce50,
         "4848247654283",
@@ -45,6 +47,48 @@ const MASTERS: [(u128, &str, u8, u128); 7] = [
         "4761739001010010",
         0x01,
         0x2f02_c8b0_e9cb_c7b0_5b51_67f7_a1cd_e6e5,
+    ),
+    (
+        0x0123_4567_89ab_cdef_fedc_ba98_7654_3210,
+        "9999999999999999",
+        0x99,
+        0x8a83_a868_70d6_a7ce_e923_5da7_b3f1_ef16,
+    ),
+    (
+        0x0123_4567_89ab_cdef_fedc_ba98_7654_3210,
+        "47617390010140078",
+        0x00,
+        0x76ef_670e_f2ab_38f8_3e5e_adb3_46cb_1fb6,
+    ),
+    (
+        0x0123_4567_89ab_cdef_fedc_ba98_7654_3210,
+        "54133300893158728",
+        0x73,
+        0x2cd0_7ac2_1508_529e_1ab6_cbef_4acb_4aae,
+    ),
+    (
+        0x0123_4567_89ab_cdef_fedc_ba98_7654_3210,
+        "476173900101001242",
+        0x01,
+        0x318c_b946_0862_2a86_9dc8_4aef_b5c4_f4c4,
+    ),
+    (
+        0x0123_4567_89ab_cdef_fedc_ba98_7654_3210,
+        "999999999999999999",
+        0x42,
+        0x9d32_1a6d_e567_b652_4cae_d3ef_5e0e_b361,
+    ),
+    (
+        0x0123_4567_89ab_cdef_fedc_ba98_7654_3210,
+        "4761739001010010123",
+        0x01,
+        0x31e9_86a1_890d_d964_6d1f_40d3_7f31_343e,
+    ),
+    (
+        0x0123_4567_89ab_cdef_fedc_ba98_7654_3210,
+        "5413330089985715415",
+        0x05,
+        0xfb46_2a46_5ec7_0864_e0cb_0816_2634_8cb6,
     ),
 ];
 
@@ -113,6 +157,38 @@ fn master_keys(rt: HostRuntime) {
         let master = master_key(&Key16::new(issuer.to_be_bytes()), &digits, sequence);
         assert_eq!(rt; master.bytes(), wanted.to_be_bytes(), "for {pan}");
     }
+}
+
+/// Hashes and their sixteen decimal digits: that of "abc", and bytes of one letter.
+const HASHES: [([u8; 20], u64); 3] = [
+    (
+        [
+            0xa9, 0x99, 0x3e, 0x36, 0x47, 0x06, 0x81, 0x6a, 0xba, 0x3e, 0x25, 0x71, 0x78, 0x50,
+            0xc2, 0x6c, 0x9c, 0xd0, 0xd8, 0x9d,
+        ],
+        0x9993_3647_0681_6325,
+    ),
+    ([0xaa; 20], 0x0000_0000_0000_0000),
+    ([0xff; 20], 0x5555_5555_5555_5555),
+];
+
+#[test]
+fn hashes_are_made_decimal(rt: HostRuntime) {
+    for (hash, wanted) in HASHES {
+        assert_eq!(rt; decimalise(hash), wanted.to_be_bytes());
+    }
+}
+
+/// The messages of one and of two blocks whose hashes FIPS 180-4 gives.
+#[test]
+fn hashes_are_those_of_the_standard(rt: HostRuntime) {
+    assert_eq!(rt; Sha1::digest(b"abc"), HASHES[0].0);
+    let long = b"abcdbcdecdefdefgefghfghighijhijkijkljklmklmnlmnomnopnopq";
+    let hash = [
+        0x84, 0x98, 0x3e, 0x44, 0x1c, 0x3b, 0xd2, 0x6e, 0xba, 0xae, 0x4a, 0xa1, 0xf9, 0x51, 0x29,
+        0xe5, 0xe5, 0x46, 0x70, 0xf1,
+    ];
+    assert_eq!(rt; Sha1::digest(long), hash);
 }
 
 #[test]

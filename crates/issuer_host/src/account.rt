@@ -5,7 +5,7 @@ use std::marker::Model;
 /// An account of the issuer.
 #[derive(Drop, Debug)]
 pub struct Account {
-    /// The primary account number, from 13 to 16 digits.
+    /// The primary account number, from 13 to 19 digits.
     pub pan: Digits,
     /// The currency code of the account, as in object 5F2A.
     pub currency: [u8; 2],

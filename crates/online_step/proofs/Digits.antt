@@ -8,7 +8,7 @@ use Rattle.auth_message.specs.Accepted.{AreDigits}
 use Rattle.ber_tlv.proofs.ReadAgain.{both}
 use Rattle.emv_dict.specs.Bcd.{has_digits}
 use Rattle.emv_dict.specs.Date.{date_of, is_date}
-use Rattle.emv_dict.specs.Pan.{pan_of, HasPanLength, is_pan_length, before_filler, faultless_pan, stray_nibble}
+use Rattle.emv_dict.specs.Pan.{pan_of, HasPanLength, least_pan, most_pan, is_pan_length, before_filler, faultless_pan, stray_nibble}
 use Rattle.emv_dict.specs.Nibbles.{nibbles}
 use Rattle.emv_dict.specs.Settings.{is_code}
 use Rattle.emv_dict.specs.declared.date.Date.{Date}
@@ -87,5 +87,5 @@ two_digits-value (byte ∷ other ∷ rest) form = let one = two_digits-one (byte
 
 pub pan_least : (card : ReadCard) → IsRead card → 13 ≤ length card.pan
 pan_least card read =
-    let parts = both (nat_le 13 (length card.pan)) (nat_le (length card.pan) 16) (card_pan card read) in
+    let parts = both (nat_le least_pan (length card.pan)) (nat_le (length card.pan) most_pan) (card_pan card read) in
     grind (arith, nat_tests)

@@ -14,7 +14,7 @@ use object_lists::read_dol;
 /// The form that the value of an object must have.
 #[derive(Clone, Copy, PartialEq, Eq, Debug)]
 pub(crate) enum Check {
-    /// 13 to 16 digits, filled with F.
+    /// 13 to 19 digits, filled with F.
     AccountNumber,
     /// Year, month and day, two digits a byte.
     Day,

@@ -13,6 +13,7 @@ use Rattle.scenario_fields.proofs.Steps.{then_ok, kept, text_at_ok, none_passes}
 use Rattle.scenario_fields.specs.Value.{is_one_of, table_of}
 use Rattle.scenario_fields.specs.declared.spot.Characters.TheVariants.{LowercaseOrDigit}
 use Rattle.scenario_fields.specs.declared.fault.ScenarioFault.{ScenarioFault}
+use Rattle.emv_dict.specs.Pan.{least_pan, most_pan}
 use Rattle.emv_dict.specs.Settings.{most_amount}
 use Rattle.scenario_fields.specs.Fields.{number_at, flag_or, text_at, digits_at, optional_digits, code_at, array_at, table_item, only}
 use Rattle.scenario_fields.specs.Place.{at_top, in_account, in_card, item_path}
@@ -34,7 +35,7 @@ ok_is x y is = cc
 new_pan_is : (path : List ℕ → List ℕ) (earlier : List AccountData) (ms : Members) (pan : List ℕ) → new_pan path earlier ms ≡ Ok pan → has_pan pan earlier ≡ false
 unfolding new_pan
 new_pan_is path earlier ms pan is =
-    let digits = then_ok (digits_at path (codes "pan") 13 16 ms) _ pan is in
+    let digits = then_ok (digits_at path (codes "pan") least_pan most_pan ms) _ pan is in
     let fresh = kept (not (has_pan digits.0 earlier)) _ digits.0 pan digits.2 in
     rw (← fresh.1) (not_true _ fresh.0)
 

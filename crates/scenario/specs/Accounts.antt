@@ -2,6 +2,7 @@
 use Rattle.std.specs.Prelude.{ℕ, ◌+◌, List, [], ◌∷◌, ◌++◌, codes, Bool, true, false, not, nat_le, Result, Ok, Err, if◌then◌else◌}
 use Rattle.std.specs.List.{list_any}
 use Rattle.std.specs.Str.{bytes_eq}
+use Rattle.emv_dict.specs.Pan.{least_pan, most_pan}
 use Rattle.emv_dict.specs.Settings.{most_amount}
 use Rattle.script_words.specs.MadeLength.{all_made_length}
 use Rattle.issuer_host.specs.Account.{AccountData}
@@ -62,7 +63,7 @@ has_pan pan accounts = list_any (λ a. bytes_eq a.pan pan) accounts
 -- a PAN that no earlier account has
 unfoldable pub new_pan : (List ℕ → List ℕ) → List AccountData → Members → Result (List ℕ) ScenarioFault
 new_pan path earlier ms = do
-  pan ← digits_at path (codes "pan") 13 16 ms
+  pan ← digits_at path (codes "pan") least_pan most_pan ms
   keep_if (not (has_pan pan earlier)) (BadValue (path (codes "pan"))) pan
 
 unfoldable pub account_keys : List (List ℕ)

@@ -8,6 +8,7 @@ use Rattle.card_files.specs.Views.{RecordData, AppData}
 use Rattle.card_state.specs.declared.state.AppState.{AppState}
 use Rattle.card_keys.specs.Master.{master_key_of}
 use Rattle.emv_dict.specs.Bcd.{two_digits}
+use Rattle.emv_dict.specs.Pan.{least_pan, most_pan}
 use Rattle.emv_dict.specs.Settings.{most_amount}
 use Rattle.issuer_host.specs.declared.keys.HostKeys.{HostKeys}
 use Rattle.object_lists.specs.DolEntries.{DolEntry, dol_of, total_of}
@@ -150,7 +151,7 @@ sequence_at path ms = do
 
 unfoldable pub holder_of : ℕ → ℕ → Members → Result HolderData ScenarioFault
 holder_of i j ms = do
-  pan ← digits_at (in_app i j) (codes "pan") 13 16 ms
+  pan ← digits_at (in_app i j) (codes "pan") least_pan most_pan ms
   sequence ← sequence_at (in_app i j) ms
   currency ← code_at (in_app i j) (codes "currency") ms
   Ok (record { pan = pan; sequence = sequence; currency = currency })

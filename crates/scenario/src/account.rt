@@ -1,6 +1,7 @@
 //! The table of an account.
 ghost use Rattle.std.specs.Prelude.{◌≡◌, ◌≤◌, [], length, IfOk, vec_len};
 ghost use Rattle.std.specs.List.{All};
+ghost use Rattle.emv_dict.specs.Pan.{least_pan, most_pan};
 ghost use Rattle.issuer_host.specs.Account.{IsAccount};
 ghost use Rattle.toml.specs.View.{view, table_view, items_view};
 ghost use Rattle.scenario_fields.specs.Fault.{Gives};
@@ -10,7 +11,7 @@ ghost use Rattle.scenario.specs.Accounts.{has_pan, new_pan, account_keys, accoun
 ghost use Rattle.scenario.specs.Plan.{HaveOwnPans};
 
 use crate::script::scripts_at;
-use emv_dict::{Digits, MOST_AMOUNT};
+use emv_dict::{Digits, LEAST_PAN, MOST_AMOUNT, MOST_PAN};
 use issuer_host::Account;
 use scenario_fields::{Fields, Place, ScenarioFault};
 use toml::Value;
@@ -27,9 +28,9 @@ fn has_pan(pan: &[u8], accounts: &[Account]) -> bool
 #[tactic(auto, unfolding(crate::specs::Accounts::new_pan))]
 fn new_pan(fields: &Fields, earlier: &[Account]) -> Result<Digits, ScenarioFault>
     ensures exact { Gives (λ pan. pan) result (new_pan (path fields.now.place) earlier.now (table_view fields.now.table.now)) }
-    ensures within { IfOk result (λ pan. (13 ≤ length pan) × (length pan ≤ 16)) }
+    ensures within { IfOk result (λ pan. (least_pan ≤ length pan) × (length pan ≤ most_pan)) }
 {
-    let pan = fields.digits("pan", 13, 16)?;
+    let pan = fields.digits("pan", LEAST_PAN, MOST_PAN)?;
     if has_pan(pan.as_slice(), earlier) {
         return Err(fields.spot("pan").bad());
     }

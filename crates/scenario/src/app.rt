@@ -21,7 +21,7 @@ use card_files::rules::{MOST_AFL, reference_pin};
 use card_files::{AppImage, RecordImage};
 use card_keys::master_key;
 use card_state::AppState;
-use emv_dict::{Digits, MOST_AMOUNT, Name, two_digits};
+use emv_dict::{Digits, LEAST_PAN, MOST_AMOUNT, MOST_PAN, Name, two_digits};
 use issuer_host::HostKeys;
 use object_lists::{Dol, read_dol, total};
 use scenario_fields::{Characters, Fields, Place, ScenarioFault, Spot};
@@ -352,7 +352,7 @@ fn read_holder(
         place: Place::App(card, index),
         table,
     };
-    let pan = fields.digits("pan", 13, 16)?;
+    let pan = fields.digits("pan", LEAST_PAN, MOST_PAN)?;
     let sequence = sequence_at(&fields)?;
     let currency = fields.code("currency")?;
     Ok(Holder {

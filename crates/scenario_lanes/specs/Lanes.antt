@@ -1,5 +1,6 @@
 -- The tables of a lane and of its applications.
 use Rattle.std.specs.Prelude.{ℕ, ◌+◌, List, [], ◌∷◌, length, codes, false, Result, Ok}
+use Rattle.emv_dict.specs.Pan.{least_pan, most_pan}
 use Rattle.emv_dict.specs.Settings.{most_amount}
 use Rattle.emv_dict.specs.Views.{SettingsData}
 use Rattle.emv_dict.specs.declared.purchase.AidRow.{AidRow}
@@ -61,7 +62,7 @@ settings_of path i pin_key ms = do
   country ← code_at path (codes "country") ms
   caps ← bytes_at path (codes "caps") 3 3 ms
   id ← text_at path (codes "id") LetterOrDigit 8 8 ms
-  exceptions ← digits_list path (codes "exceptions") 100 13 16 ms
+  exceptions ← digits_list path (codes "exceptions") 100 least_pan most_pan ms
   aids ← aids_at path i ms
   Ok (record { kind = kind; country = country; caps = caps; id = id; pin_key = pin_key; exceptions = exceptions; aids = aids })
 

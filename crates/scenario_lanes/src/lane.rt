@@ -11,7 +11,7 @@ ghost use Rattle.scenario_lanes.specs.Plan.{IsLane, purchase_count};
 
 use crate::plan::Lane;
 use crate::purchase::purchases_at;
-use emv_dict::{AidRow, MOST_AMOUNT, Name, Settings};
+use emv_dict::{AidRow, LEAST_PAN, MOST_AMOUNT, MOST_PAN, Name, Settings};
 use scenario_fields::{Characters, Fields, Place, ScenarioFault};
 use toml::Value;
 
@@ -128,7 +128,7 @@ fn read_settings(fields: &Fields, lane: usize, pin_key: [u8; 16]) -> Result<Sett
     let country = fields.code("country")?;
     let caps = fields.byte_array("caps")?;
     let id = fields.text_array("id", Characters::LetterOrDigit)?;
-    let exceptions = fields.digits_list("exceptions", 100, 13, 16)?;
+    let exceptions = fields.digits_list("exceptions", 100, LEAST_PAN, MOST_PAN)?;
     let aids = aids_at(fields, lane)?;
     Ok(Settings {
         kind,

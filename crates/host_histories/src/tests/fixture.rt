@@ -9,7 +9,7 @@ ghost use Rattle.script_words.specs.Script.{IsScript};
 ghost use Rattle.script_words.specs.Spelling.{IsWord};
 ghost use Rattle.issuer_host.specs.Account.{IsAccount};
 
-use emv_dict::{Digits, MOST_AMOUNT, is_pin_length};
+use emv_dict::{Digits, MOST_AMOUNT, is_pan_length, is_pin_length};
 use issuer_host::{Account, HostKeys, Ordered, Script};
 use script_words::{made_length, read_order};
 use std::alloc::Global;
@@ -82,7 +82,7 @@ pub fn account_number(rt: &impl Abort, text: &str) -> Digits
     ensures { HasPanLength result }
 {
     let digits = digits_of(text);
-    assert!(rt; 13 <= digits.len() && digits.len() <= 16);
+    assert!(rt; is_pan_length(digits.len()));
     digits
 }
 
