@@ -1,6 +1,6 @@
 -- The data objects that stand directly in a byte string, and those directly in its templates (EMV 4.3
 -- Book 3 Annex B).
-use Rattle.std.specs.Prelude.{◌≡◌, ℕ, zero, suc, ◌+◌, ◌-◌, ◌==◌, if◌then◌else◌, List, [], ◌∷◌, length, Option, Some, None, option_map, Result, Ok, Err, slice_get}
+use Rattle.std.specs.Prelude.{◌≡◌, ℕ, zero, suc, ◌+◌, ◌-◌, ◌==◌, if◌then◌else◌, List, [], ◌∷◌, length, map, filter, Option, Some, None, option_map, Result, Ok, Err, slice_get}
 use Rattle.std.specs.List.{AllByRecursion}
 use Rattle.std.specs.Option.{option_or}
 use Rattle.ber_tlv.specs.Item.{ItemData, item_at}
@@ -17,6 +17,11 @@ first_value tag (item ∷ items) = (if item.tag == tag then Some item.value else
 abbrev pub found_value : ℕ → Result (List ItemData) TlvFault → Result (Option (List ℕ)) TlvFault
 found_value tag (Ok items) = Ok (first_value tag items)
 found_value tag (Err fault) = Err fault
+
+-- the values of the objects of a tag in a reading, in their order; none where it is a fault
+abbrev pub values_of : ℕ → Result (List ItemData) TlvFault → List (List ℕ)
+values_of tag (Ok items) = map (λ item. item.value) (filter (λ item. item.tag == tag) items)
+values_of tag (Err fault) = []
 
 -- the value of an object of this tag
 abbrev pub value_if : ℕ → ItemData → Option (List ℕ)

@@ -1,7 +1,7 @@
-ghost use Rattle.std.specs.Prelude.{◌≡◌, ◌+◌, ◌-◌, ◌≤◌, ◌<◌, ◌^◌, length, Some, Ok, Err, IfSome, IsNone, IsTrue, ℕ, List, ◌↔◌, MatchResult, option_map};
-ghost use Rattle.ber_tlv.specs.Direct.{found_value, sole_value, template_fault, IsWhole};
+ghost use Rattle.std.specs.Prelude.{◌≡◌, ◌+◌, ◌-◌, ◌≤◌, ◌<◌, ◌^◌, length, Some, Ok, Err, IfSome, IsNone, IsOk, IsTrue, ℕ, List, ◌↔◌, MatchResult, option_map, slice_get};
+ghost use Rattle.ber_tlv.specs.Direct.{found_value, values_of, sole_value, template_fault, IsWhole};
 ghost use Rattle.ber_tlv.specs.Direct as spec;
-ghost use Rattle.ber_tlv.specs.Left.{items_of};
+ghost use Rattle.ber_tlv.specs.Left.{items_of, items_behind};
 ghost use Rattle.ber_tlv.specs.Tag.{is_readable};
 ghost use Rattle.ber_tlv.specs.Written.{written};
 ghost use Rattle.ber_tlv.specs.Place.{place_of, moved, Within};
@@ -28,6 +28,30 @@ pub fn first_value(bytes: &[u8], tag: Tag) -> Result<Option<&[u8]>, TlvFault>
             }
             Ok(None) => return Ok(found),
             Err(fault) => return Err(fault),
+        }
+    }
+}
+
+/// The value of the object of a tag that stands behind `index` others of this tag, where the bytes are
+/// a list of objects; `None` where there are no more of them (EMV 4.3 Book 3 Annex B). The objects
+/// before it are passed over again each time.
+pub fn nth_value(bytes: &[u8], tag: Tag, index: usize) -> Option<&[u8]>
+    requires objects { IsOk (items_of bytes.now) }
+    ensures { option_map (λ value. value.now) result ≡ slice_get (values_of tag.0 (items_of bytes.now)) index }
+{
+    let mut cursor = Cursor::new(bytes);
+    let mut before = index;
+    loop {
+        let item = match cursor.next() {
+            Ok(Some(item)) => item,
+            Ok(None) => return None,
+            Err(_) => unreachable!(),
+        };
+        if item.tag == tag {
+            if before == 0 {
+                return Some(item.value);
+            }
+            before -= 1;
         }
     }
 }

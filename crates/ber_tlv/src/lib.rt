@@ -12,7 +12,7 @@ pub mod write;
 
 pub use buffer::append;
 pub use cursor::{Cursor, first_fault};
-pub use direct::{first_value, sole_value, template_fault};
+pub use direct::{first_value, nth_value, sole_value, template_fault};
 pub use item::{Item, TlvFault, place_or_zero, read_tag};
 pub use tag::{Tag, is_constructed, is_readable};
 pub use walk::deep_fault;
