@@ -1,7 +1,7 @@
 -- How the entries change as values and places do.
 use Rattle.std.proofs.Common.{◌≡◌, ◌≢◌, ℕ, zero, suc, Bool, true, false, ◌+◌, ◌<◌, ◌≤◌, ◌==◌, nat_lt, nat_le, if◌then◌else◌, List, [], ◌∷◌, ◌++◌, length, take, drop, Option, Some, None, is_some, option_map, Ok, Err, refl, arith, sym, ap, ◌∙◌, append_assoc, length-append, length-drop, ◌⊎◌, inl, inr, subst, MatchOption}
 use Rattle.std.specs.List.{insert, AllByRecursion, find, refill}
-use Rattle.std.proofs.lemmas.List.{length-take, length-take-le, take_at, drop_at, drop-drop}
+use Rattle.std.proofs.lemmas.List.{length-take, length-take-le, take_at, drop_at, drop-drop, append-nil, take-append-le, drop-append-le}
 use Rattle.std.proofs.lemmas.List.Sums.{sum_by-cons}
 use Rattle.std.proofs.Math.Seq.{take-add}
 use Rattle.ber_tlv.specs.declared.tag.Tag.{Tag}
@@ -436,3 +436,60 @@ set_of-puts_at false tag value old new test e = put_of-puts tag value old new e
 
 pub set_of-puts : (tag : Tag) (value : List ℕ) (old new : Entries) → set_of tag value old ≡ Ok new → Puts old new tag.0 value
 set_of-puts tag value old new e = set_of-puts_at (is_some (value_of tag.0 old)) tag value old new refl e
+
+-- the tags of these entries are below this one
+abbrev AllBelow : ℕ → Entries → Type 0
+AllBelow tag entries = AllByRecursion (λ entry. entry.0 < tag) entries
+
+-- an object behind all others
+pub value_of-below : (tag : ℕ) (entries : Entries) → AllBelow tag entries → value_of tag entries ≡ None
+value_of-below tag [] all = refl
+value_of-below tag (entry ∷ entries) (below, all) =
+    let other : (entry.0 == tag) ≡ false = grind arith in
+    rw other (value_of-below tag entries all)
+
+with_entry-below : (tag : ℕ) (value : List ℕ) (entries : Entries) → AllBelow tag entries → entries ++ (tag, value) ∷ [] ≡ with_entry tag value entries
+with_entry-below tag value [] all = refl
+with_entry-below tag value (entry ∷ entries) (below, all) =
+    let later : nat_lt tag entry.0 ≡ false = grind arith in
+    rw later (ap (λ (es : Entries). entry ∷ es) (with_entry-below tag value entries all))
+
+entries_of-append : (bytes value : List ℕ) (places : List Place) (place : Place) → count_of_bytes places ≡ length bytes → place.count ≡ length value
+    → entries_of (bytes ++ value) (places ++ place ∷ []) ≡ entries_of bytes places ++ (place.tag.0, value) ∷ []
+entries_of-append [] value [] place filled is =
+    ap (λ (all : List ℕ). entries_of all (place ∷ [])) (sym (append-nil value)) ∙ entries_of-first value [] place [] (sym is)
+entries_of-append (b ∷ bs) value [] place filled is = absurd (omega arith)
+entries_of-append bytes value (first ∷ places) place filled is =
+    let short : first.count ≤ length bytes = omega arith in
+    let later = entries_of-append (drop first.count bytes) value places place (omega (arith, length-drop first.count bytes)) is in
+    rw (take-append-le first.count bytes value short, drop-append-le first.count bytes value short)
+    (ap (λ (es : Entries). (first.tag.0, take first.count bytes) ∷ es) later)
+
+count_of_bytes-append : (places : List Place) (place : Place) → count_of_bytes (places ++ place ∷ []) ≡ count_of_bytes places + place.count
+count_of_bytes-append [] place = omega arith
+count_of_bytes-append (first ∷ places) place = let later = count_of_bytes-append places place in omega arith
+
+-- the entries of the bytes and places as an object behind all others leaves them
+pub entries_of-behind : (bytes value new_bytes : List ℕ) (places new_places : List Place) (tag : Tag) → count_of_bytes places ≡ length bytes
+    → AllBelow tag.0 (entries_of bytes places) → new_bytes ≡ bytes ++ value → new_places ≡ places ++ record { tag = tag; count = length value } ∷ []
+    → entries_of new_bytes new_places ≡ with_entry tag.0 value (entries_of bytes places)
+entries_of-behind bytes value new_bytes places new_places tag filled below is_bytes is_places =
+    rw (is_bytes, is_places) (entries_of-append bytes value places (record { tag = tag; count = length value }) filled refl ∙ with_entry-below tag.0 value (entries_of bytes places) below)
+
+pub filled-behind : (bytes value new_bytes : List ℕ) (places new_places : List Place) (tag : Tag) → count_of_bytes places ≡ length bytes
+    → new_bytes ≡ bytes ++ value → new_places ≡ places ++ record { tag = tag; count = length value } ∷ [] → count_of_bytes new_places ≡ length new_bytes
+filled-behind bytes value new_bytes places new_places tag filled is_bytes is_places =
+    let count = count_of_bytes-append places (record { tag = tag; count = length value }) in
+    rw (is_bytes, is_places) (omega (arith, length-append bytes value))
+
+above_last : (least : ℕ) (bytes : List ℕ) (places : List Place) (last : Place) → AllAbove least (entries_of bytes (places ++ last ∷ [])) → least < last.tag.0
+above_last least bytes [] last all = all.0
+above_last least bytes (first ∷ places) last all = above_last least (drop first.count bytes) places last all.1
+
+-- a tag above the last one is above all
+pub below_last : (bytes : List ℕ) (places : List Place) (last : Place) (tag : ℕ) → IsRising (entries_of bytes (places ++ last ∷ [])) → last.tag.0 < tag
+    → AllBelow tag (entries_of bytes (places ++ last ∷ []))
+below_last bytes [] last tag rising low = (low, tt)
+below_last bytes (first ∷ places) last tag rising low =
+    let here = above_last first.tag.0 (drop first.count bytes) places last rising.0 in
+    (omega arith, below_last (drop first.count bytes) places last tag rising.1 low)

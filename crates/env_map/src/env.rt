@@ -1,10 +1,11 @@
-ghost use Rattle.std.specs.Prelude.{◌≡◌, ◌≢◌, ℕ, ◌+◌, ◌<◌, ◌≤◌, [], ◌∷◌, length, option_map, Ok, Err, Some, MatchOption, MatchResult, OnOk, OnErr};
+ghost use Rattle.std.specs.Prelude.{◌≡◌, ◌≢◌, ℕ, ◌+◌, ◌<◌, ◌≤◌, [], ◌∷◌, length, option_map, true, Ok, Err, Some, MatchOption, MatchResult, OnOk, OnErr};
+ghost use Rattle.std.specs.List.{AllByRecursion};
 ghost use Rattle.std.specs.Option.{ForSome};
 ghost use Rattle.env_map.specs.Entries.{Entries, IsRising, value_of, entries_after, size_of_values};
 
 use crate::place::{Place, first_above, found, insert_bytes, overwrite, slot_for, start_of};
 use arrayvec::ArrayVec;
-use ber_tlv::Tag;
+use ber_tlv::{Tag, append};
 use std::marker::Model;
 
 /// Why an object is not put.
@@ -90,6 +91,22 @@ impl Env {
         ensures others { OnOk result ((other : ℕ) → other ≢ tag.0 → value_of other self.new ≡ value_of other self.old) }
         ensures err { OnErr result (self.new ≡ self.old) }
     {
+        if self.is_below(tag) {
+            self.append(tag, value)
+        } else {
+            self.insert(tag, value)
+        }
+    }
+
+    /// Adds an object before the first one with a greater tag, as `put` does.
+    fn insert(&mut self, tag: Tag, value: &[u8]) -> Result<(), EnvFault>
+        ensures exact { MatchResult result
+            (λ _. put_of tag value.now self.old ≡ Ok self.new)
+            (λ fault. put_of tag value.now self.old ≡ Err fault) }
+        ensures there { OnOk result (value_of tag.0 self.new ≡ Some value.now) }
+        ensures others { OnOk result ((other : ℕ) → other ≢ tag.0 → value_of other self.new ≡ value_of other self.old) }
+        ensures err { OnErr result (self.new ≡ self.old) }
+    {
         if found(&self.bytes, &self.places, tag).is_some() {
             return Err(EnvFault::Repeated(tag));
         }
@@ -104,6 +121,38 @@ impl Env {
         let count = value.len() as u16;
         self.places.insert(slot.index, Place { tag, count });
         Ok(())
+    }
+
+    /// Adds an object behind all others, as `put` does.
+    fn append(&mut self, tag: Tag, value: &[u8]) -> Result<(), EnvFault>
+        requires above { AllByRecursion (λ entry. entry.0 < tag.0) self.old }
+        ensures exact { MatchResult result
+            (λ _. put_of tag value.now self.old ≡ Ok self.new)
+            (λ fault. put_of tag value.now self.old ≡ Err fault) }
+        ensures there { OnOk result (value_of tag.0 self.new ≡ Some value.now) }
+        ensures others { OnOk result ((other : ℕ) → other ≢ tag.0 → value_of other self.new ≡ value_of other self.old) }
+        ensures err { OnErr result (self.new ≡ self.old) }
+    {
+        if self.places.is_full() {
+            return Err(EnvFault::TooMany);
+        }
+        if self.bytes.remaining_capacity() < value.len() {
+            return Err(EnvFault::TooLong);
+        }
+        append(&mut self.bytes, value);
+        let count = value.len() as u16;
+        self.places.push(Place { tag, count });
+        Ok(())
+    }
+
+    /// Whether the tags of all objects are below this one.
+    fn is_below(&self, tag: Tag) -> bool
+        ensures { result ≡ true → AllByRecursion (λ entry. entry.0 < tag.0) self.now }
+    {
+        match self.places.split_last() {
+            None => true,
+            Some((place, _)) => place.tag.0 < tag.0,
+        }
     }
 
     /// Writes over the value of a tag that is there, by one of equal length, and adds an object with

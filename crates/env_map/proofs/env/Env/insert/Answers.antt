@@ -2,7 +2,7 @@ use Rattle.std.proofs.Common.{◌≡◌, ◌<◌, ◌∙◌, sym, length, arith,
 use Rattle.env_map.specs.Entries.{value_of, with_entry}
 use Rattle.env_map.specs.Inside.{entries}
 use Rattle.env_map.proofs.EntryLemmas.{length-entries_of, size_of_values-entries_of, absent, put_of-many, put_of-long, put_of-fits, IsRising-with, entries_of-put, filled-put, length-bytes_with, put_of-puts}
-use Rattle.env_map.proofs.env.Env.put.Goals as goal
+use Rattle.env_map.proofs.env.Env.insert.Goals as goal
 
 pub returns-then-is_full-clause-exact : goal.returns-then-is_full-clause-exact
 returns-then-is_full-clause-exact c =
