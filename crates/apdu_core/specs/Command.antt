@@ -1,5 +1,5 @@
 -- The bytes of a command (ISO/IEC 7816-4 section 5.1, the four cases with short lengths).
-use Rattle.std.specs.Prelude.{ℕ, List, [], ◌∷◌, ◌++◌, ◌+◌, ◌==◌, length, take, slice_index, Some, None, option_map, if◌then◌else◌}
+use Rattle.std.specs.Prelude.{ℕ, List, [], ◌∷◌, ◌++◌, ◌+◌, ◌*◌, ◌==◌, length, take, slice_index, Some, None, option_map, if◌then◌else◌}
 use Rattle.std.specs.declared.option.Option.{Option}
 
 pub record CommandData : Type 0 where
@@ -26,6 +26,10 @@ tail_bytes body expects = field_bytes body ++ expected_bytes expects
 
 abbrev pub command_bytes : CommandData → List ℕ
 command_bytes c = c.class ∷ c.ins ∷ c.p1 ∷ c.p2 ∷ tail_bytes c.body c.expects
+
+-- READ RECORD of a record of the file with this short identifier (EMV 4.3 Book 3 section 6.5.11)
+abbrev pub record_command : ℕ → ℕ → List ℕ
+record_command sfi number = command_bytes (record { class = 0; ins = 0xB2; p1 = number; p2 = sfi * 8 + 4; body = []; expects = Some 0 })
 
 -- what stands behind the header, read back: a data field must not be empty where it has a length,
 -- and one more byte is the expected length

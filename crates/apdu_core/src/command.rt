@@ -1,6 +1,6 @@
 ghost use Rattle.std.specs.Prelude.{MatchResult, MatchOption, Some, None, ◌≡◌, ℕ, List, ◌∷◌, ◌++◌, ◌+◌, ◌↔◌, ◌<◌, ◌≤◌, length, IfOk, IsErrOf, IsSomeAnd, IfSome, IsOkAnd};
 ghost use Rattle.std.specs.declared.option.Option.{Option};
-ghost use Rattle.apdu_core.specs.Command.{CommandData, command_bytes, command_of, field_of, tail_bytes, tail_of};
+ghost use Rattle.apdu_core.specs.Command.{CommandData, command_bytes, record_command, command_of, field_of, tail_bytes, tail_of};
 ghost use Rattle.apdu_core.specs.Seen.{seen_command};
 
 use arrayvec::ArrayVec;
@@ -110,4 +110,21 @@ pub fn write_command(command: &Command<'_>, out: &mut Out)
     if let Some(expected) = command.expects {
         out.push(expected);
     }
+}
+
+/// Writes READ RECORD of a record, by its number, of the file with this short file identifier to `out`,
+/// in place of what it held (EMV 4.3 Book 3 section 6.5.11).
+pub fn write_record_command(sfi: u8, number: u8, out: &mut Out)
+    requires { sfi < 32 }
+    ensures { out.new.items ≡ record_command sfi number }
+{
+    let command = Command {
+        class: 0x00,
+        ins: 0xb2,
+        p1: number,
+        p2: sfi * 8 + 4,
+        body: &[],
+        expects: Some(0),
+    };
+    write_command(&command, out);
 }

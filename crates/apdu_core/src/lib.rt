@@ -6,7 +6,7 @@ pub mod command;
 pub mod response;
 pub mod status;
 
-pub use command::{ApduFault, Command, Out, read_command, write_command};
+pub use command::{ApduFault, Command, Out, read_command, write_command, write_record_command};
 pub use response::{Answer, Response, read_response, write_response};
 
 #[cfg(test)]

@@ -25,6 +25,8 @@ fn commands_are_read_and_written(rt: HostRuntime) -> Result<(), Fail> {
         assert_eq!(rt; command.body.len(), body);
         assert_eq!(rt; command.expects, expects);
     }
+    write_record_command(11, 2, &mut out);
+    assert_eq!(rt; out.as_slice(), [0x00, 0xb2, 0x02, 0x5c, 0x00].as_slice());
     Ok(())
 }
 

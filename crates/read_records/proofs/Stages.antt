@@ -2,6 +2,7 @@
 use Rattle.std.proofs.Common.{◌≡◌, ℕ, List, [], ◌∷◌, ◌++◌, Ok, Err, Some, None, Option, refl, ap, sym, ◌∙◌, drop, length}
 use Rattle.std.proofs.Math.Seq.{drop-length}
 use Rattle.std.specs.declared.result.Result.{Result}
+use Rattle.apdu_core.specs.Command.{record_command}
 use Rattle.emv_dict.proofs.Steps.{leads_more, leads_now}
 use Rattle.emv_dict.specs.Progress.{Progress, Wants, Stopped, Done, Leads}
 use Rattle.emv_dict.specs.declared.ending.Cause.{Cause}
@@ -11,7 +12,7 @@ use Rattle.read_records.specs.Afl.{RecordPlace}
 use Rattle.read_records.specs.Checked.{objects_fault}
 use Rattle.read_records.specs.DataRead.{card_unless, card_from, card_read, finished, read_on, reading}
 use Rattle.read_records.specs.Options.{Opened, Said, options_command, options_said, after_options, initiated}
-use Rattle.read_records.specs.Records.{record_command, held_in, held_in_all, gathered_all}
+use Rattle.read_records.specs.Records.{held_in, held_in_all, gathered_all}
 use Rattle.read_records.proofs.Gathering.{then_read, gathered_all-then}
 
 -- the same records left, told otherwise
@@ -38,7 +39,7 @@ options_told whole answers given answer said is leads =
     leads_more whole (initiated given) (after_options said) answers answer leads (λ later. ap (λ (s : Said). after_options s later) (sym is))
 
 pub record_wanted : (whole : List (List ℕ) → Progress ReadCard) (answers : List (List ℕ)) (entries : Entries) (place : RecordPlace) (left : List RecordPlace) (command : List ℕ)
-    → command ≡ record_command place → Leads whole answers (reading (record { entries = entries; left = place ∷ left })) → whole answers ≡ Wants command
+    → command ≡ record_command place.sfi place.number → Leads whole answers (reading (record { entries = entries; left = place ∷ left })) → whole answers ≡ Wants command
 unfolding reading
 record_wanted whole answers entries place left command is leads =
     leads_now whole (reading (record { entries = entries; left = place ∷ left })) answers leads

@@ -1,5 +1,6 @@
 -- What reading gives (EMV 4.3 Book 3 sections 10.1 and 10.2).
 use Rattle.std.specs.Prelude.{ℕ, List, [], ◌∷◌, drop, length, Option, Some, None, Result, Ok, Err}
+use Rattle.apdu_core.specs.Command.{record_command}
 use Rattle.apdu_core.specs.Status.{conditions_not_satisfied}
 use Rattle.emv_dict.specs.Progress.{Progress, Wants, Stopped, Done}
 use Rattle.emv_dict.specs.declared.ending.Cause.{Cause}
@@ -11,7 +12,7 @@ use Rattle.object_lists.specs.CardRead.{ReadCard, card_of}
 use Rattle.read_records.specs.Afl.{RecordPlace}
 use Rattle.read_records.specs.Checked.{objects_fault}
 use Rattle.read_records.specs.Options.{Opened, Said, Refused, Granted, Faulty, options_said}
-use Rattle.read_records.specs.Records.{record_command, held_in_all, gathered_all}
+use Rattle.read_records.specs.Records.{held_in_all, gathered_all}
 
 abbrev pub card_unless : Entries → Option Cause → Result ReadCard Cause
 card_unless entries None = Ok (card_of entries)
@@ -48,7 +49,7 @@ finished (Err cause) rest = Stopped cause
 -- the first fault so far; else the command for the next record, or what all of them give
 abbrev pub read_on : Result Entries Cause → List RecordPlace → List (List ℕ) → Progress ReadCard
 read_on (Err cause) left rest = Stopped cause
-read_on (Ok entries) (place ∷ left) rest = Wants (record_command place)
+read_on (Ok entries) (place ∷ left) rest = Wants (record_command place.sfi place.number)
 read_on (Ok entries) [] rest = finished (card_unless entries (objects_fault entries)) rest
 
 -- the step over the answers

@@ -1,8 +1,7 @@
 -- READ RECORD for each record of the locator, and what the records give (EMV 4.3 Book 3 sections
 -- 6.5.11 and 10.2).
-use Rattle.std.specs.Prelude.{ℕ, List, [], ◌∷◌, ◌++◌, ◌+◌, ◌*◌, ◌==◌, Bool, nat_le, is_some, map, Option, Some, None, option_map, Result, Ok, Err, if◌then◌else◌}
+use Rattle.std.specs.Prelude.{ℕ, List, [], ◌∷◌, ◌++◌, ◌==◌, Bool, nat_le, is_some, map, Option, Some, None, option_map, Result, Ok, Err, if◌then◌else◌}
 use Rattle.std.specs.List.{zip}
-use Rattle.apdu_core.specs.Command.{command_bytes}
 use Rattle.apdu_core.specs.Response.{ResponseData, response_of}
 use Rattle.apdu_core.specs.Status.{no_error}
 use Rattle.ber_tlv.specs.Direct.{sole_value}
@@ -19,9 +18,6 @@ use Rattle.env_map.specs.Put.{put_of}
 use Rattle.env_map.specs.declared.env.EnvFault.{EnvFault}
 use Rattle.env_map.specs.declared.env.EnvFault.TheVariants as env
 use Rattle.read_records.specs.Afl.{RecordPlace}
-
-abbrev pub record_command : RecordPlace → List ℕ
-record_command place = command_bytes (record { class = 0; ins = 0xB2; p1 = place.number; p2 = place.sfi * 8 + 4; body = []; expects = Some 0 })
 
 -- what answers to READ RECORD hold: their primitive objects at any depth, in order, and the fault
 -- behind these that ends reading

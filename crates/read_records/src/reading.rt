@@ -9,12 +9,12 @@ ghost use Rattle.read_records.specs.Afl.{RecordPlace, places_from, places_of, pl
 ghost use Rattle.read_records.specs.Checked.{HasOptions};
 ghost use Rattle.read_records.specs.DataRead.{reading, finished, card_read, data_read, at_step};
 ghost use Rattle.read_records.specs.Options.{Opened, Refused, Granted, Faulty, options_said};
-ghost use Rattle.read_records.specs.Records.{record_command};
+ghost use Rattle.apdu_core.specs.Command.{record_command};
 
 use crate::afl::{Group, Groups};
 use crate::checked::objects_fault;
 use crate::record::read_record;
-use apdu_core::{Command, Out, write_command};
+use apdu_core::{Out, write_record_command};
 use emv_dict::{Cause, Step};
 use env_map::Env;
 use object_lists::CardData;
@@ -162,17 +162,9 @@ impl Course {
 
 /// READ RECORD of the first record of a group.
 fn ask_record(group: &Group, out: &mut Out)
-    ensures { out.new.items ≡ record_command (record { sfi = group.now.file / 8; number = group.now.first }) }
+    ensures { out.new.items ≡ record_command (group.now.file / 8) group.now.first }
 {
-    let command = Command {
-        class: 0x00,
-        ins: 0xb2,
-        p1: group.first,
-        p2: group.file - group.file % 8 + 4,
-        body: &[],
-        expects: Some(0),
-    };
-    write_command(&command, out);
+    write_record_command(group.file / 8, group.first, out);
 }
 
 /// The steps give what the card's answers give as a whole: where each record has its answer, the data
