@@ -6,13 +6,14 @@ use Rattle.std.proofs.lemmas.List.Filters.{length-filter_both}
 use Rattle.std.proofs.lemmas.Option.{slice_get_within}
 use Rattle.std.specs.Prelude.{MatchOption, IfSome}
 use Rattle.apdu_core.specs.Command.{command_of, tail_of}
+use Rattle.ber_tlv.specs.Direct.{values_of}
 use Rattle.ber_tlv.specs.Item.{ItemData}
 use Rattle.ber_tlv.specs.Items.{Items}
 use Rattle.ber_tlv.specs.Left.{items_of}
 use Rattle.ber_tlv.specs.declared.item.TlvFault.{TlvFault}
 use Rattle.ber_tlv.proofs.ItemBounds.{item_at-lies}
 use Rattle.ber_tlv.proofs.Reading.{reads_list}
-use Rattle.script_run.specs.Script.{is_command, commands_in, commands_of}
+use Rattle.script_run.specs.Script.{is_command, commands_of}
 
 pub drop_some : {A : Type 0} (xs : List A) (n : ℕ) (x : A) → slice_get xs n ≡ Some x → drop n xs ≡ x ∷ drop (n + 1) xs
 drop_some [] n x is = cc
@@ -36,7 +37,7 @@ items_few bytes place (item ∷ items) stand =
     let later = items_few bytes stand.0 items stand.2 in
     omega arith
 
-commands_few-read : (bytes : List ℕ) (read : Result (List ItemData) TlvFault) → items_of bytes ≡ read → 2 * length (commands_in read) ≤ length bytes
+commands_few-read : (bytes : List ℕ) (read : Result (List ItemData) TlvFault) → items_of bytes ≡ read → 2 * length (values_of 0x86 read) ≤ length bytes
 commands_few-read bytes (Ok items) is =
     let few = items_few bytes 0 items ((reads_list bytes items).0 is) in
     let kept : length (map (λ item. item.value) (filter is_command items)) ≤ length items = (let both = length-filter_both is_command (λ item. not (is_command item)) (λ item. refl) items in simp length-map (omega arith)) in

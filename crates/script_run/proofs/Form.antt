@@ -2,12 +2,13 @@
 use Rattle.std.proofs.Common.{◌≡◌, ℕ, ◌==◌, ◌&&◌, arith, Bool, true, false, List, [], ◌∷◌, filter, map, refl, ap, sym, ◌∙◌, Option, Some, None, option_map, Result, Ok, Err, length, if◌then◌else◌}
 use Rattle.std.proofs.lemmas.Bool.Decides.{nat_tests}
 use Rattle.std.specs.List.{list_all}
+use Rattle.ber_tlv.specs.Direct.{values_of}
 use Rattle.ber_tlv.specs.Item.{ItemData}
 use Rattle.ber_tlv.specs.Left.{items_of}
 use Rattle.ber_tlv.specs.declared.item.TlvFault.{TlvFault}
 use Rattle.emv_dict.specs.Progress.{Leads}
 use Rattle.script_run.specs.Ran.{ran, script_ran, template_ran}
-use Rattle.script_run.specs.Script.{ScriptData, is_command, no_identifier, with_commands, script_read, script_of, commands_in, commands_of}
+use Rattle.script_run.specs.Script.{ScriptData, is_command, no_identifier, with_commands, script_read, script_of, commands_of}
 
 -- the script has these commands
 abbrev HasCommands : Option ScriptData → List (List ℕ) → Type 0
@@ -37,7 +38,7 @@ named-has true true item items is =
 named-has true false item items is = tt
 named-has false four item items is = with_commands-has (list_all is_command (item ∷ items)) no_identifier (item ∷ items) refl
 
-script_read-has : (read : Result (List ItemData) TlvFault) → HasCommands (script_read read) (commands_in read)
+script_read-has : (read : Result (List ItemData) TlvFault) → HasCommands (script_read read) (values_of 0x86 read)
 script_read-has (Ok []) = refl
 script_read-has (Ok (item ∷ items)) = named-has (item.tag == 0x9F18) (length item.value == 4) item items refl
 script_read-has (Err fault) = tt

@@ -1,6 +1,7 @@
 -- The script that the value of an issuer script template (71 or 72) spells (EMV 4.3 Book 3 section 10.10).
-use Rattle.std.specs.Prelude.{ℕ, Bool, ◌==◌, if◌then◌else◌, List, [], ◌∷◌, length, map, filter, Option, Some, None, Result, Ok, Err}
+use Rattle.std.specs.Prelude.{ℕ, Bool, ◌==◌, if◌then◌else◌, List, [], ◌∷◌, length, map, Option, Some, None, Result, Ok, Err}
 use Rattle.std.specs.List.{list_all}
+use Rattle.ber_tlv.specs.Direct.{values_of}
 use Rattle.ber_tlv.specs.Item.{ItemData}
 use Rattle.ber_tlv.specs.Left.{items_of}
 use Rattle.ber_tlv.specs.declared.item.TlvFault.{TlvFault}
@@ -37,10 +38,6 @@ script_read (Err fault) = None
 unfoldable pub script_of : List ℕ → Option ScriptData
 script_of template = script_read (items_of template)
 
-abbrev pub commands_in : Result (List ItemData) TlvFault → List (List ℕ)
-commands_in (Ok items) = map (λ item. item.value) (filter is_command items)
-commands_in (Err fault) = []
-
 -- the commands of a template, in their order
 unfoldable pub commands_of : List ℕ → List (List ℕ)
-commands_of template = commands_in (items_of template)
+commands_of template = values_of 0x86 (items_of template)

@@ -4,7 +4,7 @@ ghost use Rattle.ber_tlv.specs.Left.{items_behind, items_of};
 ghost use Rattle.script_run.specs.Script.{script_of, commands_of, no_identifier};
 ghost use Rattle.script_run.specs.Only.{only_commands};
 
-use ber_tlv::{Cursor, Tag};
+use ber_tlv::{Cursor, Tag, nth_value};
 
 /// The tag of a script's identifier.
 const IDENTIFIER: Tag = Tag(0x9f18);
@@ -67,19 +67,5 @@ pub(crate) fn command_at(template: &[u8], index: usize) -> Option<&[u8]>
     requires { IsOk (items_of template.now) }
     ensures { option_map (λ command. command.now) result ≡ slice_get (commands_of template.now) index }
 {
-    let mut cursor = Cursor::new(template);
-    let mut before = index;
-    loop {
-        let item = match cursor.next() {
-            Ok(Some(item)) => item,
-            Ok(None) => return None,
-            Err(_) => unreachable!(),
-        };
-        if item.tag == COMMAND {
-            if before == 0 {
-                return Some(item.value);
-            }
-            before -= 1;
-        }
-    }
+    nth_value(template, COMMAND, index)
 }
