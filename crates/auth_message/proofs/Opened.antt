@@ -1,17 +1,20 @@
 -- The items of a message's value, from the step that gave its outer item.
 use Rattle.std.proofs.Common.{◌≡◌, ℕ, ◌+◌, ◌-◌, true, false, List, [], ◌∷◌, length, take, Option, Some, None, Result, Ok, Err, refl, sym, ap, subst, ◌∙◌, inl, inr, zero, suc, IfSome}
-use Rattle.std.specs.Prelude.{nat_le, slice_range, ◌==◌}
+use Rattle.std.specs.Prelude.{nat_le, slice_range, ◌==◌, unwrap_or}
 use Rattle.std.specs.List.{list_any}
 use Rattle.ber_tlv.specs.Item.{ItemData, item_at, tag_at, length_at, value_at}
-use Rattle.ber_tlv.specs.Items.{NextItem}
+use Rattle.ber_tlv.specs.Items.{NextItem, NextFault}
 use Rattle.ber_tlv.specs.Left.{items_behind, items_of, fault_of, then_left}
 use Rattle.ber_tlv.specs.Place.{place_of}
+use Rattle.ber_tlv.specs.Walked.{Walked, walk_of}
 use Rattle.ber_tlv.specs.declared.item.TlvFault.{TlvFault}
 use Rattle.ber_tlv.specs.declared.item.Item.{Item}
 use Rattle.ber_tlv.specs.Seen.{seen}
 use Rattle.ber_tlv.proofs.ItemBounds.{step-ok, chosen-ok}
+use Rattle.ber_tlv.proofs.Reading.{left-fault}
+use Rattle.ber_tlv.proofs.Walking.{walk-item, walk-fault}
 use Rattle.auth_message.specs.declared.fault.MessageFault.TheVariants.{Coding}
-use Rattle.auth_message.specs.Outer.{held, items_within, outer_of, outer_among, outer_within}
+use Rattle.auth_message.specs.Outer.{held, items_within, first_met, fault_in, outer_of, outer_among, outer_within}
 
 value_start : (bytes : List ℕ) (start tag place count : ℕ) (item : ItemData) (next : ℕ) → value_at bytes start tag place count ≡ Ok (item, next) → item.start ≡ start
 unfolding value_at
@@ -49,10 +52,23 @@ first_is b b2 bytes p item next same first same2 step left = record {
 pub inside_is : (b2 bytes inside : List ℕ) (place next count : ℕ) → b2 ≡ bytes → inside ≡ take next b2 → place ≡ next - count → items_behind inside place ≡ items_behind (take next bytes) (next - count)
 inside_is b2 bytes inside place next count same cut at = ap (λ x. items_behind x place) (cut ∙ ap (take next) same) ∙ ap (items_behind (take next bytes)) at
 
+-- the fault in the first item, whose value's items are these
+fault_first : (bytes : List ℕ) (item : ItemData) (next : ℕ) (r : Result (List ItemData) TlvFault) → First bytes item next → items_behind (take next bytes) (next - length item.value) ≡ r
+    → fault_in bytes (first_met (walk_of bytes)) ≡ fault_of r
+fault_first bytes item next r first inside =
+    ap (λ (w : Walked). fault_in bytes (first_met w)) (walk-item bytes 0 item next first.step) ∙ ap fault_of (held_is bytes 0 item next first.step ∙ inside)
+
 found_first : (known bytes : List ℕ) (item : ItemData) (next : ℕ) (others : List ItemData) (r : Result (List ItemData) TlvFault) → First bytes item next → items_behind bytes next ≡ Ok others
     → items_behind (take next bytes) (next - length item.value) ≡ r → outer_of known bytes ≡ outer_within known item others r
 found_first known bytes item next others r first rest inside =
-    ap (outer_among known bytes) (sym first.left ∙ ap (then_left item) rest) ∙ ap (outer_within known item others) (held_is bytes 0 item next first.step ∙ inside)
+    ap (outer_among known bytes (fault_in bytes (first_met (walk_of bytes)))) (sym first.left ∙ ap (then_left item) rest) ∙ ap (outer_within known item others) (held_is bytes 0 item next first.step ∙ inside)
+
+-- the same where a fault stands behind the first item
+broken_behind : (known bytes : List ℕ) (item : ItemData) (next : ℕ) (fault : TlvFault) (r : Result (List ItemData) TlvFault) → First bytes item next → items_behind bytes next ≡ Err fault
+    → items_behind (take next bytes) (next - length item.value) ≡ r → outer_of known bytes ≡ Err (Coding (place_of (unwrap_or (fault_of r) fault)))
+broken_behind known bytes item next fault r first rest inside =
+    ap (outer_among known bytes (fault_in bytes (first_met (walk_of bytes)))) (sym first.left ∙ ap (then_left item) rest)
+    ∙ ap (λ f. Err (Coding (place_of (unwrap_or f fault)))) (fault_first bytes item next r first inside)
 
 -- where the message has no fault, what is left has none
 others_of : (item : ItemData) (r : Result (List ItemData) TlvFault) → None ≡ fault_of (then_left item r) → (others : List ItemData) × (r ≡ Ok others)
@@ -70,11 +86,31 @@ items_are : (r : Result (List ItemData) TlvFault) → None ≡ fault_of r → (i
 items_are (Ok items) h = (items, refl)
 items_are (Err fault) h = absurd cc
 
-pub value_fault : (known bytes : List ℕ) (item : ItemData) (next place : ℕ) (fault : TlvFault) → First bytes item next → None ≡ fault_of (items_of bytes)
+-- no item stands at the front of the message
+pub first_fault_is : (known bytes : List ℕ) (place : ℕ) (fault : TlvFault) → NextFault bytes 0 fault → place ≡ place_of fault → outer_of known bytes ≡ Err (Coding place)
+first_fault_is known bytes place fault broken at =
+    ap (λ (w : Walked). outer_among known bytes (fault_in bytes (first_met w)) (items_of bytes)) (walk-fault bytes 0 fault broken)
+    ∙ ap (outer_among known bytes None) (left-fault bytes 0 fault broken) ∙ ap (λ n. Err (Coding n)) (sym at)
+
+-- a fault among the items of its value
+pub value_fault : (known bytes : List ℕ) (item : ItemData) (next place : ℕ) (fault : TlvFault) → First bytes item next
     → Some fault ≡ fault_of (items_behind (take next bytes) (next - length item.value)) → place ≡ place_of fault → outer_of known bytes ≡ Err (Coding place)
-value_fault known bytes item next place fault first whole broken at =
-    let rest = whole_rest bytes item next first whole in
-    found_first known bytes item next rest.0 (Err fault) first rest.1 (fault_is _ fault broken) ∙ ap (λ n. Err (Coding n)) (sym at)
+value_fault known bytes item next place fault first broken at = by (items_behind bytes next) refl
+  where
+    inside : items_behind (take next bytes) (next - length item.value) ≡ Err fault
+    inside = fault_is _ fault broken
+
+    by : (r : Result (List ItemData) TlvFault) → items_behind bytes next ≡ r → outer_of known bytes ≡ Err (Coding place)
+    by (Ok others) rest = found_first known bytes item next others (Err fault) first rest inside ∙ ap (λ n. Err (Coding n)) (sym at)
+    by (Err other) rest = broken_behind known bytes item next other (Err fault) first rest inside ∙ ap (λ n. Err (Coding n)) (sym at)
+
+-- a fault behind the first item, whose value has none
+pub fault_after : (known bytes : List ℕ) (item : ItemData) (next place : ℕ) (fault : TlvFault) → First bytes item next → Some fault ≡ fault_of (items_of bytes)
+    → None ≡ fault_of (items_behind (take next bytes) (next - length item.value)) → place ≡ place_of fault → outer_of known bytes ≡ Err (Coding place)
+fault_after known bytes item next place fault first broken good at =
+    let inside = items_are _ good in
+    ap (λ (f : Option TlvFault). outer_among known bytes f (items_of bytes)) (fault_first bytes item next (Ok inside.0) first inside.1)
+    ∙ ap (outer_among known bytes None) (fault_is _ fault broken) ∙ ap (λ n. Err (Coding n)) (sym at)
 
 pub unknown_tag : (known bytes : List ℕ) (item : ItemData) (next : ℕ) → First bytes item next → None ≡ fault_of (items_of bytes)
     → None ≡ fault_of (items_behind (take next bytes) (next - length item.value)) → list_any (λ tag. tag == item.tag) known ≡ false → outer_of known bytes ≡ Err (Coding item.start)

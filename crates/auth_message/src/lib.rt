@@ -16,6 +16,7 @@ pub mod reversal;
 pub mod write;
 
 pub use fault::MessageFault;
+pub use fields::Fields;
 pub use message::{Incoming, read_message};
 pub use presentment::PresentFields;
 pub use reply::{Reply, read_reply};

@@ -17,8 +17,8 @@ pub enum Incoming<'a> {
 }
 
 /// The message that the bytes are: a request (E1), a presentment (E3) or a reversal (E4). Else its first
-/// fault: those of the coding of the message, then of its value, then another tag, then an item beside
-/// it, then its fields in their order, then an item behind the last one.
+/// fault: that of the coding of the message and of its value, in the order of the bytes, then another tag,
+/// then an item beside it, then its fields in their order, then an item behind the last one.
 pub fn read_message(bytes: &[u8]) -> Result<Incoming<'_>, MessageFault>
     ensures value { MatchResult result (λ message. message_of bytes.now ≡ Ok message) (λ fault. message_of bytes.now ≡ Err fault) }
     // The amount is twelve decimal digits.

@@ -13,17 +13,17 @@ pub fn open<'a>(bytes: &'a [u8], known: &[u32]) -> Result<(u32, Fields<'a>), Mes
         (λ fault. outer_of known.now bytes.now ≡ Err fault) }
     ensures bytes { IfOk result (λ found. found.1.bytes ≡ bytes.now) }
 {
-    if let Some(fault) = first_fault(bytes) {
-        return Err(MessageFault::Coding(fault.place()));
-    }
     let mut cursor = Cursor::new(bytes);
     let item = match cursor.next() {
         Ok(Some(item)) => item,
         Ok(None) => return Err(MessageFault::Coding(0)),
-        Err(_) => unreachable!(),
+        Err(fault) => return Err(MessageFault::Coding(fault.place())),
     };
     let inside = cursor.inside(&item);
     if let Some(fault) = fault_behind(&mut cursor.inside(&item)) {
+        return Err(MessageFault::Coding(fault.place()));
+    }
+    if let Some(fault) = first_fault(bytes) {
         return Err(MessageFault::Coding(fault.place()));
     }
     if !is_known(item.tag.0, known) {

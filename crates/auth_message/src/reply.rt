@@ -31,10 +31,10 @@ impl<'a> Model for Reply<'a> {
     } };
 }
 
-/// The reply that the bytes are (E2). Else its first fault: those of the coding of the reply, then of its
-/// value, then another tag, then an item beside it; then 8A, of two bytes, and 91, of 8 to 16 bytes, as
-/// `Missing` and `Value`; then more than 8 scripts or more than 1,024 bytes of them as `Value` of 71; then
-/// an item behind the last script as `Coding`.
+/// The reply that the bytes are (E2). Else its first fault: that of the coding of the reply and of its
+/// value, in the order of the bytes, then another tag, then an item beside it; then 8A, of two bytes, and
+/// 91, of 8 to 16 bytes, as `Missing` and `Value`; then more than 8 scripts or more than 1,024 bytes of them
+/// as `Value` of 71; then an item behind the last script as `Coding`.
 #[tactic(auto, unfolding(crate::specs::Reply::reply_at))]
 pub fn read_reply(bytes: &[u8]) -> Result<Reply<'_>, MessageFault>
     ensures value { MatchResult result (λ reply. reply_of bytes.now ≡ Ok reply) (λ fault. reply_of bytes.now ≡ Err fault) }

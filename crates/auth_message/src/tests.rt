@@ -91,6 +91,19 @@ fn the_first_fault_is_told(rt: HostRuntime) {
 }
 
 #[test]
+fn the_least_place_of_a_fault_is_told(rt: HostRuntime) {
+    // The last field ends in the message, and not in the outer item; a byte is left behind that one.
+    let mut short = REVERSAL;
+    short[1] = 0x2f;
+    assert!(rt; fault(&short) == Some(MessageFault::Coding(46)));
+    let bytes = [0xE2, 0x03, 0x8A, 0x02, 0x31, 0x34];
+    assert!(rt; reply_fault(&bytes) == Some(MessageFault::Coding(2)));
+    // A fault behind the outer item alone, and one in a second item, which is no fault of the coding.
+    assert!(rt; fault(&[0xE4, 0x00, 0x9F]) == Some(MessageFault::Coding(2)));
+    assert!(rt; fault(&[0xE4, 0x00, 0xE4, 0x01, 0x9F]) == Some(MessageFault::Coding(2)));
+}
+
+#[test]
 fn replies_are_read(rt: HostRuntime) {
     let Ok(reply) = read_reply(&REPLY) else {
         panic!(rt; "a reply");
