@@ -1,9 +1,9 @@
 -- What one decision changes, and the state in which it may be taken.
 use Rattle.std.specs.Prelude.{ℕ, ◌+◌, ◌-◌, ◌<◌, ◌≤◌, if◌then◌else◌, unwrap_or, ⊤}
-use Rattle.emv_dict.specs.declared.ending.Kind.TheVariants.{Tc}
-use Rattle.card_state.specs.declared.decision.How.TheVariants.{Offline}
+use Rattle.emv_dict.specs.declared.ending.Kind.TheVariants.{Aac, Tc, Arqc}
+use Rattle.card_state.specs.declared.decision.How.TheVariants.{Authenticated as ByIssuer, Alone, Offline}
 use Rattle.card_state.specs.declared.decision.Decision.{Decision}
-use Rattle.card_state.specs.declared.decision.Decision.TheVariants.{Started, PinTry, First, Second}
+use Rattle.card_state.specs.declared.decision.Decision.TheVariants.{Started, PinTry, PinRight, First, Authenticated, Script, Second}
 use Rattle.card_state.specs.declared.state.AppState.{AppState}
 use Rattle.card_state.specs.Decisions.{is_start, is_try, is_reset, is_offline_approval, tries_given, blocked_given, pin_given, count_limit_given, sum_limit_given, failure_given}
 use Rattle.card_state.specs.Totals.{approved_amount}
@@ -32,6 +32,14 @@ WithinLimits s amount = (s.count + 1 ≤ s.count_limit) × (s.sum + amount ≤ s
 abbrev pub MayDecide : AppState → Decision → Type 0
 MayDecide s Started = s.counter < 65535
 MayDecide s PinTry = 0 < s.tries
+MayDecide s (PinRight limit) = ⊤
 MayDecide s (First Tc amount currency) = WithinLimits s amount
+MayDecide s (First Aac amount currency) = ⊤
+MayDecide s (First Arqc amount currency) = ⊤
+MayDecide s (Authenticated right) = ⊤
+MayDecide s (Script command) = ⊤
 MayDecide s (Second Tc Offline amount) = WithinLimits s amount
-MayDecide s d = ⊤
+MayDecide s (Second Tc ByIssuer amount) = ⊤
+MayDecide s (Second Tc Alone amount) = ⊤
+MayDecide s (Second Aac how amount) = ⊤
+MayDecide s (Second Arqc how amount) = ⊤

@@ -275,6 +275,36 @@ fn applications_count_their_own_decisions(rt: HostRuntime) {
     assert_eq!(rt; state.apps.as_slice(), [first, second].as_slice());
 }
 
+/// A blocked card whose one application has approved 25.00 offline, is blocked and has seen a failed issuer
+/// authentication, worked out by hand.
+const BLOCKED: [u8; 35] = [
+    0x01, 0x01, 0x01, 0x00, 0x0B, 0x00, 0x09, 0x01, 0x00, 0x00, 0x00, 0x00, 0x00, 0x00, 0x09, 0xC4,
+    0x05, 0x00, 0x00, 0x00, 0x00, 0x00, 0x00, 0x4E, 0x20, 0x02, 0x03, 0x24, 0x12, 0x34, 0xFF, 0xFF,
+    0xFF, 0xFF, 0xFF,
+];
+
+#[test]
+fn every_field_has_its_place(rt: HostRuntime) {
+    let mut apps = ArrayVec::new();
+    apps.push(AppState {
+        counter: 11,
+        count: 1,
+        sum: 2500,
+        tries: 2,
+        blocked: true,
+        auth_failed: true,
+        ..OPENED
+    });
+    let state = CardState {
+        blocked: true,
+        apps,
+    };
+    let mut bytes = ArrayVec::new();
+    encode(&state, &mut bytes);
+    assert_eq!(rt; bytes.as_slice(), BLOCKED.as_slice());
+    assert_eq!(rt; decode(&BLOCKED), Some(state));
+}
+
 #[test]
 fn encodings_are_read_back_and_nothing_else_is(rt: HostRuntime) {
     let mut apps = ArrayVec::new();
