@@ -1,5 +1,6 @@
 pub mod Cells
 pub mod Growth
+pub mod Known
 pub mod PowerUp
 pub mod Roughening
 pub mod Settling

@@ -43,3 +43,7 @@ gives_byte cell = nat_lt (given_of cell) 256
 -- 64 cells that give bytes
 abbrev pub is_page : List Cell → Bool
 is_page cells = length cells == 64 && list_all gives_byte cells
+
+-- 64 cells that are sure of bytes
+abbrev pub is_sure_page : List Cell → Bool
+is_sure_page cells = is_page cells && list_all is_sure cells

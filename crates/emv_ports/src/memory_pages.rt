@@ -1,8 +1,8 @@
 //! Card pages that live in memory, and tear by plan.
-ghost use Rattle.std.specs.Prelude.{◌≡◌, ◌<◌, map, length, unwrap_or, IsTrue};
+ghost use Rattle.std.specs.Prelude.{◌≡◌, ◌<◌, map, length, unwrap_or, false, IsTrue};
 ghost use Rattle.std.specs.List.{list_all};
 ghost use Rattle.emv_ports.specs.Cut.{is_plan, write_cut, release_cut};
-ghost use Rattle.emv_ports.specs.Cell.{sure_of, given_of, is_sure, gives_byte, is_page};
+ghost use Rattle.emv_ports.specs.Cell.{sure_of, given_of, is_sure, gives_byte, is_page, is_sure_page};
 ghost use Rattle.emv_ports.specs.Cell.{settled, settled_from, torn_over, all_torn_over};
 ghost use Rattle.emv_ports.specs.Rough.{rough_byte, rough_page, rough_pages};
 ghost use Rattle.emv_ports.specs.declared.memory_pages.Cell.TheVariants.{Sure};
@@ -77,7 +77,8 @@ impl Cell {
 }
 
 fn sure_cells(bytes: &[u8; 64]) -> [Cell; 64]
-    ensures { result ≡ map Sure bytes.now }
+    ensures cells { result ≡ map Sure bytes.now }
+    ensures page { IsTrue (is_sure_page result) }
 {
     let mut cells = [Cell::Sure(0); 64];
     for i in 0..64 {
@@ -130,26 +131,49 @@ fn are_sure(cells: &[Cell; 64]) -> bool
     true
 }
 
-/// Most pages have no unsure cell, and are left as they stand.
-fn settle_page(cells: &mut [Cell; 64], power_up: u8)
+/// Lets the cells of a page take their turn, and gives whether one of them is unsure. Most pages have
+/// no unsure cell, and are left as they stand.
+fn settle_page(cells: &mut [Cell; 64], power_up: u8) -> bool
     requires { power_up < 2 }
     ensures cells { cells.new ≡ settled_from power_up 0 cells.old }
     ensures page { IsTrue (is_page cells.new) }
+    ensures sure { result ≡ false → IsTrue (is_sure_page cells.new) }
 {
-    if !are_sure(cells) {
-        *cells = settled_cells(cells, power_up);
+    if are_sure(cells) {
+        return false;
     }
+    *cells = settled_cells(cells, power_up);
+    true
 }
 
-fn settle(pages: &mut [[Cell; 64]; 64], power_up: u8)
+/// As `settle_page` for each page.
+fn settle(pages: &mut [[Cell; 64]; 64], power_up: u8) -> bool
     requires { power_up < 2 }
     ensures cells { pages.new ≡ map (settled_from power_up 0) pages.old }
     ensures long { length pages.new ≡ 64 }
     ensures pages { IsTrue (list_all is_page pages.new) }
+    ensures sure { result ≡ false → IsTrue (list_all is_sure_page pages.new) }
 {
+    let mut torn = false;
     for page in 0..64 {
-        settle_page(&mut pages[page], power_up);
+        torn |= settle_page(&mut pages[page], power_up);
     }
+    torn
+}
+
+/// Where no cell is unsure, a power-up changes nothing.
+fn settle_if(torn: bool, pages: &mut [[Cell; 64]; 64], power_up: u8) -> bool
+    requires turn { power_up < 2 }
+    requires sure { torn ≡ false → IsTrue (list_all is_sure_page pages.old) }
+    ensures cells { pages.new ≡ map (settled_from power_up 0) pages.old }
+    ensures long { length pages.new ≡ 64 }
+    ensures pages { IsTrue (list_all is_page pages.new) }
+    ensures sure { result ≡ false → IsTrue (list_all is_sure_page pages.new) }
+{
+    if !torn {
+        return false;
+    }
+    settle(pages, power_up)
 }
 
 fn rough_byte(word: u32, power_up: u8, page: u8, cell: u8) -> u8
@@ -213,6 +237,8 @@ fn release_cut(plan: Option<Tear>, commit: u8, writes: u8) -> Cut
 #[derive(Drop)]
 pub struct MemoryPages {
     cells: [[Cell; 64]; 64],
+    /// Where it is `false` no cell is unsure.
+    torn: bool,
     on: bool,
     plan: Option<Tear>,
     commit: u8,
@@ -228,13 +254,16 @@ impl Model for MemoryPages {
 
     ghost Value = { MemoryBank };
 
-    ghost use Rattle.std.specs.Prelude.{◌<◌, IsTrue};
+    ghost use Rattle.std.specs.Prelude.{◌≡◌, ◌<◌, false, IsTrue};
+    ghost use Rattle.std.specs.List.{list_all};
+    ghost use Rattle.emv_ports.specs.Cell.{is_sure_page};
     ghost use Rattle.emv_ports.specs.Cut.{is_plan};
     ghost use Rattle.emv_ports.specs.MemoryPages.{memory_of, workings_of};
 
     ghost view = { λ pages. record { memory = memory_of pages; workings = workings_of pages } };
 
-    ghost invariant = { λ pages. (pages.power_ups < 2) × IsTrue (is_plan pages.plan) };
+    ghost invariant = { λ pages. (pages.power_ups < 2) × IsTrue (is_plan pages.plan)
+        × (pages.torn ≡ false → IsTrue (list_all is_sure_page pages.cells)) };
 }
 
 impl MemoryPages {
@@ -250,6 +279,7 @@ impl MemoryPages {
     {
         MemoryPages {
             cells: [[Cell::Sure(0); 64]; 64],
+            torn: false,
             on: false,
             plan: None,
             commit: 0,
@@ -297,6 +327,7 @@ impl MemoryPages {
         ensures workings { self.new.workings ≡ torn_workings self.old.workings page bytes.now }
     {
         let cells = self.cells[page as usize];
+        self.torn = true;
         self.cells[page as usize] = torn_cells(&cells, bytes);
     }
 
@@ -333,7 +364,8 @@ impl Pages for MemoryPages {
         ensures workings { self.new.workings ≡ turned_on self.old.workings }
     {
         self.power_ups = (self.power_ups + 1) % 2;
-        settle(&mut self.cells, self.power_ups);
+        let torn = settle_if(self.torn, &mut self.cells, self.power_ups);
+        self.torn = torn;
         self.on = true;
         self.commit = 0;
         self.writes_of_commit = 0;
