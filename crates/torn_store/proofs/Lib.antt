@@ -12,5 +12,6 @@ pub mod Replaying
 pub mod Committing
 pub mod Mending
 pub mod Outcomes
+pub mod Homes
 pub mod Opening
 pub mod Stored

@@ -235,14 +235,6 @@ has_both means state states has = (
   Contains-append_right states (map (converted means) states) (converted means state) (has_map (converted means) states state has),
 )
 
--- pages among some states are among more
-pub among_more : (cells : Cells) (states more : List (List ℕ)) → Among recover cells states → Among recover cells (states ++ more)
-among_more cells states more among = record {
-  laid = among.laid;
-  each = λ bytes reading.
-      let one = among.each bytes reading in (one.0, Contains-append_left states more one.0 one.1, one.2);
-}
-
 -- pages on which no tear is planned aren't cut
 pub never_stops : (start new : Memory) (blocks : List Block) → start.plan ≡ None → start.writes ≡ 0 → length blocks ≤ 100 → StopsIn start blocks new → ⊥
 never_stops start new blocks none first few stops =

@@ -1,6 +1,7 @@
 -- Clauses on a `Result`, and members of lists of states.
 use Rattle.std.proofs.Common.{◌≡◌, [], ◌∷◌, refl, lit<}
-use Rattle.std.specs.Prelude.{Result, Ok, Err, OnOk, OnErr, IsOk, Contains}
+use Rattle.std.specs.Prelude.{ℕ, List, Option, Result, Ok, Err, OnOk, OnErr, IsOk, Contains}
+use Rattle.torn_store.specs.Recovery.{Among}
 use Rattle.emv_ports.specs.declared.tear.Cut.{Cut}
 use Rattle.emv_ports.specs.declared.tear.Cut.TheVariants.{Spared, CutBefore}
 
@@ -22,3 +23,12 @@ module _ {S : Type 0} where
 
   pub has_second : (one other : S) → Contains (one ∷ other ∷ []) other
   has_second one other = (1, lit< tt, refl)
+
+-- pages among some states are among more
+pub among_within : {S : Type 0} (recover : List (List ℕ) → Option S) (cells : List (List (Option ℕ))) (states more : List S)
+    → ((state : S) → Contains states state → Contains more state) → Among recover cells states → Among recover cells more
+among_within recover cells states more within among = record {
+  laid = among.laid;
+  each = λ bytes reading.
+      let one = among.each bytes reading in (one.0, within one.0 one.1, one.2);
+}

@@ -1,12 +1,15 @@
 -- From the pages and the state inside to the store as its callers see it.
-use Rattle.std.proofs.Common.{◌≡◌, ◌⊎◌, ◌<◌, ◌≤◌, ℕ, zero, suc, List, [], ◌∷◌, length, get_or, ap, sym, ◌∙◌, subst, arith, inl, inr, lit<}
+use Rattle.std.proofs.Common.{◌≡◌, ◌⊎◌, ◌<◌, ◌≤◌, ℕ, zero, suc, List, [], ◌∷◌, length, get_or, ap, sym, ◌∙◌, subst, arith, inl, inr, lit<, refl, Some, true}
 use Rattle.std.specs.Prelude.{Contains}
-use Rattle.emv_ports.specs.Cut.{write_cut}
-use Rattle.emv_ports.specs.Memory.{Memory, next, marked, next_write_cut}
-use Rattle.emv_ports.specs.declared.tear.Cut.TheVariants.{CutBefore}
+use Rattle.emv_ports.specs.Causes.{one_more}
+use Rattle.emv_ports.specs.Cut.{write_cut, cuts_among}
+use Rattle.emv_ports.specs.Memory.{Memory, next, marked, gone, next_write_cut, next_release_cut}
+use Rattle.emv_ports.specs.declared.tear.Cut.TheVariants.{Spared, CutBefore}
 use Rattle.torn_store.specs.Layout.{recover, commit_writes}
-use Rattle.torn_store.specs.Recovery.{Holds, Among}
-use Rattle.torn_store.specs.Store.{Stored, IsReady}
+use Rattle.torn_store.specs.Recovery.{Holds, Among, Between}
+use Rattle.torn_store.specs.Store.{Stored, IsGate, IsReady}
+use Rattle.torn_store.specs.Placed.{IsPlaced, Commits, CommitTorn, Releases, ReleaseTorn}
+use Rattle.torn_store.specs.Writing.{Row, RowCut}
 use Rattle.torn_store.proofs.Committing.{changed_length}
 use Rattle.torn_store.proofs.Opening.{ready_holds}
 use Rattle.torn_store.proofs.Rows.{Cells}
@@ -49,16 +52,94 @@ four_at (suc (suc zero)) before after state inside is = (0, lit< tt, is)
 four_at (suc (suc (suc zero))) before after state inside is = (1, lit< tt, is)
 four_at (suc (suc (suc (suc k)))) before after state inside is = absurd (omega arith)
 
--- pages among two states and the same two again are among the two
-pub among_twice : (cells : Cells) (before after : List ℕ) → Among recover cells (before ∷ after ∷ before ∷ after ∷ []) → Among recover cells (before ∷ after ∷ [])
-among_twice cells before after among = record {
-  laid = among.laid;
-  each = λ bytes reading.
-      let one = among.each bytes reading in
-      let has = one.1 in
-      (one.0, four_at has.0 before after one.0 has.1 has.2, one.2);
-}
+-- a member of two states and the same two again is one of the two
+pub two_twice : (before after state : List ℕ) → Contains (before ∷ after ∷ before ∷ after ∷ []) state → Contains (before ∷ after ∷ []) state
+two_twice before after state has = four_at has.0 before after state has.1 has.2
 
 -- pages that stand for one of some states are among them
 pub holds_among : (cells : Cells) (state : List ℕ) (states : List (List ℕ)) → Holds recover cells state → Contains states state → Among recover cells states
 holds_among cells state states holds has = record { laid = holds.laid; each = λ bytes reading. (state, has, holds.each bytes reading) }
+
+alone_at : (k : ℕ) (state other : List ℕ) → k < 1 → get_or (state ∷ []) k other ≡ other → other ≡ state
+alone_at zero state other inside is = sym is
+alone_at (suc k) state other inside is = absurd (omega arith)
+
+-- pages that are among one state stand for it
+pub among_one : (cells : Cells) (state : List ℕ) → Among recover cells (state ∷ []) → Holds recover cells state
+among_one cells state among = record {
+  laid = among.laid;
+  each = λ bytes reading.
+      let one = among.each bytes reading in
+      let has = one.1 in
+      one.2 ∙ ap (λ (s : List ℕ). Some s) (alone_at has.0 state one.0 has.1 has.2);
+}
+
+-- pages whose cells are those of a ready store have a closed gate
+gate_of : (memory : Memory) (state : List ℕ) (cells : Cells) → IsReady memory state → cells ≡ memory.cells → IsGate cells
+gate_of memory state cells ready same = record {
+  byte = 0;
+  bit = lit< tt;
+  throughout = ap (λ (c : Cells). get_or c 0 []) same ∙ ready.closed;
+}
+
+module _ (seen : Stored) (memory : Memory) (state : List ℕ) (view : stored memory state ≡ seen) (placed : IsPlaced memory state) (on : seen.memory.on ≡ true) where
+  is_ready : IsReady memory state
+  is_ready = placed (ap (λ (s : Stored). s.memory.on) view ∙ on)
+
+  -- pages whose cells are those of a place that is on stand for its state
+  pub placed_holds : (cells : Cells) → cells ≡ memory.cells → Holds recover cells seen.state
+  placed_holds cells same = same_holds seen memory state cells view is_ready same
+
+  pub placed_ready : (slice : List ℕ) → slice ≡ state → IsReady memory slice
+  placed_ready slice same = subst (λ (s : List ℕ). IsReady memory s) (sym same) is_ready
+
+  pub releases : (new : Memory) → next_release_cut memory ≡ Spared → new ≡ memory → Releases seen (stored new state)
+  releases new spared is = record {
+    same = ap (λ (m : Memory). stored m state) is ∙ view;
+    holds = placed_holds new.cells (ap (λ (m : Memory). m.cells) is);
+    gate = gate_of memory state new.cells is_ready (ap (λ (m : Memory). m.cells) is);
+    spared = ap (λ (s : Stored). next_release_cut s.memory) (sym view) ∙ spared;
+  }
+
+  pub release_torn : (new : Memory) → next_release_cut memory ≡ CutBefore → new ≡ gone memory → ReleaseTorn seen (stored new state)
+  release_torn new cut is = record {
+    lost = placed_holds new.cells (ap (λ (m : Memory). m.cells) is);
+    cut = ap (λ (s : Stored). next_release_cut s.memory) (sym view) ∙ cut;
+    gone = record {
+      off = ap (λ (m : Memory). m.on) is;
+      plan = ap (λ (m : Memory). m.plan) is;
+      losses = ap (λ (m : Memory). m.losses) is ∙ ap (λ (s : Stored). one_more s.memory.losses) view;
+    };
+  }
+
+  module _ (slice text : List ℕ) (same : slice ≡ state) where
+    as_slice : stored memory slice ≡ seen
+    as_slice = ap (stored memory) same ∙ view
+
+    pub commits : (new : Memory) → length text ≤ 1024 → IsReady new text → Row (marked memory) new (commit_writes slice text)
+        → Commits seen text (stored new text)
+    commits new fits ready row = record {
+      on = ready.on.on;
+      state = refl;
+      holds = ready_holds new text ready;
+      gate = gate_of new text new.cells ready refl;
+      spared = ap (λ (s : Stored). cuts_among s.memory.plan (next s.memory.commit) (commit_writes s.state text)) (sym as_slice) ∙ row.spared;
+      wrote = row.writes ∙ ap (λ (s : Stored). commit_writes s.state text) as_slice;
+      few = subst (λ (n : ℕ). n ≤ 37) (sym row.writes) (commit_few slice text fits);
+      commit = row.commit ∙ ap (λ (s : Stored). next s.memory.commit) view;
+      plan = row.plan ∙ ap (λ (s : Stored). s.memory.plan) view;
+      losses = row.losses ∙ ap (λ (s : Stored). s.memory.losses) view;
+    }
+
+    pub commit_torn : (new : Memory) (left : List ℕ) → Between recover new.cells slice text → (next_write_cut (marked memory) ≡ CutBefore → new.cells ≡ memory.cells)
+        → RowCut (marked memory) new (commit_writes slice text) → CommitTorn seen text (stored new left)
+    commit_torn new left between unchanged row = record {
+      lost = subst (λ (s : Stored). Between recover new.cells s.state text) as_slice between;
+      before = commit_before seen memory state new.cells view is_ready unchanged;
+      cut = ap (λ (s : Stored). cuts_among s.memory.plan (next s.memory.commit) (commit_writes s.state text)) (sym as_slice) ∙ row.cut;
+      gone = record {
+        off = row.gone.off;
+        plan = row.gone.plan;
+        losses = row.gone.losses ∙ ap (λ (s : Stored). one_more s.memory.losses) view;
+      };
+    }

@@ -3,3 +3,5 @@ pub mod Layout
 pub mod Recovery
 pub mod Store
 pub mod Writing
+pub mod Placed
+pub mod Lending

@@ -6,13 +6,16 @@ ghost use Rattle.emv_ports.specs.declared.tear.Cut.TheVariants.{CutBefore};
 ghost use Rattle.torn_store.specs.Conversion.{converted};
 ghost use Rattle.torn_store.specs.Layout.{recover, changed, commit_writes, numbers_in};
 ghost use Rattle.torn_store.specs.Recovery.{lowest, Among, Between};
+ghost use Rattle.torn_store.specs.Placed.{TurnedOnce};
 ghost use Rattle.torn_store.specs.Store.{IsOn, IsReady};
+ghost use Rattle.torn_store.specs.declared.layout.Block.{Block as Written};
 ghost use Rattle.torn_store.specs.Writing.{WritesAll, StopsIn, Row, RowCut, replay_row, commit_row};
 ghost use Rattle.torn_store.specs.Writing.{mending_row, repair_row, WroteFew, StoppedFew, TurnedOn, LostAt};
 
 use crate::convert::Convert;
 use crate::journal::{read_home, read_journal, write_home, write_journal};
 use crate::layout::{Block, GATE, HEADER, State, changed_in, framed, header_of, numbers_of};
+use arrayvec::ArrayVec;
 use emv_ports::{Gone, Pages};
 
 /// The gate's page: closed, and open.
@@ -60,7 +63,12 @@ fn write_state<P: Pages>(pages: &mut P, old: &[u8], new: &[u8]) -> Result<(), Go
     ensures stops { OnErr result
         (StopsIn (P.memory pages.old) (commit_row (changed old.now new.now)) (P.memory pages.new)) }
 {
-    let blocks = changed_in(framed(old).as_slice(), framed(new).as_slice());
+    let mut known = ArrayVec::new();
+    framed(old, &mut known);
+    let mut frame = ArrayVec::new();
+    framed(new, &mut frame);
+    let mut blocks = ArrayVec::new();
+    changed_in(known.as_slice(), frame.as_slice(), &mut blocks);
     write_row(pages, blocks.as_slice())
 }
 
@@ -185,8 +193,12 @@ fn write_first<P: Pages>(pages: &mut P, first: &[u8]) -> Result<(), Gone>
     ensures spared { IsOk result }
     ensures ready { OnOk result (IsReady (P.memory pages.new) first.now) }
     ensures row { OnOk result ((n : ℕ) × Row (P.memory pages.old) (P.memory pages.new) n) }
+    ensures all { OnOk result ((row : List Written) × WritesAll (P.memory pages.old) row (P.memory pages.new)) }
 {
-    let blocks = changed_in(&[], framed(first).as_slice());
+    let mut frame = ArrayVec::new();
+    framed(first, &mut frame);
+    let mut blocks = ArrayVec::new();
+    changed_in(&[], frame.as_slice(), &mut blocks);
     replay(pages, blocks.as_slice())?;
     pages.release()
 }
@@ -200,6 +212,7 @@ pub fn prepare<P: Pages>(pages: &mut P, first: &[u8])
     ensures commit { (P.memory pages.new).commit ≡ 0 }
     ensures plan { (P.memory pages.new).plan ≡ None }
     ensures losses { (P.memory pages.new).losses ≡ (P.memory pages.old).losses }
+    ensures once { TurnedOnce (P.memory pages.old) (P.memory pages.new) }
 {
     pages.power_up();
     match write_first(pages, first) {

@@ -1,7 +1,8 @@
 //! The pages of the home and the journal, read and written one after another.
-ghost use Rattle.std.specs.Prelude.{◌≡◌, ◌<◌, ◌≤◌, All, length, drop, true, Some, IsSome};
+ghost use Rattle.std.specs.Prelude.{◌≡◌, ◌<◌, ◌≤◌, ◌+◌, ◌*◌, ◌/◌, All, length, take, drop, slice_index, true, Some, IsSome};
 ghost use Rattle.std.specs.Prelude.{OnOk, OnErr};
-ghost use Rattle.torn_store.specs.Layout.{paired, recover_at};
+ghost use Rattle.torn_store.specs.Layout.{joined, paired, recover_at};
+ghost use Rattle.torn_store.specs.Store.{IsOn};
 ghost use Rattle.torn_store.specs.Writing.{WritesAll, StopsIn, journaled};
 
 use crate::layout::{Block, HOME, JOURNAL, State, state_of};
@@ -55,17 +56,39 @@ pub fn read_journal<P: Pages>(pages: &P, numbers: &[u8]) -> ArrayVec<Block, 17>
     blocks
 }
 
-/// The state that the home holds.
-pub fn read_home<P: Pages>(pages: &P) -> State
+/// How many home pages hold the state whose length stands at the front of the home.
+fn pages_wanted(home: &[u8; 1088]) -> u8
+    requires { slice_index home.now 0 * 256 + slice_index home.now 1 ≤ 1024 }
+    ensures { result ≡ (slice_index home.now 0 * 256 + slice_index home.now 1 + 65) / 64 }
+{
+    let length = u16::from_be_bytes([home[0], home[1]]);
+    ((length + 65) / 64) as u8
+}
+
+/// Reads so many home pages to the front of `home`.
+fn read_pages<P: Pages>(pages: &P, count: u8, home: &mut [u8; 1088])
     requires on { (P.memory pages.now).on ≡ true }
     requires size { length (P.memory pages.now).shown ≡ 64 }
+    requires count { count ≤ 17 }
+    ensures long { length home.new ≡ 1088 }
+    ensures front { take (64 * count) home.new
+        ≡ joined (take count (take 17 (drop 1 (P.memory pages.now).shown))) }
+{
+    for i in 0..count {
+        let at = 64 * i as usize;
+        home[at..at + 64].copy_from_slice(&pages.read(HOME + i));
+    }
+}
+
+/// The state that the home holds. The pages behind it aren't read.
+pub fn read_home<P: Pages>(pages: &P) -> State
+    requires on { IsOn (P.memory pages.now) }
     requires state { IsSome (recover_at 0 (drop 1 (P.memory pages.now).shown)) }
     ensures { recover_at 0 (drop 1 (P.memory pages.now).shown) ≡ Some result.items }
 {
-    let mut bytes = [0; 1088];
-    for i in 0..17 {
-        let at = 64 * i as usize;
-        bytes[at..at + 64].copy_from_slice(&pages.read(HOME + i));
-    }
-    state_of(&bytes)
+    let mut home = [0; 1088];
+    read_pages(pages, 1, &mut home);
+    let count = pages_wanted(&home);
+    read_pages(pages, count, &mut home);
+    state_of(&home)
 }

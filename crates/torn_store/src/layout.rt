@@ -36,16 +36,16 @@ impl Default for Block {
     }
 }
 
-/// A state behind its length.
-pub fn framed(state: &[u8]) -> ArrayVec<u8, 1026>
+/// Makes `frame` a state behind its length.
+pub fn framed(state: &[u8], frame: &mut ArrayVec<u8, 1026>)
     requires { length state.now ≤ 1024 }
-    ensures { result.items ≡ framed state.now }
+    ensures { frame.new.items ≡ framed state.now }
 {
-    let mut frame = ArrayVec::new();
+    frame.clear();
     frame.push((state.len() / 256) as u8);
     frame.push((state.len() % 256) as u8);
     match frame.try_extend_from_slice(state) {
-        Ok(()) => frame,
+        Ok(()) => {}
         Err(_) => unreachable!(),
     }
 }
@@ -78,12 +78,12 @@ fn filled(part: &[u8]) -> [u8; 64]
     page
 }
 
-/// The home pages that a frame changes, where the home begins with the known bytes.
-pub fn changed_in(known: &[u8], frame: &[u8]) -> ArrayVec<Block, 17>
+/// Makes `blocks` the home pages that a frame changes, where the home begins with the known bytes.
+pub fn changed_in(known: &[u8], frame: &[u8], blocks: &mut ArrayVec<Block, 17>)
     requires { length frame.now ≤ 1026 }
-    ensures { result.items ≡ changed_in known.now frame.now }
+    ensures { blocks.new.items ≡ changed_in known.now frame.now }
 {
-    let mut blocks = ArrayVec::new();
+    blocks.clear();
     for place in 0..frame.len().div_ceil(64) {
         let part = part_of(frame, place);
         if from_page(known, place).starts_with(part) {
@@ -94,7 +94,6 @@ pub fn changed_in(known: &[u8], frame: &[u8]) -> ArrayVec<Block, 17>
             bytes: filled(part),
         });
     }
-    blocks
 }
 
 /// A header that names the pages of these blocks.

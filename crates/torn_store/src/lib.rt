@@ -6,9 +6,11 @@ mod commits;
 mod convert;
 mod journal;
 mod layout;
+mod place;
 mod store;
 
 pub use convert::Convert;
+pub use place::{Place, Written};
 pub use store::{Lost, Settled, Store};
 
 #[cfg(test)]

@@ -6,12 +6,12 @@ ghost use Rattle.emv_ports.specs.Memory.{next, powered_off, next_release_cut};
 ghost use Rattle.emv_ports.specs.declared.tear.Cut.TheVariants.{Spared, CutBefore};
 ghost use Rattle.torn_store.specs.Conversion.{converted};
 ghost use Rattle.torn_store.specs.Layout.{recover, commit_writes};
+ghost use Rattle.torn_store.specs.Placed.{TurnedOnce};
 ghost use Rattle.torn_store.specs.Recovery.{Holds, Among, Between};
 ghost use Rattle.torn_store.specs.Store.{IsGate, IsGone};
 
-use crate::commits::{commit_state, prepare, repair_with};
 use crate::convert::{Convert, Keep};
-use crate::layout::State;
+use crate::place::Place;
 use emv_ports::{Gone, Pages};
 use std::marker::Model;
 
@@ -24,18 +24,18 @@ pub struct Lost<P: Drop> {
 /// Pages that are on, and the state that they stand for.
 #[derive(Drop)]
 pub struct Store<P: Pages> {
-    pages: P,
-    state: State,
+    place: Place<P>,
 }
 
 impl<P: Pages> Model for Store<P> {
-    ghost use Rattle.torn_store.specs.Store.{Stored, IsReady};
+    ghost use Rattle.std.specs.Prelude.{◌≡◌, true};
+    ghost use Rattle.torn_store.specs.Store.{Stored};
 
     ghost Value = { Stored };
 
-    ghost view = { λ s. record { memory = P.memory s.pages; state = s.state.items } };
+    ghost view = { λ s. s.place };
 
-    ghost invariant = { λ s. IsReady (P.memory s.pages) s.state.items };
+    ghost invariant = { λ s. s.place.memory.on ≡ true };
 }
 
 /// A commit that is written and not yet released: it can't be dropped, and only `release` gives
@@ -65,13 +65,11 @@ impl<P: Pages> Store<P> {
         ensures plan { result.memory.plan ≡ None }
         ensures losses { result.memory.losses ≡ (P.memory pages).losses }
         ensures commit { result.memory.commit ≡ 0 }
+        ensures once { TurnedOnce (P.memory pages) result.memory }
     {
-        let mut pages = pages;
-        prepare(&mut pages, first);
-        Store {
-            pages,
-            state: copied(first),
-        }
+        let mut place = Place::new(pages);
+        place.format(first);
+        Store { place }
     }
 
     /// Turns the pages on and finds the state. The pages are as `format`, or any later call, left
@@ -132,10 +130,10 @@ impl<P: Pages> Store<P> {
         ensures cut { OnErr result (is_named (P.memory pages).plan 0 ≡ true) }
         ensures gone { IfErr result (λ lost. IsGone (P.memory pages) (P.memory lost.pages)) }
     {
-        let mut pages = pages;
-        match repair_with(&mut pages, convert) {
-            Ok(state) => Ok(Store { pages, state }),
-            Err(Gone) => Err(Lost { pages }),
+        let mut place = Place::new(pages);
+        match place.power_up_with(convert) {
+            Ok(()) => Ok(Store { place }),
+            Err(Gone) => Err(cut_off(place)),
         }
     }
 
@@ -145,7 +143,7 @@ impl<P: Pages> Store<P> {
         ensures holds { Holds recover self.now.memory.cells self.now.state }
         ensures fits { length result.now ≤ 1024 }
     {
-        self.state.as_slice()
+        self.place.state()
     }
 
     /// Writes a new state, which `release` of the answer settles.
@@ -180,15 +178,12 @@ impl<P: Pages> Store<P> {
             (commit_writes self.state new.now) ≡ true) }
         ensures gone { IfErr result (λ lost. IsGone self.memory (P.memory lost.pages)) }
     {
-        let Store { mut pages, state } = self;
-        match commit_state(&mut pages, state.as_slice(), new) {
+        let Store { mut place } = self;
+        match place.write(new) {
             Ok(()) => Ok(Settled {
-                store: Store {
-                    pages,
-                    state: copied(new),
-                },
+                store: Store { place },
             }),
-            Err(Gone) => Err(Lost { pages }),
+            Err(Gone) => Err(cut_off(place)),
         }
     }
 
@@ -197,9 +192,9 @@ impl<P: Pages> Store<P> {
         ensures memory { P.memory result ≡ powered_off self.memory }
         ensures holds { Holds recover (P.memory result).cells self.state }
     {
-        let Store { mut pages, .. } = self;
-        pages.power_off();
-        pages
+        let Store { mut place } = self;
+        place.power_off();
+        place.into_pages()
     }
 }
 
@@ -220,22 +215,19 @@ impl<P: Pages> Settled<P> {
         ensures gone { IfErr result (λ lost. IsGone self.memory (P.memory lost.pages)) }
     {
         let Settled { store } = self;
-        let Store { mut pages, state } = store;
-        match pages.release() {
-            Ok(()) => Ok(Store { pages, state }),
-            Err(Gone) => Err(Lost { pages }),
+        let Store { mut place } = store;
+        match place.settle() {
+            Ok(()) => Ok(Store { place }),
+            Err(Gone) => Err(cut_off(place)),
         }
     }
 }
 
-/// The bytes of a state.
-fn copied(bytes: &[u8]) -> State
-    requires { length bytes.now ≤ 1024 }
-    ensures { result.items ≡ bytes.now }
+/// The pages of a place, behind a loss of power.
+fn cut_off<P: Pages>(place: Place<P>) -> Lost<P>
+    ensures { P.memory result.pages ≡ place.memory }
 {
-    let mut state = State::new();
-    match state.try_extend_from_slice(bytes) {
-        Ok(()) => state,
-        Err(_) => unreachable!(),
+    Lost {
+        pages: place.into_pages(),
     }
 }

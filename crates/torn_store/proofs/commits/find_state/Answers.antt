@@ -1,7 +1,7 @@
 use Rattle.std.proofs.Common.{drop, ap, ◌∙◌, subst, ℕ, List, Some}
 use Rattle.torn_store.specs.Layout.{recover_at}
 use Rattle.torn_store.specs.Store.{IsReady}
-use Rattle.torn_store.proofs.Opening.{header_found, mends, mends_is, home_found, shown_long, some_is}
+use Rattle.torn_store.proofs.Opening.{header_found, mends, mends_is, home_found, some_is}
 use Rattle.torn_store.proofs.commits.find_state.Goals as goal
 
 pub close_gate-requires-clause-header : goal.close_gate-requires-clause-header
@@ -11,13 +11,7 @@ close_gate-requires-clause-header g c =
 pub read_home-requires-clause-on : goal.read_home-requires-clause-on
 read_home-requires-clause-on g c =
     (mends (g.P.Pages.memory c.args.pages.now) (g.P.Pages.memory c.close_gate.new.pages) c.requires.among.0 c.requires.on c.requires.among.1
-    c.in_ok-close_gate.ensures.all).ready.on.on
-
-pub read_home-requires-clause-size : goal.read_home-requires-clause-size
-read_home-requires-clause-size g c =
-    let done = mends (g.P.Pages.memory c.args.pages.now) (g.P.Pages.memory c.close_gate.new.pages) c.requires.among.0 c.requires.on c.requires.among.1
-    c.in_ok-close_gate.ensures.all in
-    shown_long (g.P.Pages.memory c.close_gate.new.pages) done.state done.ready
+    c.in_ok-close_gate.ensures.all).ready.on
 
 pub read_home-requires-clause-state : goal.read_home-requires-clause-state
 read_home-requires-clause-state g c =

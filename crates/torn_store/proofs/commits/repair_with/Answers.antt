@@ -1,10 +1,11 @@
 use Rattle.std.proofs.Common.{ap, map, ◌++◌}
-use Rattle.std.proofs.lemmas.List.Elements.{Contains-append_right}
+use Rattle.std.proofs.lemmas.List.Elements.{Contains-append_left, Contains-append_right}
 use Rattle.emv_ports.specs.Memory.{Memory}
 use Rattle.torn_store.specs.Conversion.{converted}
+use Rattle.torn_store.specs.Layout.{recover}
 use Rattle.torn_store.proofs.Mending.{repair_stops}
-use Rattle.torn_store.proofs.Opening.{up_on, up_among, among_more, ready_among, has_both, shown_has, opened_found, opened_on, lost_in_repair, lost_in_conversion, lost_in_release}
-use Rattle.torn_store.proofs.Outcomes.{on_err}
+use Rattle.torn_store.proofs.Opening.{up_on, up_among, ready_among, has_both, shown_has, opened_found, opened_on, lost_in_repair, lost_in_conversion, lost_in_release}
+use Rattle.torn_store.proofs.Outcomes.{on_err, among_within}
 use Rattle.torn_store.proofs.commits.repair_with.Goals as goal
 
 pub find_state-requires-clause-on : goal.find_state-requires-clause-on
@@ -19,7 +20,8 @@ returns-in_err-found-clause-lost g c =
     let old = g.P.Pages.memory c.args.pages.now in
     let on = g.P.Pages.memory c.power_up.new.self in
     on_err c.from_residual.result (λ states among.
-    among_more (g.P.Pages.memory c.find_state.new.pages).cells states (map (converted (g.C.Convert.means c.args.convert.now)) states)
+    let new = map (converted (g.C.Convert.means c.args.convert.now)) states in
+    among_within recover (g.P.Pages.memory c.find_state.new.pages).cells states (states ++ new) (λ state. Contains-append_left states new state)
     (repair_stops on (g.P.Pages.memory c.find_state.new.pages) states (up_on old on c.power_up.ensures) (up_among old on states c.power_up.ensures among)
     c.in_err-found.ensures.stops))
 

@@ -4,5 +4,5 @@ use Rattle.torn_store.proofs.commits.write_state.Goals as goal
 
 pub write_row-requires-clause-within : goal.write_row-requires-clause-within
 write_row-requires-clause-within g c =
-    changed_within c.as_slice.result.now c.as_slice-2.result.now c.args.new.now c.changed_in-blocks.result.items c.as_slice-3.result.now
-    c.requires.fits (c.as_slice-2.ensures.value ∙ c.framed-2.ensures) c.changed_in-blocks.ensures c.as_slice-3.ensures.value
+    changed_within c.as_slice.result.now c.as_slice-2.result.now c.args.new.now c.changed_in.new.blocks.items c.as_slice-3.result.now
+    c.requires.fits (c.as_slice-2.ensures.value ∙ c.framed-2.ensures) c.changed_in.ensures c.as_slice-3.ensures.value

@@ -1,13 +1,45 @@
-use Rattle.std.proofs.Common.{rules, ◌∙◌}
-use Rattle.std.proofs.lemmas.List.{places}
-use Rattle.torn_store.proofs.Turns.{read_step, page_cut_long}
+use Rattle.std.proofs.Common.{◌≡◌, ◌<◌, ◌≤◌, ◌+◌, ◌*◌, ◌/◌, length, get_or, arith, drop, Some, ap, sym, ◌∙◌}
+use Rattle.torn_store.specs.Layout.{recover_at}
+use Rattle.torn_store.proofs.Homes.{the_some, home_size, length_at, state_read}
+use Rattle.torn_store.proofs.Opening.{some_is}
 use Rattle.torn_store.proofs.journal.read_home.Goals as goal
 
-pub loop-i-preserved : goal.loop-i-preserved
-loop-i-preserved g c = (
-  search (rules, places),
-  read_step c.loop-i.i _ (g.P.Pages.memory c.args.pages.now).shown c.loop-i.bytes c.copy_from_slice.new.self
-      c.loop-i-test.true c.requires.size
-      (c.copy_from_slice.ensures.len ∙ page_cut_long c.loop-i.i c.loop-i.bytes c.loop-i-test.true c.loop-i.invariant.0)
-      (c.copy_from_slice.ensures.after ∙ c.read.ensures) c.loop-i.invariant.0 c.loop-i.invariant.1,
-)
+pub read_pages-requires-clause-size : goal.read_pages-requires-clause-size
+read_pages-requires-clause-size g c = home_size (g.P.Pages.memory c.args.pages.now) c.requires.on
+
+pub pages_wanted-count-requires : goal.pages_wanted-count-requires
+pages_wanted-count-requires g c =
+    let memory = g.P.Pages.memory c.args.pages.now in
+    let one = the_some (recover_at 0 (drop 1 memory.shown)) c.requires.state in
+    let long = length_at memory c.requires.on one.0 one.1 c.read_pages.new.home c.read_pages.ensures.front in
+    omega (arith, long.0, long.1)
+
+pub read_pages-requires-2-clause-size : goal.read_pages-requires-2-clause-size
+read_pages-requires-2-clause-size g c = home_size (g.P.Pages.memory c.args.pages.now) c.requires.on
+
+pub read_pages-requires-2-clause-count : goal.read_pages-requires-2-clause-count
+read_pages-requires-2-clause-count g c =
+    let memory = g.P.Pages.memory c.args.pages.now in
+    let one = the_some (recover_at 0 (drop 1 memory.shown)) c.requires.state in
+    let long = length_at memory c.requires.on one.0 one.1 c.read_pages.new.home c.read_pages.ensures.front in
+    omega (arith, long.0, long.1, c.pages_wanted-count.ensures)
+
+pub state_of-requires : goal.state_of-requires
+state_of-requires g c =
+    let memory = g.P.Pages.memory c.args.pages.now in
+    let one = the_some (recover_at 0 (drop 1 memory.shown)) c.requires.state in
+    let long = length_at memory c.requires.on one.0 one.1 c.read_pages.new.home c.read_pages.ensures.front in
+    some_is _ one.0
+    (state_read memory c.requires.on one.0 one.1 c.read_pages-2.new.home c.pages_wanted-count.result c.read_pages-2.ensures.long
+    (omega (arith, long.0, long.1, c.pages_wanted-count.ensures)) (omega (arith, long.0, long.1, c.pages_wanted-count.ensures)) c.read_pages-2.ensures.front)
+
+pub returns : goal.returns
+returns g c =
+    let memory = g.P.Pages.memory c.args.pages.now in
+    let one = the_some (recover_at 0 (drop 1 memory.shown)) c.requires.state in
+    let long = length_at memory c.requires.on one.0 one.1 c.read_pages.new.home c.read_pages.ensures.front in
+    one.1
+    ∙ sym
+    (state_read memory c.requires.on one.0 one.1 c.read_pages-2.new.home c.pages_wanted-count.result c.read_pages-2.ensures.long
+    (omega (arith, long.0, long.1, c.pages_wanted-count.ensures)) (omega (arith, long.0, long.1, c.pages_wanted-count.ensures)) c.read_pages-2.ensures.front)
+    ∙ c.state_of.ensures

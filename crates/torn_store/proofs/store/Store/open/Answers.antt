@@ -1,6 +1,8 @@
 use Rattle.std.proofs.Common.{[], ◌∷◌}
 use Rattle.std.proofs.lemmas.Result.{IfOk-weaker, IfErr-weaker}
-use Rattle.torn_store.proofs.Stored.{one_of_two, among_twice}
+use Rattle.torn_store.proofs.Stored.{one_of_two, two_twice}
+use Rattle.torn_store.proofs.Outcomes.{among_within}
+use Rattle.torn_store.specs.Layout.{recover}
 use Rattle.torn_store.proofs.store.Store.open.Goals as goal
 
 pub returns-clause-found : goal.returns-clause-found
@@ -11,5 +13,5 @@ returns-clause-found g c =
 pub returns-clause-lost : goal.returns-clause-lost
 returns-clause-lost g c =
     IfErr-weaker c.open_with.result _ _
-    (λ lost among before after between. among_twice (g.P.Pages.memory lost.pages).cells before after (among (before ∷ after ∷ []) between))
+    (λ lost among before after between. among_within recover (g.P.Pages.memory lost.pages).cells (before ∷ after ∷ before ∷ after ∷ []) (before ∷ after ∷ []) (two_twice before after) (among (before ∷ after ∷ []) between))
     c.open_with.ensures.lost
