@@ -209,13 +209,14 @@ fn latest_amount(pan: &[u8], log: &[Logged]) -> u64
     ensures amount { result ≡ spec.latest_amount pan.now log.now }
     ensures small { result ≤ most_amount }
 {
-    let mut latest = 0;
-    for logged in log {
-        if logged.pan.as_slice() == pan {
-            latest = logged.amount;
+    let mut rest = log;
+    while let Some((last, earlier)) = rest.split_last() {
+        if last.pan.as_slice() == pan {
+            return last.amount;
         }
+        rest = earlier;
     }
-    latest
+    0
 }
 
 /// Whether the purchase is below the floor limit and selected at random.

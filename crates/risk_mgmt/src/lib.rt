@@ -6,6 +6,7 @@ pub mod counters;
 pub mod judging;
 pub mod selection;
 
+pub use emv_dict::Judged;
 pub use judging::{JudgeNext, Judging};
 pub use selection::is_selected;
 
