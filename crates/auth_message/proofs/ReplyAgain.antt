@@ -14,6 +14,8 @@ use Rattle.ber_tlv.proofs.Reading.{reads_list, Items-left}
 use Rattle.auth_message.specs.Field.{fixed_value, some_value}
 use Rattle.auth_message.specs.Fields.{◌>>=◌, given, behind, wanted, fixed_at}
 use Rattle.auth_message.specs.Reply.{AreScripts, auth_at, is_template, templates, behind_templates, end_in, end_of, end_behind, bytes_of, scripts_at, reply_at, reply_of}
+use Rattle.auth_message.specs.Whole.{AreSpelledScripts, IsReply}
+use Rattle.auth_message.proofs.Templates.{spelled_are_scripts}
 use Rattle.auth_message.specs.Spelling.{optional, spelled, reply_fields, reply_bytes}
 use Rattle.auth_message.proofs.Opened.{start_of}
 use Rattle.auth_message.proofs.Inside.{Inside, moved_item, item_inside, inside_joined}
@@ -157,3 +159,12 @@ reply_again code auth scripts two is are =
     let second = auth_front (start + length (written 0x8A code)) auth moved is all in
     let third = scripts_again scripts whole front are inside in
     ap (λ r. r >>= λ outer. reply_at whole outer.1) outer ∙ rw (first, second, third) refl
+
+-- a reply as it is written
+pub reply_written : (code : List ℕ) (auth : Option (List ℕ)) (scripts : List ℕ) → length code ≡ 2 → IfSome auth IsAuth → AreSpelledScripts scripts → IsReply (reply_bytes code auth scripts)
+reply_written code auth scripts two is_auth are = record {
+  reply = record { code = code; auth = auth; scripts = scripts };
+  read = reply_again code auth scripts two is_auth (spelled_are_scripts scripts are);
+  exact = refl;
+  scripts = are;
+}

@@ -1,24 +1,38 @@
 -- Templates that are spelled one behind the other are scripts of a reply.
-use Rattle.std.proofs.Common.{◌≡◌, ℕ, Bool, true, ◌||◌, ◌==◌, ◌+◌, ◌-◌, ◌≤◌, List, [], ◌∷◌, ◌++◌, take, length, Ok, refl, sym, ap, ◌∙◌, arith, length-append, append_assoc, append-nil, suc}
+use Rattle.std.proofs.Common.{◌≡◌, ℕ, Bool, true, false, ◌||◌, ◌==◌, ◌+◌, ◌-◌, ◌≤◌, List, [], ◌∷◌, ◌++◌, take, length, Ok, refl, sym, ap, subst, ◌∙◌, arith, length-append, append_assoc, append-nil, suc}
 use Rattle.std.specs.Prelude.{slice_range}
 use Rattle.std.specs.List.{list_all}
+use Rattle.std.proofs.lemmas.Bool.Decides.{nat_tests}
 use Rattle.ber_tlv.specs.Left.{items_behind}
 use Rattle.ber_tlv.specs.Written.{written}
 use Rattle.ber_tlv.proofs.ReadAgain.{both}
 use Rattle.ber_tlv.proofs.Reading.{no_zeros, left-end}
-use Rattle.auth_message.specs.Reply.{AreScripts, is_template, end_in, end_of, end_behind, bytes_of}
+use Rattle.auth_message.specs.Reply.{AreScripts, names_script, is_template, end_in, end_of, end_behind, bytes_of}
 use Rattle.auth_message.specs.Spelling.{spelled}
+use Rattle.auth_message.specs.Whole.{AreSpelledScripts}
 use Rattle.auth_message.proofs.Opened.{stands_at}
 use Rattle.auth_message.proofs.Spelled.{placed, is_tag, are_tags, field_step, read_fields, take_whole}
 
 -- each field is a template
 abbrev pub are_templates : List (ℕ × List ℕ) → Bool
-are_templates fields = list_all (λ field. field.0 == 0x71 || field.0 == 0x72) fields
+are_templates fields = list_all (λ field. names_script field.0) fields
+
+one_tag : (tag : ℕ) (a b : Bool) → (tag == 0x71) ≡ a → (tag == 0x72) ≡ b → (a || b) ≡ true → is_tag tag ≡ true
+one_tag tag true b first second is = let same : tag ≡ 0x71 = grind (arith, nat_tests) in rw same refl
+one_tag tag false true first second is = let same : tag ≡ 0x72 = grind (arith, nat_tests) in rw same refl
+one_tag tag false false first second is = cc
+
+-- templates have tags
+pub templates_tags : (fields : List (ℕ × List ℕ)) → are_templates fields ≡ true → are_tags fields ≡ true
+templates_tags [] all = refl
+templates_tags (field ∷ fields) all =
+    let facts = both (names_script field.0) _ all in
+    rw (one_tag field.0 _ _ refl refl facts.0) (templates_tags fields facts.1)
 
 placed_templates : (place : ℕ) (fields : List (ℕ × List ℕ)) → are_templates fields ≡ true → list_all is_template (placed place fields ++ []) ≡ true
 placed_templates place [] all = refl
 placed_templates place (field ∷ fields) all =
-    let facts = both (field.0 == 0x71 || field.0 == 0x72) _ all in
+    let facts = both (names_script field.0) _ all in
     rw facts.0 (placed_templates (place + length (written field.0 field.1)) fields facts.1)
 
 placed_count : (place : ℕ) (fields : List (ℕ × List ℕ)) → length (placed place fields ++ []) ≡ length fields
@@ -64,6 +78,14 @@ templates_are_scripts fields are templates few short =
       no_padding = bytes_placed fields bytes are refl;
     }
 
+pub spelled_are_scripts : (bytes : List ℕ) → AreSpelledScripts bytes → AreScripts bytes
+spelled_are_scripts bytes is =
+    subst AreScripts (sym is.exact)
+    (templates_are_scripts is.fields (templates_tags is.fields is.templates) is.templates is.few (omega (arith, ap length is.exact, is.short)))
+
 -- no scripts
+pub none_spelled : AreSpelledScripts []
+none_spelled = record { fields = []; templates = refl; few = omega arith; short = omega arith; exact = refl }
+
 pub none_are_scripts : AreScripts []
-none_are_scripts = templates_are_scripts [] refl refl (omega arith) (omega arith)
+none_are_scripts = spelled_are_scripts [] none_spelled

@@ -10,3 +10,4 @@ pub mod Outer
 pub mod Reply
 pub mod Script
 pub mod Spelling
+pub mod Whole

@@ -21,9 +21,12 @@ auth_at items = do
   value ← if_there (some_value 8 16 0x91) (given 0x91 items)
   Ok (value, behind 0x91 items)
 
--- a script: before the second GENERATE AC (71) or behind it (72)
+-- the tag of a script: before the second GENERATE AC (71) or behind it (72)
+abbrev pub names_script : ℕ → Bool
+names_script tag = tag == 0x71 || tag == 0x72
+
 abbrev pub is_template : ItemData → Bool
-is_template item = item.tag == 0x71 || item.tag == 0x72
+is_template item = names_script item.tag
 
 -- the scripts that come next, and what stands behind them
 abbrev pub templates : List ItemData → List ItemData

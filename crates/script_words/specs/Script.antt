@@ -1,5 +1,5 @@
 -- A script as a contract sees it. Words and orders are seen as they are declared.
-use Rattle.std.specs.Prelude.{ℕ, ◌≤◌, Bool, List, length, Option}
+use Rattle.std.specs.Prelude.{ℕ, ◌≡◌, ◌≤◌, Bool, List, length, Option, IfSome}
 use Rattle.std.specs.List.{All}
 use Rattle.script_words.specs.Spelling.{IsWord}
 use Rattle.script_words.specs.declared.script.Ordered.{Ordered}
@@ -13,4 +13,5 @@ pub record ScriptData : Type 0 where
 pub record IsScript (script : ScriptData) : Type 0 where
   pub some_command : 1 ≤ length script.commands
   pub few_commands : length script.commands ≤ 16
+  pub identifier : IfSome script.id (λ id. length id ≡ 4)
   pub words : All (λ order. IsWord order.word) script.commands

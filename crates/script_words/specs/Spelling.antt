@@ -8,10 +8,13 @@ use Rattle.script_words.specs.declared.script.Ordered.{Ordered}
 
 -- a word that can be ordered: a PIN has 4 to 12 digits, an amount at most 12
 abbrev pub IsWord : Word → Type 0
+IsWord Block = ⊤
+IsWord Unblock = ⊤
+IsWord CardBlock = ⊤
+IsWord PinUnblock = ⊤
 IsWord (Pin digits) = HasPinLength digits × AllDecimal digits
 IsWord (Count limit) = limit ≤ 255
 IsWord (Amount limit) = limit ≤ most_amount
-IsWord word = ⊤
 
 -- a word and its argument, one space between them
 abbrev pub word_text : Word → List ℕ
