@@ -1,5 +1,5 @@
 -- What a power-up finds, and what the pages stand for where it is cut.
-use Rattle.std.proofs.Common.{◌≡◌, ◌⊎◌, ℕ, Bool, true, false, List, [], ◌∷◌, Option, Some, None, ap, subst, ◌∙◌, inl, inr}
+use Rattle.std.proofs.Common.{◌≡◌, ◌⊎◌, ℕ, Bool, true, false, List, [], ◌∷◌, Option, Some, None, sym, subst, lit<, inl, inr}
 use Rattle.card_state.specs.Decisions.{Decided}
 use Rattle.card_state.specs.Encoding.{encoding, IsCardState}
 use Rattle.card_state.specs.Totals.{totals}
@@ -8,8 +8,8 @@ use Rattle.emv_ports.specs.declared.tear.Tear.{Tear}
 use Rattle.emv_ports.specs.Memory.{Memory}
 use Rattle.torn_store.specs.Layout.{recover}
 use Rattle.torn_store.specs.Recovery.{Holds, Between}
-use Rattle.torn_store.proofs.Outcomes.{has_first}
-use Rattle.torn_store.proofs.Stored.{holds_among, one_of_two}
+use Rattle.torn_store.proofs.Outcomes.{has_first, among_within}
+use Rattle.torn_store.proofs.Stored.{holds_among, one_of_two, among_one}
 use Rattle.card_pages.specs.Pages.{Cells, MayStand, found_of}
 use Rattle.card_pages.specs.SeenKept.{KeptOn}
 
@@ -19,12 +19,9 @@ either one other (inr is) = is
 
 -- between a state and the same one
 alike : (cells : Cells) (state : List ℕ) → Between recover cells state state → Holds recover cells state
-alike cells state between = record {
-  laid = between.laid;
-  each = λ bytes reading.
-      let one = between.each bytes reading in
-      one.2 ∙ ap (λ (s : List ℕ). Some s) (either one.0 state (one_of_two state state one.0 one.1));
-}
+alike cells state between =
+    among_one cells state
+    (among_within recover cells (state ∷ state ∷ []) (state ∷ []) (λ one has. (0, lit< tt, sym (either one state (one_of_two state state one has)))) between)
 
 module _ (opening : CardState) (kept : List Decided) where
   -- the state without the pending decision, and with it

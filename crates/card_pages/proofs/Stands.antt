@@ -12,7 +12,8 @@ use Rattle.card_state.specs.declared.state.CardState.{CardState}
 use Rattle.emv_ports.specs.Cut.{is_named, is_among, release_cut}
 use Rattle.emv_ports.specs.Causes.{one_more}
 use Rattle.emv_ports.specs.Memory.{Memory, next, next_release_cut}
-use Rattle.torn_store.specs.Store.{IsGone}
+use Rattle.torn_store.specs.Placed.{Commits, ReleaseTorn}
+use Rattle.torn_store.specs.Store.{Stored, IsGone}
 use Rattle.torn_store.proofs.Causes.{release_cut_named}
 use Rattle.emv_ports.specs.declared.tear.Cut.TheVariants.{Spared, CutBefore}
 use Rattle.emv_ports.specs.declared.tear.Tear.{Tear}
@@ -22,7 +23,7 @@ use Rattle.torn_store.specs.Layout.{recover, changed, commit_writes}
 use Rattle.torn_store.specs.Recovery.{Holds}
 use Rattle.torn_store.proofs.Outcomes.{has_second}
 use Rattle.torn_store.proofs.Stored.{holds_among}
-use Rattle.card_pages.specs.SeenKept.{KeptOn, CutAt}
+use Rattle.card_pages.specs.SeenKept.{KeptState, KeptOn, CutAt}
 use Rattle.card_pages.specs.Cuts.{Cut, commit_of, cut_of, behind_one, left_at, left_of, kept_by, pending_by}
 use Rattle.card_pages.specs.Pages.{Cells, StandsFor, StandsBetween, MayStand}
 
@@ -113,3 +114,21 @@ module _ (cells : Cells) (opening : CardState) (ds : List Decided) (d : Decided)
                 (cut_release memory.plan memory.commit memory.writes is some on.stands.fits fits_with holds));
           };
         }
+
+module _ (opening : CardState) (ds : List Decided) (d : Decided) where
+  -- the release of a decision's commit is cut, in the place of a card
+  pub cut_releasing : (old : KeptState) (place written last : Stored) (text : List ℕ) (plan : Option Tear) (made : ℕ) → place.memory ≡ old.memory
+      → KeptOn old opening ds plan made → Commits place text written → ReleaseTorn written last
+      → text ≡ encoding (totals opening (ds ++ d ∷ [])) → IsCardState (totals opening (ds ++ d ∷ []))
+      → CutAt old.memory last.memory opening ds (d ∷ []) plan made (record { before = []; cut = d })
+  cut_releasing old place written last text plan made same on wrote torn is fits =
+      let cut =
+      released last.memory.cells opening ds d written.memory last.memory made old.memory
+      (record { state_is = refl; stands = on.stands; plan_is = refl; commit_is = on.commit_is })
+      (wrote.plan ∙ ap (λ (m : Memory). m.plan) same)
+      (wrote.commit ∙ ap (λ (m : Memory). next m.commit) same)
+      (wrote.losses ∙ ap (λ (m : Memory). m.losses) same)
+      (some_writes place.state text written.memory.writes wrote.wrote)
+      torn.cut torn.gone refl fits
+      (subst (λ (s : List ℕ). Holds recover last.memory.cells s) (wrote.state ∙ is) torn.lost) in
+      subst (λ (p : Option Tear). CutAt old.memory last.memory opening ds (d ∷ []) p made (record { before = []; cut = d })) on.plan_is cut

@@ -1,5 +1,6 @@
 -- A PIN block to compare (EMV 4.3 Book 3 section 6.5.12): the try is decided before the comparison.
-use Rattle.std.specs.Prelude.{◌≡◌, ℕ, ◌+◌, ◌-◌, ◌<◌, not, Bool, if◌then◌else◌, [], ◌∷◌, length, replicate}
+use Rattle.std.specs.Prelude.{◌≡◌, ℕ, ◌+◌, ◌-◌, ◌<◌, not, Bool, if◌then◌else◌, [], ◌∷◌, length, replicate, slice_get}
+use Rattle.std.specs.Option.{ForSome}
 use Rattle.std.specs.Str.{bytes_eq}
 use Rattle.card_state.specs.declared.decision.Decision.TheVariants.{PinTry, PinRight}
 use Rattle.card_state.specs.declared.state.AppState.{AppState}
@@ -29,5 +30,7 @@ comparison_reply k = compared k.app k.limit k.tries (is_equal k)
 -- an application that is there, and that has this PIN and so many tries left
 pub record MayCompare (state : CardState) (k : Comparison) : Type 0 where
   pub app : k.app < length state.apps.items
+  pub pin : ForSome (slice_get state.apps.items k.app) (λ s. s.pin ≡ k.pin)
+  pub tries : ForSome (slice_get state.apps.items k.app) (λ s. s.tries ≡ k.tries)
   pub allowed : MayTake state k.app PinTry
   pub size : length k.block ≡ 8

@@ -11,10 +11,15 @@ use Rattle.torn_store.specs.Recovery.{Holds, Between}
 abbrev pub Cells : Type 0
 Cells = List (List (Option ℕ))
 
--- the pages hold the encoding of the totals of the decisions, whatever their unsure cells give
-pub record StandsFor (cells : Cells) (opening : CardState) (ds : List Decided) : Type 0 where
+-- What pages hold while their card is on: the encoding of the totals of the decisions, whatever their unsure
+-- cells give.
+pub record HoldsTotals (cells : Cells) (opening : CardState) (ds : List Decided) : Type 0 where
   pub fits : IsCardState (totals opening ds)
   pub holds : Holds recover cells (encoding (totals opening ds))
+
+-- what they may hold for the same decisions while it is off
+abbrev pub StandsFor : Cells → CardState → List Decided → Type 0
+StandsFor cells opening ds = HoldsTotals cells opening ds
 
 -- the pages are between the decisions that are kept, and these with one more
 pub record StandsBetween (cells : Cells) (opening : CardState) (kept : List Decided) (last : Decided) : Type 0 where

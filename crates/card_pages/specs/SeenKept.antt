@@ -10,7 +10,7 @@ use Rattle.emv_ports.specs.Memory.{Memory}
 use Rattle.emv_ports.specs.declared.tear.Tear.{Tear}
 use Rattle.torn_store.specs.Store.{IsGone}
 use Rattle.card_pages.specs.Cuts.{Cut, commit_of, cut_of, left_of, kept_by, pending_by}
-use Rattle.card_pages.specs.Pages.{StandsFor, MayStand}
+use Rattle.card_pages.specs.Pages.{HoldsTotals, MayStand}
 
 -- pages that are on, and the state that they hold
 pub record KeptState : Type 0 where
@@ -20,7 +20,7 @@ pub record KeptState : Type 0 where
 -- the pages stand for these decisions, so many of which were made since power-up, under this plan
 pub record KeptOn (seen : KeptState) (opening : CardState) (ds : List Decided) (plan : Option Tear) (made : ℕ) : Type 0 where
   pub state_is : seen.state ≡ totals opening ds
-  pub stands : StandsFor seen.memory.cells opening ds
+  pub stands : HoldsTotals seen.memory.cells opening ds
   pub plan_is : seen.memory.plan ≡ plan
   pub commit_is : seen.memory.commit ≡ commit_of made
 

@@ -1,5 +1,5 @@
 //! A PIN that is compared behind the try that it costs.
-ghost use Rattle.std.specs.Prelude.{◌≡◌, ◌+◌, ◌-◌, [], length, Some, IfOk, IfErr, OnOk, OnErr};
+ghost use Rattle.std.specs.Prelude.{◌≡◌, ◌+◌, ◌-◌, [], length, Some, true, OnOk, OnErr};
 ghost use Rattle.apdu_core.specs.Response.{response_bytes, response_of};
 ghost use Rattle.torn_store.specs.Store.{IsGone};
 ghost use Rattle.card_pages.specs.Comparing as spec;
@@ -12,8 +12,7 @@ use apdu_core::status::NO_ERROR;
 use apdu_core::{Answer, Response, write_response};
 use arrayvec::ArrayVec;
 use card_state::{AppState, Decision};
-use emv_ports::Pages;
-use torn_store::Lost;
+use emv_ports::{Gone, Pages};
 
 /// A PIN block to compare, behind one more PIN try.
 #[derive(Clone, Copy, PartialEq, Eq, Debug)]
@@ -52,39 +51,41 @@ pub fn respond(body: &ArrayVec<u8, 256>, status: u16, out: &mut Answer)
 /// Takes a PIN try, and only then compares: a right PIN is one more decision. The answer goes to `out`
 /// behind the decisions.
 ///
-/// `Lost` comes exactly where the plan cuts one of the two decisions; `out` is empty then.
+/// `Gone` comes exactly where the plan cuts one of the two decisions; `out` is empty then.
 pub fn compare<P: Pages>(
-    kept: Kept<P>,
+    kept: &mut Kept<P>,
     with: &Comparison,
     out: &mut Answer,
-) -> Result<Kept<P>, Lost<P>>
-    requires may { MayCompare kept.state with.now }
-    ensures takes { IfOk result (λ next. Takes kept next (comparison_reply with.now).new) }
-    ensures losses { IfOk result (λ next. next.memory.losses ≡ kept.memory.losses) }
-    ensures apps { IfOk result (λ next. length next.state.apps.items ≡ length kept.state.apps.items) }
+) -> Result<(), Gone>
+    requires on { kept.old.memory.on ≡ true }
+    requires may { MayCompare kept.old.state with.now }
+    ensures takes { OnOk result (Takes kept.old kept.new (comparison_reply with.now).new) }
+    ensures on { OnOk result (kept.new.memory.on ≡ true) }
+    ensures losses { OnOk result (kept.new.memory.losses ≡ kept.old.memory.losses) }
+    ensures apps { OnOk result (length kept.new.state.apps.items ≡ length kept.old.state.apps.items) }
     ensures said { OnOk result (out.new.items ≡ (said (comparison_reply with.now)).answer) }
     ensures read_again { OnOk result (response_of out.new.items ≡ Some (response_in (comparison_reply with.now))) }
-    ensures cut { IfErr result (λ lost. IsCut kept (P.memory lost.pages) (comparison_reply with.now).new) }
-    ensures gone { IfErr result (λ lost. IsGone kept.memory (P.memory lost.pages)) }
+    ensures cut { OnErr result (IsCut kept.old kept.new.memory (comparison_reply with.now).new) }
+    ensures gone { OnErr result (IsGone kept.old.memory kept.new.memory) }
     ensures silent { OnErr result (out.new.items ≡ []) }
 {
     out.clear();
-    let kept = match kept.decide(with.app, &Decision::PinTry) {
-        Ok(kept) => kept,
-        Err(lost) => return Err(lost),
-    };
+    match kept.decide(with.app, &Decision::PinTry) {
+        Ok(()) => {}
+        Err(Gone) => return Err(Gone),
+    }
     let body = ArrayVec::new();
     if !is_right(with) {
         respond(&body, tries_left(with.tries), out);
-        return Ok(kept);
+        return Ok(());
     }
     let right = Decision::PinRight { limit: with.limit };
     match kept.decide(with.app, &right) {
-        Ok(kept) => {
+        Ok(()) => {
             respond(&body, NO_ERROR, out);
-            Ok(kept)
+            Ok(())
         }
-        Err(lost) => Err(lost),
+        Err(Gone) => Err(Gone),
     }
 }
 

@@ -1,38 +1,38 @@
-//! The pages of a card that is on, with the state that they hold.
-ghost use Rattle.std.specs.Prelude.{◌≡◌, ◌<◌, ◌≤◌, ℕ, List, [], ◌∷◌, Bool, Option, Some, None, length, slice_get, true, false, IfOk, IfErr, OnOk, OnErr};
+//! The pages of a card in their place, with the state that they hold while it is on.
+ghost use Rattle.std.specs.Prelude.{◌≡◌, ◌<◌, ◌≤◌, ℕ, List, [], ◌∷◌, Bool, Option, Some, None, length, slice_get, true, false, IsTrue, OnOk, OnErr};
 ghost use Rattle.card_state.specs.Decisions.{Decided};
 ghost use Rattle.card_state.specs.Totals.{totals};
 ghost use Rattle.card_state.specs.declared.state.CardState.{CardState as State};
-ghost use Rattle.emv_ports.specs.Cut.{is_named};
-ghost use Rattle.emv_ports.specs.Memory.{powered_off};
-ghost use Rattle.emv_ports.specs.declared.tear.Tear.{Tear};
+ghost use Rattle.emv_ports.specs.Cut.{is_named, is_plan};
+ghost use Rattle.emv_ports.specs.Memory.{planned, powered_off};
+ghost use Rattle.emv_ports.specs.declared.tear.Tear.{Tear as Plan};
 ghost use Rattle.torn_store.specs.Store.{IsGone};
 ghost use Rattle.card_pages.specs.Pages.{StandsFor, MayStand, found_of};
 ghost use Rattle.card_pages.specs.SeenKept.{KeptOn, Takes, IsCutAlone, MayTake};
 
 use arrayvec::ArrayVec;
 use card_state::{CardState, Decision, apply, decode, encode};
-use emv_ports::Pages;
+use emv_ports::{Gone, Pages, Tear};
 use std::marker::Model;
-use torn_store::{Lost, Store};
+use torn_store::Place;
 
-/// A store of pages that are on, and the state that it holds.
+/// The place of a card's pages, on or off, and the state that they hold while they are on.
 #[derive(Drop)]
 pub struct Kept<P: Pages> {
-    store: Store<P>,
+    place: Place<P>,
     state: CardState,
 }
 
 impl<P: Pages> Model for Kept<P> {
-    ghost use Rattle.std.specs.Prelude.{◌≡◌};
+    ghost use Rattle.std.specs.Prelude.{◌≡◌, true};
     ghost use Rattle.card_state.specs.Encoding.{encoding};
     ghost use Rattle.card_pages.specs.SeenKept.{KeptState};
 
     ghost Value = { KeptState };
 
-    ghost view = { λ k. record { memory = k.store.memory; state = k.state } };
+    ghost view = { λ k. record { memory = k.place.memory; state = k.state } };
 
-    ghost invariant = { λ k. k.store.state ≡ encoding k.state };
+    ghost invariant = { λ k. k.place.memory.on ≡ true → k.place.state ≡ encoding k.state };
 }
 
 /// Writes a card's state before its first decision to pages, which are off and have no plan, before and
@@ -48,41 +48,76 @@ pub fn format<P: Pages>(opening: &CardState, pages: P) -> P
 {
     let mut bytes = ArrayVec::new();
     encode(opening, &mut bytes);
-    Store::format(pages, bytes.as_slice()).into_pages()
+    let mut place = Place::new(pages);
+    place.format(bytes.as_slice());
+    place.power_off();
+    place.into_pages()
 }
 
 impl<P: Pages> Kept<P> {
-    /// Turns on pages that may stand for the decisions of a card, as `format` and every later call leave
-    /// them, and reads their state. What is found is the list of decisions that are kept, or that list
-    /// with the pending one.
-    ///
-    /// `Lost` comes exactly where a tear is planned before the first decision. The pages stand then for
-    /// what they stood for.
-    pub fn power_up(pages: P) -> Result<Kept<P>, Lost<P>>
-        requires off { (P.memory pages).on ≡ false }
-        requires stands { (opening : State) × (kept : List Decided) × (pending : Option Decided)
-            × MayStand (P.memory pages).cells opening kept pending }
-        ensures found { IfOk result (λ on. (opening : State) (kept : List Decided) (pending : Option Decided)
-            → MayStand (P.memory pages).cells opening kept pending
-            → (with_it : Bool) × KeptOn on opening (found_of kept pending with_it) (P.memory pages).plan 0) }
-        ensures spared { OnOk result (is_named (P.memory pages).plan 0 ≡ false) }
-        ensures losses { IfOk result (λ on. on.memory.losses ≡ (P.memory pages).losses) }
-        ensures lost { IfErr result (λ lost. (opening : State) (kept : List Decided) (pending : Option Decided)
-            → MayStand (P.memory pages).cells opening kept pending
-            → MayStand (P.memory lost.pages).cells opening kept pending) }
-        ensures cut { OnErr result (is_named (P.memory pages).plan 0 ≡ true) }
-        ensures gone { IfErr result (λ lost. IsGone (P.memory pages) (P.memory lost.pages)) }
+    /// The place of pages that are off.
+    pub fn new(pages: P) -> Kept<P>
+        requires { (P.memory pages).on ≡ false }
+        ensures { result.memory ≡ P.memory pages }
     {
-        match Store::open(pages) {
-            Ok(store) => match decode(store.state()) {
-                Some(state) => Ok(Kept { store, state }),
-                None => unreachable!(),
-            },
-            Err(lost) => Err(lost),
+        Kept {
+            place: Place::new(pages),
+            state: CardState::default(),
         }
     }
 
-    /// The state.
+    /// Plans a tear, or none, for pages that are off.
+    pub fn plan(&mut self, tear: Option<Tear>)
+        requires off { self.old.memory.on ≡ false }
+        requires tear { IsTrue (is_plan tear) }
+        ensures { self.new.memory ≡ planned self.old.memory tear }
+    {
+        self.place.plan(tear);
+    }
+
+    /// Turns on pages that may stand for the decisions of a card with this opening state, as `format` and every
+    /// later call leave them, and reads their state. What is found is the list of decisions that are kept, or
+    /// that list with the pending one.
+    ///
+    /// `Gone` comes exactly where a tear is planned before the first decision. The pages stand then for
+    /// what they stood for.
+    pub fn power_up(&mut self, opening: &CardState) -> Result<(), Gone>
+        requires off { self.old.memory.on ≡ false }
+        requires stands { (kept : List Decided) × (pending : Option Decided)
+            × MayStand self.old.memory.cells opening.now kept pending }
+        ensures found { OnOk result ((kept : List Decided) (pending : Option Decided)
+            → MayStand self.old.memory.cells opening.now kept pending
+            → (with_it : Bool) × KeptOn self.new opening.now (found_of kept pending with_it) self.old.memory.plan 0) }
+        ensures on { OnOk result (self.new.memory.on ≡ true) }
+        ensures spared { OnOk result (is_named self.old.memory.plan 0 ≡ false) }
+        ensures losses { OnOk result (self.new.memory.losses ≡ self.old.memory.losses) }
+        ensures lost { OnErr result ((kept : List Decided) (pending : Option Decided)
+            → MayStand self.old.memory.cells opening.now kept pending
+            → MayStand self.new.memory.cells opening.now kept pending) }
+        ensures cut { OnErr result (is_named self.old.memory.plan 0 ≡ true) }
+        ensures gone { OnErr result (IsGone self.old.memory self.new.memory) }
+    {
+        match self.place.power_up() {
+            Ok(()) => {}
+            Err(Gone) => return Err(Gone),
+        }
+        match decode(self.place.state()) {
+            Some(state) => {
+                self.state = state;
+                Ok(())
+            }
+            None => unreachable!(),
+        }
+    }
+
+    /// Whether the pages are on.
+    pub fn is_on(&self) -> bool
+        ensures { result ≡ self.now.memory.on }
+    {
+        self.place.is_on()
+    }
+
+    /// The state, while the pages are on.
     pub fn state(&self) -> &CardState
         ensures { result.now ≡ self.now.state }
     {
@@ -92,38 +127,49 @@ impl<P: Pages> Kept<P> {
     /// Takes one decision of an application that is there, and whose state allows it: a commit, and its
     /// release.
     ///
-    /// `Lost` comes exactly where the plan names this commit. The decision is dropped then where the
+    /// `Gone` comes exactly where the plan names this commit. The decision is dropped then where the
     /// plan cuts its first write before it begins, kept at the release, and pending at any other place.
     #[tactic(auto, unfolding(crate::specs::Cuts::cut_of))]
-    pub fn decide(self, app: u8, decision: &Decision) -> Result<Kept<P>, Lost<P>>
-        requires in_range { app < length self.state.apps.items }
-        requires allowed { MayTake self.state app decision.now }
-        ensures takes { IfOk result (λ next. Takes self next (record { app = app; decision = decision.now } ∷ [])) }
-        ensures losses { IfOk result (λ next. next.memory.losses ≡ self.memory.losses) }
-        ensures apps { IfOk result (λ next. length next.state.apps.items ≡ length self.state.apps.items) }
-        ensures cut { IfErr result (λ lost. IsCutAlone self (P.memory lost.pages) (record { app = app; decision = decision.now })) }
-        ensures gone { IfErr result (λ lost. IsGone self.memory (P.memory lost.pages)) }
+    pub fn decide(&mut self, app: u8, decision: &Decision) -> Result<(), Gone>
+        requires on { self.old.memory.on ≡ true }
+        requires in_range { app < length self.old.state.apps.items }
+        requires allowed { MayTake self.old.state app decision.now }
+        ensures takes { OnOk result (Takes self.old self.new (record { app = app; decision = decision.now } ∷ [])) }
+        ensures on { OnOk result (self.new.memory.on ≡ true) }
+        ensures losses { OnOk result (self.new.memory.losses ≡ self.old.memory.losses) }
+        ensures apps { OnOk result (length self.new.state.apps.items ≡ length self.old.state.apps.items) }
+        ensures cut { OnErr result (IsCutAlone self.old self.new.memory (record { app = app; decision = decision.now })) }
+        ensures gone { OnErr result (IsGone self.old.memory self.new.memory) }
     {
-        let Kept { store, mut state } = self;
-        apply(&mut state, app, decision);
+        apply(&mut self.state, app, decision);
         let mut bytes = ArrayVec::new();
-        encode(&state, &mut bytes);
-        match store.commit(bytes.as_slice()) {
-            Ok(settled) => match settled.release() {
-                Ok(store) => Ok(Kept { store, state }),
-                Err(lost) => Err(lost),
-            },
-            Err(torn) => Err(torn),
+        encode(&self.state, &mut bytes);
+        let written = match self.place.commit(bytes.as_slice()) {
+            Ok(written) => written,
+            Err(Gone) => return Err(Gone),
+        };
+        match written.release() {
+            Ok(()) => {}
+            Err(Gone) => return Err(Gone),
         }
+        Ok(())
     }
 
     /// Turns the pages off. They stand for the decisions.
-    pub fn power_off(self) -> P
-        ensures memory { P.memory result ≡ powered_off self.memory }
-        ensures stands { (opening : State) (ds : List Decided) (plan : Option Tear) (made : ℕ)
-            → KeptOn self opening ds plan made → StandsFor (P.memory result).cells opening ds }
+    pub fn power_off(&mut self)
+        requires on { self.old.memory.on ≡ true }
+        ensures memory { self.new.memory ≡ powered_off self.old.memory }
+        ensures stands { (opening : State) (ds : List Decided) (plan : Option Plan) (made : ℕ)
+            → KeptOn self.old opening ds plan made → StandsFor self.new.memory.cells opening ds }
     {
-        let Kept { store, .. } = self;
-        store.into_pages()
+        self.place.power_off();
+    }
+
+    /// Gives the pages, on or off as they are.
+    pub fn into_pages(self) -> P
+        ensures { P.memory result ≡ self.memory }
+    {
+        let Kept { place, .. } = self;
+        place.into_pages()
     }
 }

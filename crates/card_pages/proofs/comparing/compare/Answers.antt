@@ -5,18 +5,18 @@ use Rattle.card_pages.proofs.comparing.compare.Goals as goal
 
 pub returns-in-Err-clause-cut : goal.returns-in-Err-clause-cut
 returns-in-Err-clause-cut g c opening ds plan made on =
-    cut_try c.args.with.now c.args.kept opening ds plan made on (g.P.Pages.memory c.in-Err.lost.pages) c.in-Err.ensures.cut
+    cut_try c.args.with.now c.args.kept.now opening ds plan made on c.decide.new.self.memory c.in-Err.ensures.cut
 
 pub returns-then-not-is_right-clause-takes : goal.returns-then-not-is_right-clause-takes
 returns-then-not-is_right-clause-takes g c opening ds plan made on =
-    took_try c.args.with.now c.args.kept opening ds plan made on c.in-Ok.kept (sym c.is_right.ensures ∙ c.if-not-is_right.true) c.in-Ok.ensures.takes
+    took_try c.args.with.now c.args.kept.now opening ds plan made on c.decide.new.self (sym c.is_right.ensures ∙ c.if-not-is_right.true) c.in-Ok.ensures.takes
 
 pub returns-in-Ok-decide-clause-takes : goal.returns-in-Ok-decide-clause-takes
 returns-in-Ok-decide-clause-takes g c opening ds plan made on =
-    took_both c.args.with.now c.args.kept opening ds plan made on c.in-Ok.kept c.in-Ok.ensures.takes (sym c.is_right.ensures ∙ c.if-not-is_right.false)
-    c.in-Ok-decide.kept c.in-Ok-decide.ensures.takes
+    took_both c.args.with.now c.args.kept.now opening ds plan made on c.decide.new.self c.in-Ok.ensures.takes (sym c.is_right.ensures ∙ c.if-not-is_right.false)
+    c.decide-2.new.self c.in-Ok-decide.ensures.takes
 
 pub returns-in-Err-decide-clause-cut : goal.returns-in-Err-decide-clause-cut
 returns-in-Err-decide-clause-cut g c opening ds plan made on =
-    cut_right c.args.with.now c.args.kept opening ds plan made on c.in-Ok.kept c.in-Ok.ensures.takes (sym c.is_right.ensures ∙ c.if-not-is_right.false)
-    (g.P.Pages.memory c.in-Err-decide.lost.pages) c.in-Ok.ensures.losses c.in-Err-decide.ensures.cut
+    cut_right c.args.with.now c.args.kept.now opening ds plan made on c.decide.new.self c.in-Ok.ensures.takes (sym c.is_right.ensures ∙ c.if-not-is_right.false)
+    c.decide-2.new.self.memory c.in-Ok.ensures.losses c.in-Err-decide.ensures.cut
