@@ -61,6 +61,32 @@ fn blocks_are_those_of_other_implementations(rt: HostRuntime) {
 }
 
 #[test]
+fn blocks_cover_account_numbers_of_other_lengths(rt: HostRuntime) {
+    let rows: [(&[u8], u64); 4] = [
+        (&[4, 7, 6, 1, 7, 3, 9, 0, 0, 1, 0, 1, 0], 0x14e6ce16dc7e39a5),
+        (
+            &[4, 7, 6, 1, 7, 3, 9, 0, 0, 1, 0, 1, 4, 0, 0, 7, 8],
+            0xf271e987c2daed17,
+        ),
+        (
+            &[4, 7, 6, 1, 7, 3, 9, 0, 0, 1, 0, 1, 0, 0, 1, 2, 4, 2],
+            0x07f26622a0e2b9c6,
+        ),
+        (
+            &[4, 7, 6, 1, 7, 3, 9, 0, 0, 1, 0, 1, 0, 0, 1, 0, 1, 2, 3],
+            0x019f9206924ba212,
+        ),
+    ];
+    let key = Key16::new(0x51af1ade333790dfba4c0279c88f1634u128.to_be_bytes());
+    let pin = digits(&rt, &[1, 2, 3, 4]);
+    for (pan, wanted) in rows {
+        let pan = digits(&rt, pan);
+        assert!(rt; 13 <= pan.len());
+        assert_eq!(rt; online_block(&key, &pin, &pan), wanted.to_be_bytes());
+    }
+}
+
+#[test]
 fn other_bytes_are_no_block(rt: HostRuntime) {
     let refused: [u64; 7] = [
         0x231234ffffffffff,
