@@ -4,8 +4,8 @@ use Rattle.std.specs.Prelude.{flat_map}
 use Rattle.ber_tlv.specs.Written.{written}
 use Rattle.auth_message.specs.Reply.{AreScripts}
 use Rattle.auth_message.specs.Spelling.{spelled}
-use Rattle.auth_message.proofs.Spelled.{are_tags}
-use Rattle.auth_message.proofs.Templates.{are_templates, templates_are_scripts}
+use Rattle.auth_message.specs.Whole.{AreSpelledScripts}
+use Rattle.auth_message.proofs.Templates.{are_templates, spelled_are_scripts}
 use Rattle.script_words.specs.MadeLength.{template_tag}
 use Rattle.script_words.specs.Script.{ScriptData}
 use Rattle.issuer_host.specs.Scripts.{order_bytes, identifier_bytes, script_bytes, all_script_bytes}
@@ -23,15 +23,6 @@ unfolding fields content script_bytes
 spelled_is keys [] = refl
 spelled_is keys (script ∷ scripts) = ap (λ b. written (template_tag script.before) (identifier_bytes script.id ++ flat_map (order_bytes keys) script.commands) ++ b) (spelled_is keys scripts)
 
-tags_are : (before : Bool) (others : Bool) (keys : ScriptKeys) (scripts : List ScriptData) (value : List ℕ) → are_tags (fields keys scripts) ≡ true → are_tags ((template_tag before, value) ∷ fields keys scripts) ≡ true
-tags_are true others keys scripts value rest = rest
-tags_are false others keys scripts value rest = rest
-
-all_tags : (keys : ScriptKeys) (scripts : List ScriptData) → are_tags (fields keys scripts) ≡ true
-unfolding fields
-all_tags keys [] = refl
-all_tags keys (script ∷ scripts) = tags_are script.before true keys scripts (content keys script) (all_tags keys scripts)
-
 templates_are : (before : Bool) (keys : ScriptKeys) (scripts : List ScriptData) (value : List ℕ) → are_templates (fields keys scripts) ≡ true → are_templates ((template_tag before, value) ∷ fields keys scripts) ≡ true
 templates_are true keys scripts value rest = rest
 templates_are false keys scripts value rest = rest
@@ -46,7 +37,16 @@ unfolding fields
 count keys [] = refl
 count keys (script ∷ scripts) = ap suc (count keys scripts)
 
+-- scripts that an account may have
+pub made_spelled : (keys : ScriptKeys) (scripts : List ScriptData) → length scripts ≤ 8 → length (all_script_bytes keys scripts) ≤ 1024 → AreSpelledScripts (all_script_bytes keys scripts)
+made_spelled keys scripts few short = record {
+  fields = fields keys scripts;
+  templates = all_templates keys scripts;
+  few = omega (arith, count keys scripts);
+  short = short;
+  exact = spelled_is keys scripts;
+}
+
 pub made_are_scripts : (keys : ScriptKeys) (scripts : List ScriptData) (bytes : List ℕ) → bytes ≡ all_script_bytes keys scripts → length scripts ≤ 8 → length bytes ≤ 1024 → AreScripts bytes
 made_are_scripts keys scripts bytes same few short =
-    let whole : bytes ≡ spelled (fields keys scripts) = same ∙ spelled_is keys scripts in
-    subst AreScripts (sym whole) (templates_are_scripts (fields keys scripts) (all_tags keys scripts) (all_templates keys scripts) (omega (arith, count keys scripts)) (omega (arith, ap length whole)))
+    subst AreScripts (sym same) (spelled_are_scripts (all_script_bytes keys scripts) (made_spelled keys scripts few (omega (arith, ap length same))))

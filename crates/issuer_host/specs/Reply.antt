@@ -52,10 +52,6 @@ reversal_key f = key_of f.pan f.t5f34 f.t9f36
 abbrev pub session_of : List ℕ → Key → List ℕ
 session_of issuer key = session_ac_of (master_key_of issuer key.pan key.sequence) key.counter
 
--- the cryptogram of a transaction's fields under the card's keys
-abbrev pub cryptogram_of : List ℕ → Key → AcFields → List ℕ → List ℕ
-cryptogram_of issuer key fields iad = ac_of (session_of issuer key) fields iad
-
 abbrev pub request_ac_fields : RequestData → AcFields
 request_ac_fields f = record {
   amount = f.t9f02;
@@ -84,12 +80,16 @@ present_ac_fields f = record {
   counter = f.t9f36;
 }
 
+-- 9F26 is the cryptogram of the message's fields under a session key
+abbrev pub is_made_under : List ℕ → RequestData → Bool
+is_made_under session f = bytes_eq (ac_of session (request_ac_fields f) f.t9f10) f.t9f26
+
 -- 9F26 is the card's cryptogram of the message's fields
 abbrev pub request_is_genuine : HostKeys → RequestData → Bool
-request_is_genuine keys f = bytes_eq (cryptogram_of keys.ac (request_key f) (request_ac_fields f) f.t9f10) f.t9f26
+request_is_genuine keys f = is_made_under (session_of keys.ac (request_key f)) f
 
 abbrev pub present_is_genuine : HostKeys → PresentData → Bool
-present_is_genuine keys f = bytes_eq (cryptogram_of keys.ac (present_key f) (present_ac_fields f) f.t9f10) f.t9f26
+present_is_genuine keys f = bytes_eq (ac_of (session_of keys.ac (present_key f)) (present_ac_fields f) f.t9f10) f.t9f26
 
 -- year, month and day of three bytes of digits; they need not be a day of the calendar
 abbrev pub day_of : List ℕ → Date
@@ -156,8 +156,12 @@ abbrev pub scripts_for : HostKeys → AccountData → Books → RequestData → 
 scripts_for keys account books f = (if is_served account.pan books then [] else all_script_bytes (script_keys keys f) account.scripts)
 
 -- the response cryptogram of the request's with this code, and the code (EMV 4.3 Book 2 section 8.2.1)
+abbrev pub response_under : List ℕ → RequestData → Code → List ℕ
+response_under session f code = arpc_of session f.t9f26 (code_bytes code) ++ code_bytes code
+
+-- the same under the card's key
 abbrev pub response_of : HostKeys → RequestData → Code → List ℕ
-response_of keys f code = arpc_of (session_of keys.ac (request_key f)) f.t9f26 (code_bytes code) ++ code_bytes code
+response_of keys f code = response_under (session_of keys.ac (request_key f)) f code
 
 -- the reply to a genuine request with this decision
 abbrev pub online_reply : HostKeys → AccountData → Books → RequestData → Code → Said

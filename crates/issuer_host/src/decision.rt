@@ -5,7 +5,7 @@ ghost use Rattle.issuer_host.specs.Account.{IsAccount};
 ghost use Rattle.issuer_host.specs.Balance.{taken};
 ghost use Rattle.issuer_host.specs.Records.{balance_left};
 ghost use Rattle.issuer_host.specs.Reply as spec;
-ghost use Rattle.issuer_host.specs.Reply.{request_key as key_of_request, present_key as key_of_present, reversal_key as key_of_reversal, session_of, cryptogram_of, request_ac_fields, present_ac_fields, day_of, pin_is_wrong as pin_spec};
+ghost use Rattle.issuer_host.specs.Reply.{request_key as key_of_request, present_key as key_of_present, reversal_key as key_of_reversal, session_of, request_ac_fields, present_ac_fields, day_of, pin_is_wrong as pin_spec};
 
 use crate::account::Account;
 use crate::code::Code;
@@ -69,10 +69,9 @@ pub fn session(issuer: &Key16, key: &Key) -> Key16
     session_ac(&master_key(issuer, &key.pan, key.sequence), key.counter)
 }
 
-/// Whether 9F26 is the card's cryptogram of the request's fields.
-pub fn request_is_genuine(keys: &HostKeys, key: &Key, fields: &RequestFields) -> bool
-    requires { key.now ≡ key_of_request fields.now }
-    ensures { result ≡ spec.request_is_genuine keys.now fields.now }
+/// Whether 9F26 is the cryptogram of the request's fields under a session key.
+pub fn is_made_under(session: &Key16, fields: &RequestFields) -> bool
+    ensures { result ≡ spec.is_made_under session.now fields.now }
 {
     let [trade] = fields.t9c;
     let covered = AcFields {
@@ -87,7 +86,7 @@ pub fn request_is_genuine(keys: &HostKeys, key: &Key, fields: &RequestFields) ->
         aip: fields.t82,
         counter: fields.t9f36,
     };
-    ac(&session(&keys.ac, key), &covered, fields.t9f10) == fields.t9f26
+    ac(session, &covered, fields.t9f10) == fields.t9f26
 }
 
 /// Whether 9F26 is the card's cryptogram of the presentment's fields.

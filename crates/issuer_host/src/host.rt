@@ -5,6 +5,7 @@ ghost use Rattle.emv_dict.specs.Bcd.{number_in};
 ghost use Rattle.emv_dict.specs.Settings.{most_amount};
 ghost use Rattle.auth_message.specs.Accepted.{AreDigits};
 ghost use Rattle.auth_message.specs.Message.{message_of};
+ghost use Rattle.auth_message.specs.Whole.{IsReply};
 ghost use Rattle.auth_message.specs.declared.message.Incoming.TheVariants.{Request, Present, Reverse};
 ghost use Rattle.host_ledger.specs.Accounts.{RefusesAccounts, AreDistinctBelow};
 ghost use Rattle.issuer_host.specs.Account.{IsAccount};
@@ -95,6 +96,8 @@ impl<'a> Host<'a> {
             → out.new.items ≡ host_reply self.old.keys self.old.accounts messages message.now) }
         ensures stands { OnOk result ((messages : List (List ℕ)) → HostStands self.old messages
             → HostStands self.new (messages ++ message.now ∷ [])) }
+        // It is read, and its scripts are spelled as items are written, with no byte 00 between them.
+        ensures written { OnOk result ((messages : List (List ℕ)) → HostStands self.old messages → IsReply out.new.items) }
         ensures keys { self.new.keys ≡ self.old.keys }
         ensures accounts { self.new.accounts ≡ self.old.accounts }
         ensures err { OnErr result (self.new ≡ self.old) }
@@ -137,6 +140,7 @@ impl<'a> Host<'a> {
         ensures books { OnOk result (self.new.books ≡ kept_in self.old.keys self.old.accounts self.old.books message.now (Ok (Request fields.now))) }
         ensures keys { self.new.keys ≡ self.old.keys }
         ensures accounts { self.new.accounts ≡ self.old.accounts }
+        ensures valid { All IsAccount self.old.accounts }
         ensures err { OnErr result (self.new ≡ self.old) }
         ensures memory { OnErr result (kept_at (key_of_request fields.now) self.old.books.requests ≡ None) }
     {
@@ -175,6 +179,7 @@ impl<'a> Host<'a> {
         ensures books { OnOk result (self.new.books ≡ kept_in self.old.keys self.old.accounts self.old.books message.now (Ok (Present fields.now))) }
         ensures keys { self.new.keys ≡ self.old.keys }
         ensures accounts { self.new.accounts ≡ self.old.accounts }
+        ensures valid { All IsAccount self.old.accounts }
         ensures err { OnErr result (self.new ≡ self.old) }
         ensures memory { OnErr result (kept_at (key_of_present fields.now) self.old.books.presentments ≡ None) }
     {
@@ -207,6 +212,7 @@ impl<'a> Host<'a> {
         ensures books { OnOk result (self.new.books ≡ kept_in self.old.keys self.old.accounts self.old.books message.now (Ok (Reverse fields.now))) }
         ensures keys { self.new.keys ≡ self.old.keys }
         ensures accounts { self.new.accounts ≡ self.old.accounts }
+        ensures valid { All IsAccount self.old.accounts }
         ensures err { OnErr result (self.new ≡ self.old) }
         ensures memory { OnErr result (kept_at (key_of_reversal fields.now) self.old.books.reversals ≡ None) }
     {

@@ -6,11 +6,11 @@ ghost use Rattle.issuer_host.specs.Account.{IsAccount};
 ghost use Rattle.issuer_host.specs.Balance.{taken};
 ghost use Rattle.issuer_host.specs.Records.{balance_left};
 ghost use Rattle.issuer_host.specs.Reply as spec;
-ghost use Rattle.issuer_host.specs.Reply.{request_key as key_of_request, present_key as key_of_present, reversal_key as key_of_reversal, said_bytes, plain as plain_said, is_served, scripts_for};
+ghost use Rattle.issuer_host.specs.Reply.{request_key as key_of_request, present_key as key_of_present, reversal_key as key_of_reversal, said_bytes, plain as plain_said, is_served, scripts_for, response_under};
 
 use crate::account::Account;
 use crate::code::Code;
-use crate::decision::{present_code, request_code, request_is_genuine, reversal_code, session};
+use crate::decision::{is_made_under, present_code, request_code, reversal_code, session};
 use crate::keys::HostKeys;
 use crate::records::Records;
 use crate::script::{ScriptBytes, ScriptKeys, write_scripts};
@@ -20,6 +20,7 @@ use auth_message::{Message, PresentFields, RequestFields, ReversalFields, write_
 use ber_tlv::append;
 use card_keys::{master_key, session_script};
 use host_ledger::Key;
+use triple_des::Key16;
 
 /// What a reply said.
 #[derive(Clone, Copy)]
@@ -64,37 +65,30 @@ pub fn request_reply(
     let Some(account) = account else {
         return plain(Code::UnknownAccount, out);
     };
-    if !request_is_genuine(keys, key, fields) {
+    let session = session(&keys.ac, key);
+    if !is_made_under(&session, fields) {
         return plain(Code::Declined, out);
     }
     let code = request_code(keys, account, records, key, fields);
-    online_reply(keys, account, served, records, key, fields, code, out);
+    let scripts = scripts(keys, account, served, records, key, fields);
+    online_reply(&session, fields, code, &scripts, out);
     Answered { code, online: true }
 }
 
-/// Writes the reply to a genuine request.
+/// Writes the reply to a genuine request, with its session key and the account's scripts.
 fn online_reply(
-    keys: &HostKeys,
-    account: &Account,
-    served: bool,
-    records: &Records,
-    key: &Key,
+    session: &Key16,
     fields: &RequestFields,
     code: Code,
+    scripts: &[u8],
     out: &mut Message,
 )
-    requires account { IsAccount account.now }
-    requires key { key.now ≡ key_of_request fields.now }
-    requires served { served ≡ is_served account.now.pan records.now.books }
-    ensures { out.new.items ≡ said_bytes (spec.online_reply keys.now account.now records.now.books fields.now code) }
+    requires { AreScripts scripts.now }
+    ensures { out.new.items ≡ said_bytes (record { code = code; auth = Some (response_under session.now fields.now code); scripts = scripts.now }) }
 {
-    let scripts = scripts(keys, account, served, records, key, fields);
     let cryptogram = fields.t9f26;
-    let response = joined(
-        arpc_one(&session(&keys.ac, key), cryptogram, code.bytes()),
-        code.bytes(),
-    );
-    write_reply(code.bytes(), Some(&response), &scripts, out);
+    let response = joined(arpc_one(session, cryptogram, code.bytes()), code.bytes());
+    write_reply(code.bytes(), Some(&response), scripts, out);
 }
 
 /// The issuer authentication data: the response cryptogram and the code.

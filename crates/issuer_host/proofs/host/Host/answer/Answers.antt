@@ -1,9 +1,12 @@
-use Rattle.std.proofs.Common.{◌≡◌, ℕ, List, Ok, refl, ap, ◌∙◌}
+use Rattle.std.proofs.Common.{◌≡◌, ℕ, List, Ok, refl, sym, ap, subst, ◌∙◌}
 use Rattle.std.specs.Option.{is_none}
 use Rattle.auth_message.specs.Message.{message_of}
 use Rattle.auth_message.specs.declared.message.Incoming.{Incoming}
 use Rattle.issuer_host.specs.History.{HostStands, is_new}
+use Rattle.auth_message.specs.Whole.{IsReply}
+use Rattle.issuer_host.specs.declared.code.Code.TheVariants.{Declined}
 use Rattle.issuer_host.proofs.Histories.{replied, stands_after}
+use Rattle.issuer_host.proofs.Replies.{plain_written, replies_written}
 use Rattle.issuer_host.proofs.Steps.{on_ok_map, on_err_map}
 use Rattle.issuer_host.proofs.host.Host.answer.Goals as goal
 
@@ -69,3 +72,27 @@ pub returns-in-Reverse-clause-memory : goal.returns-in-Reverse-clause-memory
 returns-in-Reverse-clause-memory c =
     let is : message_of c.args.message.now ≡ Ok c.in-Ok.incoming = c.in-Ok.ensures.value in
     on_err_map c.answer_reversal.result (λ none. ap (is_new c.args.self.now.books) (is ∙ ap (λ (x : Incoming). Ok x) c.in-Reverse.is) ∙ ap is_none none) c.answer_reversal.ensures.memory
+
+pub returns-in-Err-clause-written : goal.returns-in-Err-clause-written
+returns-in-Err-clause-written c = λ messages stands. subst IsReply (sym c.plain.ensures.bytes) (plain_written Declined)
+
+pub returns-in-Request-clause-written : goal.returns-in-Request-clause-written
+returns-in-Request-clause-written c =
+    let is : message_of c.args.message.now ≡ Ok c.in-Ok.incoming = c.in-Ok.ensures.value in
+    on_ok_map c.answer_request.result (λ said. λ (messages : List (List ℕ)) (stands : HostStands c.args.self.now messages).
+    subst IsReply (sym (said ∙ replied c.args.self.now messages c.args.message.now _ (is ∙ ap (λ (x : Incoming). Ok x) c.in-Request.is) stands))
+    (replies_written c.args.self.now.keys c.args.self.now.accounts messages c.args.message.now c.answer_request.ensures.valid)) c.answer_request.ensures.reply
+
+pub returns-in-Present-clause-written : goal.returns-in-Present-clause-written
+returns-in-Present-clause-written c =
+    let is : message_of c.args.message.now ≡ Ok c.in-Ok.incoming = c.in-Ok.ensures.value in
+    on_ok_map c.answer_presentment.result (λ said. λ (messages : List (List ℕ)) (stands : HostStands c.args.self.now messages).
+    subst IsReply (sym (said ∙ replied c.args.self.now messages c.args.message.now _ (is ∙ ap (λ (x : Incoming). Ok x) c.in-Present.is) stands))
+    (replies_written c.args.self.now.keys c.args.self.now.accounts messages c.args.message.now c.answer_presentment.ensures.valid)) c.answer_presentment.ensures.reply
+
+pub returns-in-Reverse-clause-written : goal.returns-in-Reverse-clause-written
+returns-in-Reverse-clause-written c =
+    let is : message_of c.args.message.now ≡ Ok c.in-Ok.incoming = c.in-Ok.ensures.value in
+    on_ok_map c.answer_reversal.result (λ said. λ (messages : List (List ℕ)) (stands : HostStands c.args.self.now messages).
+    subst IsReply (sym (said ∙ replied c.args.self.now messages c.args.message.now _ (is ∙ ap (λ (x : Incoming). Ok x) c.in-Reverse.is) stands))
+    (replies_written c.args.self.now.keys c.args.self.now.accounts messages c.args.message.now c.answer_reversal.ensures.valid)) c.answer_reversal.ensures.reply
