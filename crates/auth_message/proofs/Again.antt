@@ -2,6 +2,7 @@
 use Rattle.std.proofs.Common.{◌≡◌, ℕ, true, false, ◌&&◌, IfSome, ◌≤◌, nat_le, List, [], ◌∷◌, ◌++◌, length, Option, Some, None, Ok, refl, sym, ap, ◌∙◌, arith, append-nil, ◌==◌}
 use Rattle.std.proofs.lemmas.Bool.{le-leb}
 use Rattle.emv_dict.specs.Pan.{pan_of, pan_field}
+use Rattle.auth_message.specs.declared.message.Incoming.{Incoming}
 use Rattle.auth_message.specs.declared.message.Incoming.TheVariants.{Request, Present, Reverse}
 use Rattle.auth_message.specs.declared.reversal.ReversalFields.{ReversalFields}
 use Rattle.auth_message.specs.Accepted.{AreDigits, IsRequest, IsPresent, IsReversal}
@@ -10,6 +11,7 @@ use Rattle.auth_message.specs.Fields.{◌>>=◌, fixed_if_there}
 use Rattle.auth_message.specs.Message.{message_of, message_in}
 use Rattle.auth_message.specs.Messages.{request_at, present_at, reversal_at}
 use Rattle.auth_message.specs.Spelling.{optional, paid_fields, request_fields, request_named, request_paid, request_bytes, present_named, present_paid, reversal_named, spelled, present_fields, present_bytes, reversal_fields, reversal_bytes}
+use Rattle.auth_message.specs.Whole.{message_bytes, IsAccepted, HasCodes, IsMessage}
 use Rattle.auth_message.proofs.Spelled.{placed, are_tags, fields_read, front_length, optional_front, optional_last}
 use Rattle.auth_message.proofs.ReadBack.{IsOther, IsNamed, IsPaid, IsOptional, next_place, named_again, paid_again, fixed_again, some_again, optional_again, any_bytes, digit_bytes}
 
@@ -144,3 +146,13 @@ reversal_again f is account sizes =
     let place = front_length 0xE4 (spelled (reversal_fields f)) in
     let outer = fields_read known 0xE4 (reversal_fields f) refl refl (reversal_tags f) in
     ap (λ r. r >>= message_in) outer ∙ ap (λ r. r >>= λ fields. Ok (Reverse fields)) (reversal_read place f is account sizes)
+
+-- bytes that are a message as it is written
+pub written_message : (bytes : List ℕ) (message : Incoming) → bytes ≡ message_bytes message → message_of (message_bytes message) ≡ Ok message → IsAccepted message → HasCodes message → IsMessage bytes
+written_message bytes message exact read accepted codes = record {
+  message = message;
+  read = ap message_of exact ∙ read;
+  exact = exact;
+  accepted = accepted;
+  codes = codes;
+}

@@ -1,12 +1,14 @@
 //! Writing the messages and the reply.
 ghost use Rattle.std.specs.Prelude.{◌≡◌, ◌+◌, ◌≤◌, ◌++◌, Ok, length, IfSome, IsTrue, option_map};
 ghost use Rattle.emv_dict.specs.Pan.{HasPanLength, pan_of, pan_field};
+ghost use Rattle.emv_dict.specs.Settings.{is_code};
 ghost use Rattle.ber_tlv.specs.Tag.{is_readable};
 ghost use Rattle.ber_tlv.specs.Written.{written};
 ghost use Rattle.auth_message.specs.Accepted.{IsRequest, IsPresent, IsReversal};
 ghost use Rattle.auth_message.specs.Message.{message_of};
 ghost use Rattle.auth_message.specs.Reply.{AreScripts, reply_of, ReplyData};
 ghost use Rattle.auth_message.specs.Spelling.{optional, spelled, named_fields, paid_fields, request_fields, request_bytes, present_fields, present_bytes, reversal_fields, reversal_bytes, reply_bytes};
+ghost use Rattle.auth_message.specs.Whole.{IsCoded, IsMessage};
 ghost use Rattle.auth_message.specs.declared.message.Incoming.TheVariants.{Request, Present, Reverse};
 
 use crate::groups::{Named, Paid};
@@ -26,6 +28,7 @@ pub fn write_request(fields: &RequestFields, out: &mut Message)
     requires { IsRequest fields.now }
     ensures exact { out.new.items ≡ request_bytes fields.now }
     ensures read_again { message_of (request_bytes fields.now) ≡ Ok (Request fields.now) }
+    ensures message { IsCoded fields.now.t5f2a fields.now.t9c → IsMessage out.new.items }
 {
     let mut value = Message::new();
     put_named(
@@ -64,6 +67,7 @@ pub fn write_presentment(fields: &PresentFields, out: &mut Message)
     requires { IsPresent fields.now }
     ensures exact { out.new.items ≡ present_bytes fields.now }
     ensures read_again { message_of (present_bytes fields.now) ≡ Ok (Present fields.now) }
+    ensures message { IsCoded fields.now.t5f2a fields.now.t9c → IsMessage out.new.items }
 {
     let mut value = Message::new();
     put_named(
@@ -101,6 +105,7 @@ pub fn write_reversal(fields: &ReversalFields, out: &mut Message)
     requires { IsReversal fields.now }
     ensures exact { out.new.items ≡ reversal_bytes fields.now }
     ensures read_again { message_of (reversal_bytes fields.now) ≡ Ok (Reverse fields.now) }
+    ensures message { IsTrue (is_code fields.now.t5f2a) → IsMessage out.new.items }
 {
     let mut value = Message::new();
     put_named(

@@ -4,8 +4,9 @@ use Rattle.auth_message.specs.declared.groups.Named.{Named}
 use Rattle.auth_message.specs.declared.groups.Paid.{Paid}
 use Rattle.auth_message.specs.Data.{PresentData}
 use Rattle.auth_message.specs.Spelling.{present_bytes, present_fields, spelled, named_fields, paid_fields}
+use Rattle.auth_message.specs.declared.message.Incoming.TheVariants.{Present}
 use Rattle.auth_message.proofs.Spelled.{present_joined}
-use Rattle.auth_message.proofs.Again.{present_again, PresentSizes}
+use Rattle.auth_message.proofs.Again.{present_again, PresentSizes, written_message}
 use Rattle.auth_message.proofs.write.write_presentment.Goals as goal
 
 pub returns-clause-exact : goal.returns-clause-exact
@@ -23,3 +24,6 @@ pub returns-clause-read_again : goal.returns-clause-read_again
 returns-clause-read_again c =
     let pan : c.copy.result ≡ c.args.fields.now.pan = c.copy.ensures ∙ ap (λ (d : PresentData). d.pan) c.fields.view_is in
     present_again c.args.fields.now c.requires (rw pan at c.put_named.ensures.read_again) (subst PresentSizes c.fields.view_is c.fields.invariant)
+
+pub returns-clause-message : goal.returns-clause-message
+returns-clause-message c = λ codes. written_message _ (Present c.args.fields.now) (returns-clause-exact c) (returns-clause-read_again c) c.requires codes

@@ -4,8 +4,9 @@ use Rattle.auth_message.specs.declared.groups.Named.{Named}
 use Rattle.auth_message.specs.declared.groups.Paid.{Paid}
 use Rattle.auth_message.specs.Data.{RequestData}
 use Rattle.auth_message.specs.Spelling.{request_bytes, request_fields, spelled, named_fields, paid_fields, optional}
+use Rattle.auth_message.specs.declared.message.Incoming.TheVariants.{Request}
 use Rattle.auth_message.proofs.Spelled.{request_joined}
-use Rattle.auth_message.proofs.Again.{request_again, RequestSizes}
+use Rattle.auth_message.proofs.Again.{request_again, RequestSizes, written_message}
 use Rattle.auth_message.proofs.write.write_request.Goals as goal
 
 pub returns-clause-exact : goal.returns-clause-exact
@@ -23,3 +24,6 @@ pub returns-clause-read_again : goal.returns-clause-read_again
 returns-clause-read_again c =
     let pan : c.copy.result ≡ c.args.fields.now.pan = c.copy.ensures ∙ ap (λ (d : RequestData). d.pan) c.fields.view_is in
     request_again c.args.fields.now c.requires (rw pan at c.put_named.ensures.read_again) (subst RequestSizes c.fields.view_is c.fields.invariant)
+
+pub returns-clause-message : goal.returns-clause-message
+returns-clause-message c = λ codes. written_message _ (Request c.args.fields.now) (returns-clause-exact c) (returns-clause-read_again c) c.requires codes

@@ -1,8 +1,9 @@
 use Rattle.std.proofs.Common.{◌≡◌, ap, ◌∙◌, arith}
 use Rattle.ber_tlv.specs.Written.{written}
 use Rattle.auth_message.specs.Spelling.{reversal_bytes, reversal_fields, reversal_named, named_fields, spelled}
+use Rattle.auth_message.specs.declared.message.Incoming.TheVariants.{Reverse}
 use Rattle.auth_message.proofs.Spelled.{reversal_joined}
-use Rattle.auth_message.proofs.Again.{reversal_again, ReversalSizes}
+use Rattle.auth_message.proofs.Again.{reversal_again, ReversalSizes, written_message}
 use Rattle.auth_message.proofs.write.write_reversal.Goals as goal
 
 pub returns-clause-exact : goal.returns-clause-exact
@@ -19,3 +20,6 @@ returns-clause-read_again c =
     let f = c.args.fields.now in
     let sizes : ReversalSizes f = (omega arith, c.put_named.ensures.sequence, omega arith, omega arith, omega arith, omega arith) in
     reversal_again f c.requires (rw c.copy.ensures at c.put_named.ensures.read_again) sizes
+
+pub returns-clause-message : goal.returns-clause-message
+returns-clause-message c = λ codes. written_message _ (Reverse c.args.fields.now) (returns-clause-exact c) (returns-clause-read_again c) c.requires codes
