@@ -1,2 +1,3 @@
-mod Once
 mod AddUp
+mod Apart
+mod Once

@@ -1,4 +1,5 @@
 //! Laws over every list of messages.
+ghost use Rattle.host_histories.specs.Apart.{StandApart};
 ghost use Rattle.host_histories.specs.BookedOnce.{BookedOnce, BalancesAddUp};
 
 /// Whatever messages a host gets, in whatever order and however often: at most one of them books a
@@ -13,4 +14,10 @@ pub fn transactions_are_booked_once()
 /// else none.
 pub fn balances_add_up()
     ensures { BalancesAddUp }
+{}
+
+/// And accounts stand apart: the reply to a message and the balance of an account number are what they would
+/// be if only the messages and the accounts of some account numbers were there, this one among them.
+pub fn accounts_stand_apart()
+    ensures { StandApart }
 {}

@@ -7,7 +7,7 @@ use Rattle.emv_dict.specs.Bcd.{has_digits, two_digits, numeric}
 use Rattle.emv_dict.specs.Flags.{tvr_bytes}
 use Rattle.emv_dict.specs.Settings.{IsPurchase}
 use Rattle.emv_dict.specs.declared.purchase.AidRow.{AidRow}
-use Rattle.online_step.proofs.Digits.{code_digits, date_digits}
+use Rattle.online_step.proofs.Digits.{date_digits, trade_digits}
 use Rattle.online_step.specs.TerminalData.{HasTerminalData}
 use Rattle.terminal_state.specs.Marks.{MomentData}
 use Rattle.terminal_state.specs.Terminal.{Deal, if_there, lasting_objects, terminal_objects}
@@ -51,10 +51,11 @@ lasting deal row moment sized is results = record {
   country = sized.country;
   verification_results = results;
   currency = sized.currency;
-  currency_digits = code_digits deal.purchase.currency sized.currency is.currency_code;
+  currency_code = is.currency_code;
   date = sized.date;
   date_digits = date_digits deal.purchase.date sized.date is.day;
   transaction_type = refl;
+  transaction_digits = trade_digits deal.purchase.trade is.known_trade;
   unpredictable_number = sized.number;
 }
 
@@ -70,10 +71,11 @@ before None (Some value) deal row moment has = record {
   country = has.country;
   verification_results = has.verification_results;
   currency = has.currency;
-  currency_digits = has.currency_digits;
+  currency_code = has.currency_code;
   date = has.date;
   date_digits = has.date_digits;
   transaction_type = has.transaction_type;
+  transaction_digits = has.transaction_digits;
   unpredictable_number = has.unpredictable_number;
 }
 before (Some code) None deal row moment has = record {
@@ -85,10 +87,11 @@ before (Some code) None deal row moment has = record {
   country = has.country;
   verification_results = has.verification_results;
   currency = has.currency;
-  currency_digits = has.currency_digits;
+  currency_code = has.currency_code;
   date = has.date;
   date_digits = has.date_digits;
   transaction_type = has.transaction_type;
+  transaction_digits = has.transaction_digits;
   unpredictable_number = has.unpredictable_number;
 }
 before (Some code) (Some value) deal row moment has = record {
@@ -100,10 +103,11 @@ before (Some code) (Some value) deal row moment has = record {
   country = has.country;
   verification_results = has.verification_results;
   currency = has.currency;
-  currency_digits = has.currency_digits;
+  currency_code = has.currency_code;
   date = has.date;
   date_digits = has.date_digits;
   transaction_type = has.transaction_type;
+  transaction_digits = has.transaction_digits;
   unpredictable_number = has.unpredictable_number;
 }
 

@@ -1,5 +1,6 @@
 -- Values of digits: those of a purchase and of a card have the forms that a message needs.
-use Rattle.std.proofs.Common.{◌≡◌, ℕ, suc, ◌≤◌, ◌==◌, nat_le, Bool, true, false, List, [], ◌∷◌, length, IsTrue, IsSome, refl, ap, sym, arith, Option, Some, None, Result, Ok, Err, if◌then◌else◌}
+use Rattle.std.proofs.Common.{◌≡◌, ℕ, suc, ◌≤◌, ◌==◌, ◌||◌, nat_le, Bool, true, false, List, [], ◌∷◌, length, IsTrue, IsSome, refl, ap, sym, arith, Option, Some, None, Result, Ok, Err, if◌then◌else◌}
+use Rattle.std.proofs.lemmas.Bool.{le-leb}
 use Rattle.std.proofs.lemmas.Bool.Decides.{nat_tests}
 use Rattle.std.specs.List.{All}
 use Rattle.std.specs.Prelude.{option_and_then}
@@ -33,6 +34,16 @@ code_digits (a ∷ b ∷ []) two code =
     let parts = both (nat_le a 9) (has_digits b) code in
     rw (small_digits a parts.0, parts.1) refl
 code_digits (a ∷ b ∷ c ∷ rest) two code = absurd (omega arith)
+
+small_trade : (trade : ℕ) (a b c : Bool) → (trade == 0) ≡ a → (trade == 1) ≡ b → (trade == 9) ≡ c → (a || (b || c)) ≡ true → trade ≤ 9
+small_trade trade true b c first second third known = grind (arith, nat_tests)
+small_trade trade false true c first second third known = grind (arith, nat_tests)
+small_trade trade false false true first second third known = grind (arith, nat_tests)
+small_trade trade false false false first second third known = cc
+
+-- a type of transaction
+pub trade_digits : (trade : ℕ) → IsTrue (trade == 0 || (trade == 1 || trade == 9)) → AreDigits (trade ∷ [])
+trade_digits trade known = rw (small_digits trade (le-leb trade 9 (small_trade trade _ _ _ refl refl refl known))) refl
 
 is_date-there : (test : Bool) (year month day : ℕ) → IsSome (let date : Option Date = (if test then Some (record { year = year; month = month; day = day }) else None) in date) → test ≡ true
 is_date-there true year month day there = refl

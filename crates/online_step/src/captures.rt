@@ -1,5 +1,6 @@
 //! The messages that settle a purchase (their formats are this project's own).
 ghost use Rattle.std.specs.Prelude.{◌≡◌};
+ghost use Rattle.auth_message.specs.Whole.{IsMessage};
 ghost use Rattle.emv_dict.specs.Settings.{IsPurchase};
 ghost use Rattle.online_step.specs.Captures.{presentment_of, reversal_of};
 
@@ -21,7 +22,9 @@ pub fn presentment(
     out: &mut Message,
 )
     requires { IsPurchase purchase.now }
-    ensures { out.new.items ≡ presentment_of card.now settings.now purchase.now tvr.0 ac.now code }
+    ensures bytes { out.new.items ≡ presentment_of card.now settings.now purchase.now tvr.0 ac.now code }
+    // The host reads it.
+    ensures read { IsMessage out.new.items }
 {
     let fields = PresentFields {
         t9f1c: identification(settings),
@@ -56,7 +59,9 @@ pub fn reversal(
     out: &mut Message,
 )
     requires { IsPurchase purchase.now }
-    ensures { out.new.items ≡ reversal_of card.now settings.now purchase.now counter code }
+    ensures bytes { out.new.items ≡ reversal_of card.now settings.now purchase.now counter code }
+    // The host reads it.
+    ensures read { IsMessage out.new.items }
 {
     let fields = ReversalFields {
         t9f1c: identification(settings),

@@ -1,6 +1,7 @@
 //! The request to the issuer's host (EMV 4.3 Book 3 section 10.9; the format is this project's own).
 ghost use Rattle.std.specs.Prelude.{◌≡◌, ◌<◌, IfSome, length, option_map};
 ghost use Rattle.auth_message.specs.Accepted.{AreDigits};
+ghost use Rattle.auth_message.specs.Whole.{IsMessage};
 ghost use Rattle.emv_dict.specs.Digits.{HasPinLength};
 ghost use Rattle.env_map.specs.Entries.{value_of};
 ghost use Rattle.online_step.specs.Request.{enciphered, request_of};
@@ -29,7 +30,9 @@ pub fn request(
 )
     requires terminal { HasTerminalData terminal.now }
     requires pin { IfSome pin (λ digits. HasPinLength digits.now) }
-    ensures { out.new.items ≡ request_of card.now terminal.now settings.now ac.now (option_map (λ digits. digits.now) pin.entry) }
+    ensures bytes { out.new.items ≡ request_of card.now terminal.now settings.now ac.now (option_map (λ digits. digits.now) pin.entry) }
+    // The host reads it.
+    ensures read { IsMessage out.new.items }
 {
     let fields = RequestFields {
         t9f1c: object(terminal, 0x9f1c),

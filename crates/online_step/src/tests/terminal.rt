@@ -2,6 +2,7 @@
 ghost use Rattle.std.specs.Prelude.{◌≡◌, IsTrue, length};
 ghost use Rattle.auth_message.specs.Accepted.{AreDigits};
 ghost use Rattle.auth_message.specs.Field.{are_digits as all_digits};
+ghost use Rattle.emv_dict.specs.Settings.{is_code};
 ghost use Rattle.online_step.specs.TerminalData.{object, HasTerminalData};
 
 use super::bytes;
@@ -45,10 +46,10 @@ fn has_terminal_data(env: &Env) -> bool
     if !is_numeric(env, 0x9f02, 6) || !is_numeric(env, 0x9f03, 6) {
         return false;
     }
-    if !is_numeric(env, 0x5f2a, 2) || !is_numeric(env, 0x9a, 3) {
+    if !has_code(env) || !is_numeric(env, 0x9a, 3) {
         return false;
     }
-    is_sized(env, 0x9c, 1) && is_sized(env, 0x9f37, 4)
+    is_numeric(env, 0x9c, 1) && is_sized(env, 0x9f37, 4)
 }
 
 fn is_sized(env: &Env, tag: u32, count: usize) -> bool
@@ -67,6 +68,17 @@ fn is_numeric(env: &Env, tag: u32, count: usize) -> bool
     match env.get(Tag(tag)) {
         Some(value) => value.len() == count && are_digits(value),
         None => false,
+    }
+}
+
+/// Whether the currency is a code of three digits.
+fn has_code(env: &Env) -> bool
+    ensures sized { IsTrue result → length (object 0x5F2A env.now) ≡ 2 }
+    ensures code { IsTrue result → IsTrue (is_code (object 0x5F2A env.now)) }
+{
+    match env.get(Tag(0x5f2a)) {
+        Some(&[first, second]) => first <= 9 && has_digits(second),
+        _ => false,
     }
 }
 

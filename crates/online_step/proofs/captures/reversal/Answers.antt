@@ -9,3 +9,6 @@ write_reversal-requires c = record {
   amount = all_digits _ c.amount_bytes.ensures.decimal;
   currency = code_digits c.currency.result (search rules) (rw c.currency.ensures c.requires.currency_code);
 }
+
+pub returns-clause-read : goal.returns-clause-read
+returns-clause-read c = c.write_reversal.ensures.message (rw c.currency.ensures c.requires.currency_code)
