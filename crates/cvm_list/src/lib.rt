@@ -8,6 +8,7 @@ pub mod outcome;
 pub mod rule;
 pub mod verifying;
 
+pub use emv_dict::Verified;
 pub use laws::{entries_are_used_once, rules_behind_are_idle};
 pub use verifying::{VerifyNext, Verifying};
 

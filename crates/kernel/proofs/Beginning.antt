@@ -1,5 +1,5 @@
 -- Where a kernel begins.
-use Rattle.std.proofs.Common.{◌≡◌, ◌≤◌, ◌+◌, ◌*◌, refl, ap, [], length, arith, Option, None}
+use Rattle.std.proofs.Common.{◌≡◌, ◌≤◌, ◌+◌, ◌*◌, refl, ap, [], length, arith, Option, false, None}
 use Rattle.env_map.specs.Entries.{Entries}
 use Rattle.kernel.specs.BeginEnd.{HasBegun}
 use Rattle.kernel.specs.Dialogue.{dialogue}
@@ -18,7 +18,7 @@ use Rattle.terminal_state.specs.declared.table.Table.{Table}
 pub has_begun : (deal : Deal) (t : Table) (objects : Entries) (held : Option ReadCard) (s : Opening) → held ≡ None → deal_of t ≡ deal → objects ≡ []
     → OpeningStands t [] s [] (dialogue (deal_of t)) → opening_next s ≡ next.ToCard
     → t.candidates ≡ [] → ((t : Table) → t.candidates ≡ [] → opening_rank t s ≤ 2 * 512 + (most_records + rank_behind t))
-    → HasBegun deal (record { table = t; objects = objects; card = held; stage = stage.Opening s; taken = 0 })
+    → HasBegun deal (record { table = t; objects = objects; card = held; stage = stage.Opening s; taken = 0; is_spent = false })
 has_begun deal t objects held s unread is none stands waits empty few =
     let pins : length t.purchase.now.pins ≡ length deal.purchase.pins = ap (λ (d : Deal). length d.purchase.pins) is in
     let rank = few t empty in
@@ -26,6 +26,7 @@ has_begun deal t objects held s unread is none stands waits empty few =
       stands = record { count = refl; log = []; goes = rw none stands };
       deal_is = is;
       waits = waits;
+      fresh = refl;
       unread = unread;
       few = omega arith;
     }

@@ -9,6 +9,7 @@ use Rattle.app_select.specs.declared.search.SearchNext.{SearchNext}
 use Rattle.app_select.specs.declared.search.SearchNext.TheVariants as search
 use Rattle.ber_tlv.proofs.ItemBounds.{item_at-lies, lies-length}
 use Rattle.ber_tlv.proofs.Reading.{reads_list}
+use Rattle.ber_tlv.specs.Direct.{values_of}
 use Rattle.ber_tlv.specs.Item.{ItemData}
 use Rattle.ber_tlv.specs.Items.{Items}
 use Rattle.ber_tlv.specs.Left.{items_of}
@@ -19,7 +20,7 @@ use Rattle.kernel.specs.Rank.{bytes_in, search_rank, opening_rank}
 use Rattle.kernel.specs.declared.kernel.Next.TheVariants as next
 use Rattle.kernel.specs.declared.stage.Opening.{Opening}
 use Rattle.kernel.specs.declared.stage.Opening.TheVariants as at
-use Rattle.terminal_state.specs.Scripts.{templates, with_tag}
+use Rattle.terminal_state.specs.Scripts.{templates}
 use Rattle.terminal_state.specs.declared.table.Table.{Table}
 
 -- the bytes of all objects: those of each value, and one for its tag
@@ -50,7 +51,7 @@ tags_apart (item ∷ items) = by (item.tag == 0x71) (item.tag == 0x72) refl refl
     by false true x y one two rest = omega arith
     by false false x y one two rest = omega arith
 
-read_bytes : (bytes : List ℕ) (read : Result (List ItemData) TlvFault) → items_of bytes ≡ read → bytes_in (with_tag 0x71 read) + bytes_in (with_tag 0x72 read) ≤ length bytes
+read_bytes : (bytes : List ℕ) (read : Result (List ItemData) TlvFault) → items_of bytes ≡ read → bytes_in (values_of 0x71 read) + bytes_in (values_of 0x72 read) ≤ length bytes
 read_bytes bytes (Ok items) is =
     let fit = values_fit bytes 0 items ((reads_list bytes items).0 is) in
     let apart = tags_apart items in

@@ -262,6 +262,9 @@ verification_keeps trade marks =
     (λ verified. later_keeps (HasVerified verified) marks _ (risk_keeps trade (HasVerified verified ∷ marks)))
     step.Verify _
 
+pub verification_behind : (trade : Trade) (marks : List Mark) (log : List Logged) (replies : List Reply) → (later : List Mark) × ((verification trade marks log replies).marks ≡ later ++ marks)
+verification_behind trade marks log replies = (verification_keeps trade marks).behind log replies
+
 restrictions_keep : (trade : Trade) → Keeps [] (restrictions trade)
 unfolding restrictions
 restrictions_keep trade =

@@ -10,11 +10,12 @@ use Rattle.auth_message.specs.Reply.{ReplyData, auth_at, templates as next_templ
 use Rattle.auth_message.specs.declared.fault.MessageFault.{MessageFault}
 use Rattle.ber_tlv.proofs.ReadAgain.{both}
 use Rattle.ber_tlv.proofs.Reading.{left-end, no_zeros}
+use Rattle.ber_tlv.specs.Direct.{values_of}
 use Rattle.ber_tlv.specs.Item.{ItemData}
 use Rattle.ber_tlv.specs.Left.{items_of}
 use Rattle.ber_tlv.specs.declared.item.TlvFault.{TlvFault}
 use Rattle.kernel.specs.Sound.{IsIssuerData, IsSound}
-use Rattle.terminal_state.specs.Scripts.{with_tag, templates, AreFew, are_few}
+use Rattle.terminal_state.specs.Scripts.{templates, AreFew, are_few}
 
 pub none_few : AreFew []
 none_few = record { items = []; listed = left-end [] 0 (no_zeros [] 0 (omega arith)); few = omega arith }
@@ -31,7 +32,7 @@ count_one (item ∷ items) = by (item.tag == 0x71) (item.tag == 0x72) refl refl 
     by false true x y rest = omega arith
     by false false x y rest = omega arith
 
-read_few : (read : Result (List ItemData) TlvFault) (items : List ItemData) → read ≡ Ok items → length (with_tag 0x71 read) + length (with_tag 0x72 read) ≤ length items
+read_few : (read : Result (List ItemData) TlvFault) (items : List ItemData) → read ≡ Ok items → length (values_of 0x71 read) + length (values_of 0x72 read) ≤ length items
 read_few (Ok others) items is =
     let same : others ≡ items = cc in
     let one = count_one items in

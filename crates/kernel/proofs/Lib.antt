@@ -17,3 +17,6 @@ mod Leaving
 mod Took
 mod Falling
 mod Growing
+mod Turning
+mod Telling
+mod Restricting

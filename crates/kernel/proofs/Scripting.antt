@@ -6,6 +6,7 @@ use Rattle.std.proofs.lemmas.List.Filters.{length-filter_both}
 use Rattle.std.specs.List.{AllByRecursion}
 use Rattle.auth_message.specs.Reply.{ReplyData}
 use Rattle.ber_tlv.proofs.WalkBounds.{ItemsShort, item_values_short}
+use Rattle.ber_tlv.specs.Direct.{values_of}
 use Rattle.ber_tlv.specs.Item.{ItemData}
 use Rattle.ber_tlv.specs.Left.{items_of}
 use Rattle.ber_tlv.specs.declared.item.TlvFault.{TlvFault}
@@ -27,7 +28,7 @@ use Rattle.script_run.specs.Ran.{template_ran}
 use Rattle.script_run.specs.declared.running.RunNext.{RunNext}
 use Rattle.script_run.specs.declared.running.RunNext.TheVariants as run
 use Rattle.terminal_state.specs.Marks.{Mark, HasRunBefore, HasRunBehind, moment, latest, card_of}
-use Rattle.terminal_state.specs.Scripts.{with_tag, templates, AreFew}
+use Rattle.terminal_state.specs.Scripts.{templates, AreFew}
 use Rattle.terminal_state.specs.declared.table.Table.{Table}
 
 pub drop_some : {A : Type 0} (xs : List A) (n : ℕ) (x : A) → slice_get xs n ≡ Some x → drop n xs ≡ x ∷ drop (n + 1) xs
@@ -121,27 +122,27 @@ kept_short most tag (item ∷ items) short = by (item.tag == tag) (kept_short mo
     by true rest = (short.0, rest)
     by false rest = rest
 
-with_tag-short : (most tag : ℕ) (read : Result (List ItemData) TlvFault) → ItemsShort most read → AllByRecursion (λ v. length v ≤ most) (with_tag tag read)
-with_tag-short most tag (Ok items) short = kept_short most tag items short
-with_tag-short most tag (Err fault) short = tt
+values_of-short : (most tag : ℕ) (read : Result (List ItemData) TlvFault) → ItemsShort most read → AllByRecursion (λ v. length v ≤ most) (values_of tag read)
+values_of-short most tag (Ok items) short = kept_short most tag items short
+values_of-short most tag (Err fault) short = tt
 
 pub template_short : (found : Option (Bor (List ℕ))) (tag : ℕ) (scripts : List ℕ) (index : ℕ) → length scripts ≤ 1024 → option_map (λ value. value.now) found ≡ slice_get (templates tag scripts) index → IfSome found (λ value. length value.now ≤ 1024)
 unfolding templates
 template_short None tag scripts index short same = tt
-template_short (Some value) tag scripts index short same = get_short 1024 (with_tag tag (items_of scripts)) index value.now (with_tag-short 1024 tag (items_of scripts) (item_values_short 1024 scripts short)) (sym same)
+template_short (Some value) tag scripts index short same = get_short 1024 (values_of tag (items_of scripts)) index value.now (values_of-short 1024 tag (items_of scripts) (item_values_short 1024 scripts short)) (sym same)
 
-with_tag-few : (tag : ℕ) (read : Result (List ItemData) TlvFault) (items : List ItemData) → read ≡ Ok items → length (with_tag tag read) ≤ length items
-with_tag-few tag (Ok others) items is =
+values_of-few : (tag : ℕ) (read : Result (List ItemData) TlvFault) (items : List ItemData) → read ≡ Ok items → length (values_of tag read) ≤ length items
+values_of-few tag (Ok others) items is =
     let same : others ≡ items = cc in
     let both = length-filter_both (λ (item : ItemData). item.tag == tag) (λ item. not (item.tag == tag)) (λ item. refl) items in
     rw same (simp length-map (omega arith))
-with_tag-few tag (Err fault) items is = cc
+values_of-few tag (Err fault) items is = cc
 
 pub template_few : (found : Option (Bor (List ℕ))) (tag : ℕ) (scripts : List ℕ) (index : ℕ) → AreFew scripts → option_map (λ value. value.now) found ≡ slice_get (templates tag scripts) index → IfSome found (λ _. index < 8)
 unfolding templates
 template_few None tag scripts index few same = tt
 template_few (Some value) tag scripts index few same =
-    let within = get_within (with_tag tag (items_of scripts)) index value.now (sym same) in
-    let count = with_tag-few tag (items_of scripts) few.items few.listed in
+    let within = get_within (values_of tag (items_of scripts)) index value.now (sym same) in
+    let count = values_of-few tag (items_of scripts) few.items few.listed in
     let most = few.few in
     omega arith

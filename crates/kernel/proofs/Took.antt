@@ -1,13 +1,15 @@
 -- A kernel that has taken one reply more.
-use Rattle.std.proofs.Common.{◌≡◌, ap, ◌∙◌, ◌+◌, ◌-◌, ◌^◌, min, ℕ, List, [], ◌∷◌, ◌++◌, length, arith}
+use Rattle.std.proofs.Common.{◌≡◌, ap, sym, ◌∙◌, ◌+◌, ◌-◌, ◌^◌, min, ℕ, Bool, true, false, refl, List, [], ◌∷◌, ◌++◌, length, arith}
 use Rattle.std.proofs.lemmas.List.{append_assoc, length-append}
 use Rattle.std.specs.declared.option.Option.{Option}
 use Rattle.emv_dict.specs.declared.purchase.Logged.{Logged}
 use Rattle.env_map.specs.Entries.{Entries}
 use Rattle.kernel.specs.Course.{Standing}
 use Rattle.kernel.specs.Dialogue.{dialogue}
-use Rattle.kernel.specs.Kernel.{KernelData, KernelStands, StageGoes, deal_in}
+use Rattle.kernel.specs.Kernel.{KernelData, KernelFits, KernelStands, StageGoes, deal_in, next_of}
 use Rattle.kernel.specs.Reply.{Reply}
+use Rattle.kernel.specs.declared.kernel.Next.{Next}
+use Rattle.kernel.specs.declared.kernel.Next.TheVariants as next
 use Rattle.kernel.specs.declared.stage.Stage.{Stage}
 use Rattle.kernel.specs.declared.stage.Stage.TheVariants as stage
 use Rattle.object_lists.specs.CardRead.{ReadCard}
@@ -50,3 +52,11 @@ kernel_took k k2 reply log replies same taken goes is = record {
       (λ later. ap (λ (deal : Deal). dialogue deal ((replies ++ reply ∷ []) ++ later)) same ∙ ap (λ (all : List Reply). dialogue (deal_in k) all) (append_assoc replies (reply ∷ []) later))
       (goes is.log (λ later. dialogue (deal_in k) (replies ++ later)) is.goes);
 }
+
+-- one that waits for a reply has its end before it
+not_spent_by : (spent : Bool) (waits : Next) → (spent ≡ true → waits ≡ next.Ended) → (waits ≡ next.Ended → ⊥) → spent ≡ false
+not_spent_by true waits over still = absurd (still (over refl))
+not_spent_by false waits over still = refl
+
+pub not_spent : (k : KernelData) (waits : Next) → KernelFits k → next_of k ≡ waits → (waits ≡ next.Ended → ⊥) → k.is_spent ≡ false
+not_spent k waits fits is still = not_spent_by k.is_spent (next_of k) fits.over (λ over. still (sym is ∙ over))

@@ -1,5 +1,5 @@
 -- Where a kernel's dialogue begins, and where it ends.
-use Rattle.std.specs.Prelude.{◌≡◌, ◌≤◌, ◌+◌, List, [], ◌++◌, length, None, Some, option_map}
+use Rattle.std.specs.Prelude.{◌≡◌, ◌≤◌, ◌+◌, List, [], ◌++◌, length, true, false, None, Some, option_map}
 use Rattle.emv_dict.specs.declared.ending.Ending.{Ending}
 use Rattle.kernel.specs.Dialogue.{dialogue}
 use Rattle.kernel.specs.Ended.{EndData, capture, end_of}
@@ -16,6 +16,7 @@ pub record HasBegun (deal : Deal) (k : KernelData) : Type 0 where
   pub stands : KernelStands k []
   pub deal_is : deal_in k ≡ deal
   pub waits : next_of k ≡ next.ToCard
+  pub fresh : k.is_spent ≡ false
   pub unread : k.card ≡ None
   -- a dialogue ends after at most 20,000 replies and one more for each PIN entry
   pub few : rank_of k ≤ 20000 + length deal.purchase.pins
@@ -32,8 +33,9 @@ pub record HasEnded (k : KernelData) (before after : Counts) (shown_is : EndShow
   pub stays : (replies more : List Reply) → KernelStands k replies
       → dialogue (deal_in k) (replies ++ more) ≡ dialogue (deal_in k) replies
 
--- its end is handed out: its card's data stay, and nothing is left that could be captured again
+-- its end is handed out, and not again: its card's data stay, and nothing is left that could be captured
 pub record IsSpent (before after : KernelData) : Type 0 where
   pub card_is : after.card ≡ before.card
   pub over : next_of after ≡ next.Ended
+  pub spent : after.is_spent ≡ true
   pub captured : (ending : Ending) → capture (deal_in after) ending after.card after.table.moment ≡ None

@@ -1,5 +1,5 @@
 -- A kernel and the replies that it has taken.
-use Rattle.std.specs.Prelude.{◌≡◌, ℕ, ◌-◌, ◌^◌, min, List, [], ◌++◌, length, Option, Some, None, IsSome}
+use Rattle.std.specs.Prelude.{◌≡◌, ℕ, ◌-◌, ◌^◌, min, Bool, true, List, [], ◌++◌, length, Option, Some, None, IsSome}
 use Rattle.emv_dict.specs.Settings.{IsAidRow}
 use Rattle.emv_dict.specs.declared.purchase.Logged.{Logged}
 use Rattle.env_map.specs.Entries.{Entries}
@@ -30,6 +30,8 @@ pub record KernelData : Type 0 where
   pub card : Option ReadCard
   pub stage : Stage
   pub taken : ℕ
+  -- its end was handed out
+  pub is_spent : Bool
 
 abbrev pub deal_in : KernelData → Deal
 deal_in k = deal_of k.table
@@ -95,6 +97,7 @@ StageFits t objects held (stage.Trading at) = TradingFits t held at
 pub record KernelFits (k : KernelData) : Type 0 where
   pub deal : IsDeal (deal_in k)
   pub stage : StageFits k.table k.objects k.card k.stage
+  pub over : k.is_spent ≡ true → next_of k ≡ next.Ended
 
 -- what is left of the dialogue is what the stage leaves
 pub record TradingGoes (t : Table) (held : Option ReadCard) (at : AtTrading) (log : List Logged) (rest : List Reply → Standing Mark) : Type 0 where

@@ -18,12 +18,12 @@ ghost use Rattle.terminal_state.specs.Table.{IsDeal, deal_of};
 
 use crate::online::begin_second;
 use crate::stage::{AtScript, AtSecond, Trading};
-use ber_tlv::Tag;
+use ber_tlv::{Tag, nth_value};
 use emv_dict::{AidRow, Ending, Kind};
 use env_map::Env;
 use object_lists::CardData;
 use script_run::{RunNext, Running};
-use terminal_state::{HostReply, Moment, Table, template_at};
+use terminal_state::{HostReply, Moment, Table};
 
 /// The tag of a script before the second GENERATE AC.
 const BEFORE: Tag = Tag(0x71);
@@ -32,12 +32,13 @@ const BEFORE: Tag = Tag(0x71);
 const BEHIND: Tag = Tag(0x72);
 
 /// The template of this tag that has so many of it before it in the reply.
+#[tactic(auto, unfolding(terminal_state::specs::Scripts::templates))]
 fn template_of(reply: &HostReply, tag: Tag, index: usize) -> Option<&[u8]>
     ensures template { option_map (λ value. value.now) result ≡ slice_get (templates tag.0 reply.now.scripts) index }
     ensures short { IfSome result (λ value. length value.now ≤ 1024) }
     ensures few { IfSome result (λ _. index < 8) }
 {
-    template_at(&reply.scripts, tag, index)
+    nth_value(&reply.scripts, tag, index)
 }
 
 /// The kind that the reply's code asks for: 00 approves.

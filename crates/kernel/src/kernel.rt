@@ -53,6 +53,8 @@ pub struct Kernel<'s> {
     stage: Stage<'s>,
     /// How many replies were taken, which stops at the greatest number.
     taken: u64,
+    /// Whether its end was handed out.
+    is_spent: bool,
 }
 
 impl<'s> Model for Kernel<'s> {
@@ -60,9 +62,9 @@ impl<'s> Model for Kernel<'s> {
 
     ghost Value = { KernelData };
 
-    ghost view = { λ k. record { table = k.table; objects = k.objects; card = k.card; stage = k.stage; taken = k.taken } };
+    ghost view = { λ k. record { table = k.table; objects = k.objects; card = k.card; stage = k.stage; taken = k.taken; is_spent = k.is_spent } };
 
-    ghost invariant = { λ k. KernelFits (record { table = k.table; objects = k.objects; card = k.card; stage = k.stage; taken = k.taken }) };
+    ghost invariant = { λ k. KernelFits (record { table = k.table; objects = k.objects; card = k.card; stage = k.stage; taken = k.taken; is_spent = k.is_spent }) };
 }
 
 impl<'s> Kernel<'s> {
@@ -89,6 +91,7 @@ impl<'s> Kernel<'s> {
             card: HeldCard::none(),
             stage: Stage::Opening(opening),
             taken: 0,
+            is_spent: false,
         }
     }
 
@@ -105,6 +108,7 @@ impl<'s> Kernel<'s> {
         let opening = opening::begin(settings, purchase, &mut self.table.command);
         self.stage = Stage::Opening(opening);
         self.taken = 0;
+        self.is_spent = false;
     }
 
     /// What the terminal waits for.
@@ -123,6 +127,13 @@ impl<'s> Kernel<'s> {
         ensures short { length result.now ≤ 2048 }
     {
         bytes_by(&self.table, stage_next(&self.stage))
+    }
+
+    /// Whether the end of the dialogue was handed out.
+    pub fn is_spent(&self) -> bool
+        ensures { result ≡ self.now.is_spent }
+    {
+        self.is_spent
     }
 
     /// What reading gave, where it is finished.

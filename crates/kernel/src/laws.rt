@@ -1,5 +1,5 @@
 //! What holds of every dialogue, whatever the card and the host say.
-ghost use Rattle.kernel.specs.Laws.{DeedsGrow, StepsStay, EndsStay};
+ghost use Rattle.kernel.specs.Laws.{DeedsGrow, StepsStay, EndsStay, RepliesTurn, HostIsTold, CapturesFit, ReadingRestricts};
 
 /// Further replies add commands and messages behind those that were sent.
 pub fn deeds_grow()
@@ -14,4 +14,27 @@ pub fn steps_stay()
 /// Once a dialogue is over, further replies change nothing.
 pub fn ends_stay()
     ensures { EndsStay }
+{}
+
+/// What one reply makes of a dialogue. Only a card that is gone cuts it off, and always does, unless a script
+/// behind the second cryptogram runs. The host's silence, or a reply with a fault, makes the terminal unable to
+/// go online behind a message, and nothing else does.
+pub fn replies_turn()
+    ensures { RepliesTurn }
+{}
+
+/// A terminal that never goes online is unable to where the card asks for it; any other one sends one message.
+pub fn host_is_told()
+    ensures { HostIsTold }
+{}
+
+/// What is captured: an approval is presented; a request that was sent, with no reply read with a code other
+/// than 00 and an ending that is no approval, is reversed.
+pub fn captures_fit()
+    ensures { CapturesFit }
+{}
+
+/// Once the card is read, the bits of the processing restrictions stand.
+pub fn reading_restricts()
+    ensures { ReadingRestricts }
 {}

@@ -5,12 +5,10 @@
 
 pub mod held;
 pub mod moment;
-pub mod scripts;
 pub mod table;
 pub mod terminal;
 
 pub use held::HeldCard;
 pub use moment::{IssuerData, Moment};
-pub use scripts::template_at;
 pub use table::{HostReply, Table};
 pub use terminal::put_terminal;

@@ -1,5 +1,5 @@
 //! The end of a kernel.
-ghost use Rattle.std.specs.Prelude.{◌≡◌};
+ghost use Rattle.std.specs.Prelude.{◌≡◌, false};
 ghost use Rattle.kernel.specs.BeginEnd.{HasEnded, IsSpent};
 ghost use Rattle.kernel.specs.Kernel.{next_of};
 
@@ -10,15 +10,17 @@ use std::mem;
 use terminal_state::Moment;
 
 impl<'s> Kernel<'s> {
-    /// The end of the dialogue. The tally counts it, with the replies that it took. What is captured is handed
-    /// out, once. The card's data stay until another dialogue begins in the same place.
+    /// The end of the dialogue, which is handed out once, with what is captured. The tally counts it, with the
+    /// replies that it took. The card's data stay until another dialogue begins in the same place.
     pub fn end(&mut self, tally: &mut Tally) -> EndRecord
-        requires { next_of self.old ≡ Next.Ended }
+        requires over { next_of self.old ≡ Next.Ended }
+        requires fresh { self.old.is_spent ≡ false }
         ensures ends { HasEnded self.old tally.old tally.new result }
         ensures spent { IsSpent self.old self.new }
     {
         let ending = ending_of(&self.stage);
         tally.raise(ending, self.taken);
+        self.is_spent = true;
         let moment = mem::replace(&mut self.table.moment, Moment::new());
         end_record(
             self.table.settings,
@@ -31,7 +33,8 @@ impl<'s> Kernel<'s> {
 
     /// As `end`, by value, with the card's data.
     pub fn into_ended(self, tally: &mut Tally) -> Ended
-        requires { next_of self ≡ Next.Ended }
+        requires over { next_of self ≡ Next.Ended }
+        requires fresh { self.is_spent ≡ false }
         ensures ends { HasEnded self.entry tally.old tally.new result.shown }
         ensures card { result.card ≡ self.entry.card }
     {
@@ -43,6 +46,7 @@ impl<'s> Kernel<'s> {
             card,
             stage: _,
             taken: _,
+            is_spent: _,
         } = kernel;
         with_card(record, card.into_data())
     }

@@ -1,5 +1,5 @@
 //! A kernel takes the replies of the card and of the host.
-ghost use Rattle.std.specs.Prelude.{◌≡◌, ◌≤◌, ◌<◌, ◌∷◌, ◌++◌, [], List, Option, Some, None, option_map};
+ghost use Rattle.std.specs.Prelude.{◌≡◌, ◌≤◌, ◌<◌, ◌∷◌, ◌++◌, [], List, Option, Some, None, false, option_map};
 ghost use Rattle.std.specs.List.{All};
 ghost use Rattle.emv_dict.specs.Settings.{most_amount};
 ghost use Rattle.emv_dict.specs.declared.ending.Ending.TheVariants.{Terminated};
@@ -45,6 +45,7 @@ impl<'s> Kernel<'s> {
             → KernelStands self.new (replies ++ CardSaid reply.now log.now ∷ []) }
         ensures deal { deal_in self.new ≡ deal_in self.old }
         ensures nearer { rank_of self.new < rank_of self.old }
+        ensures fresh { self.new.is_spent ≡ false }
     {
         stage_said(
             &mut self.table,
@@ -64,6 +65,7 @@ impl<'s> Kernel<'s> {
             → KernelStands self.new (replies ++ CardGone ∷ []) }
         ensures deal { deal_in self.new ≡ deal_in self.old }
         ensures nearer { rank_of self.new < rank_of self.old }
+        ensures fresh { self.new.is_spent ≡ false }
         ensures ended { next_of self.new ≡ next.Ended }
     {
         let stage = mem::replace(&mut self.stage, Stage::Opening(Opening::Over(TAKEN_OUT)));
@@ -78,6 +80,7 @@ impl<'s> Kernel<'s> {
             → KernelStands self.new (replies ++ from_host (option_map (λ reply. reply.now) reply.entry) ∷ []) }
         ensures deal { deal_in self.new ≡ deal_in self.old }
         ensures nearer { rank_of self.new < rank_of self.old }
+        ensures fresh { self.new.is_spent ≡ false }
     {
         let stage = mem::replace(&mut self.stage, Stage::Opening(Opening::Over(TAKEN_OUT)));
         self.stage = stage_heard(&mut self.table, &mut self.objects, &self.card, stage, reply);
@@ -92,6 +95,7 @@ impl<'s> Kernel<'s> {
             → KernelStands result (replies ++ CardSaid reply.now log.now ∷ []) }
         ensures deal { deal_in result ≡ deal_in self.entry }
         ensures nearer { rank_of result < rank_of self.entry }
+        ensures fresh { result.is_spent ≡ false }
     {
         let mut kernel = self;
         kernel.take_card(reply, log);
@@ -105,6 +109,7 @@ impl<'s> Kernel<'s> {
             → KernelStands result (replies ++ CardGone ∷ []) }
         ensures deal { deal_in result ≡ deal_in self.entry }
         ensures nearer { rank_of result < rank_of self.entry }
+        ensures fresh { result.is_spent ≡ false }
         ensures ended { next_of result ≡ next.Ended }
     {
         let mut kernel = self;
@@ -119,6 +124,7 @@ impl<'s> Kernel<'s> {
             → KernelStands result (replies ++ HostSaid reply.now ∷ []) }
         ensures deal { deal_in result ≡ deal_in self.entry }
         ensures nearer { rank_of result < rank_of self.entry }
+        ensures fresh { result.is_spent ≡ false }
     {
         let mut kernel = self;
         kernel.take_host(Some(reply));
@@ -132,6 +138,7 @@ impl<'s> Kernel<'s> {
             → KernelStands result (replies ++ HostSilent ∷ []) }
         ensures deal { deal_in result ≡ deal_in self.entry }
         ensures nearer { rank_of result < rank_of self.entry }
+        ensures fresh { result.is_spent ≡ false }
     {
         let mut kernel = self;
         kernel.take_host(None);

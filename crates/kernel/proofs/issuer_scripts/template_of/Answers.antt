@@ -4,11 +4,13 @@ use Rattle.kernel.proofs.issuer_scripts.template_of.Goals as goal
 use Rattle.terminal_state.specs.Scripts.{templates}
 
 pub returns-clause-short : goal.returns-clause-short
+unfolding templates
 returns-clause-short c =
-    template_short c.template_at.result c.args.tag.0 c.reply.inside.scripts.items c.args.index (rw c.deref.ensures.0 at c.deref.ensures.1)
-    (c.template_at.ensures.template ∙ ap (λ (bytes : List ℕ). slice_get (templates c.args.tag.0 bytes) c.args.index) c.deref.ensures.0)
+    template_short c.nth_value.result c.args.tag.0 c.reply.inside.scripts.items c.args.index (rw c.deref.ensures.0 at c.deref.ensures.1)
+    (c.nth_value.ensures ∙ ap (λ (bytes : List ℕ). slice_get (templates c.args.tag.0 bytes) c.args.index) c.deref.ensures.0)
 
 pub returns-clause-few : goal.returns-clause-few
+unfolding templates
 returns-clause-few c =
-    template_few c.template_at.result c.args.tag.0 c.reply.inside.scripts.items c.args.index c.reply.invariant
-    (c.template_at.ensures.template ∙ ap (λ (bytes : List ℕ). slice_get (templates c.args.tag.0 bytes) c.args.index) c.deref.ensures.0)
+    template_few c.nth_value.result c.args.tag.0 c.reply.inside.scripts.items c.args.index c.reply.invariant
+    (c.nth_value.ensures ∙ ap (λ (bytes : List ℕ). slice_get (templates c.args.tag.0 bytes) c.args.index) c.deref.ensures.0)

@@ -6,6 +6,7 @@ pub invariant_of-result : goal.invariant_of-result
 invariant_of-result c = record {
   deal = record { settings = c.requires.settings; purchase = c.requires.purchase };
   stage = (rw c.new-4.ensures (c.begin-opening.ensures.fits _ c.new.ensures c.new-2.ensures), c.none-2.ensures);
+  over = λ spent. cc;
 }
 
 pub returns : goal.returns

@@ -6,6 +6,7 @@ pub invariant_of-self : goal.invariant_of-self
 invariant_of-self c = record {
   deal = rw c.clear_for.ensures.deal (record { settings = c.requires.settings; purchase = c.requires.purchase });
   stage = (rw c.clear.ensures (c.begin-opening.ensures.fits _ c.clear_for.ensures.candidates c.clear_for.ensures.moment), c.let_go.ensures);
+  over = λ spent. cc;
 }
 
 pub returns : goal.returns

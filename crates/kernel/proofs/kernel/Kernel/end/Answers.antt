@@ -1,4 +1,4 @@
-use Rattle.std.proofs.Common.{◌≡◌, length, sym, ap, ◌∙◌, Some, option_map}
+use Rattle.std.proofs.Common.{◌≡◌, refl, length, sym, ap, ◌∙◌, Some, option_map}
 use Rattle.std.specs.declared.option.Option.{Option}
 use Rattle.kernel.proofs.Finishing.{kernel_ends, kernel_stays, raised_taken, ends_with_card, nothing_captured}
 use Rattle.kernel.proofs.kernel.Kernel.end.Goals as goal
@@ -12,7 +12,7 @@ use Rattle.terminal_state.specs.Marks.{MomentData}
 pub returns-clause-ends : goal.returns-clause-ends
 returns-clause-ends c =
     let i = c.self.inside in
-    let k : KernelData = record { table = i.table; objects = i.objects; card = i.card; stage = i.stage; taken = i.taken } in
+    let k : KernelData = record { table = i.table; objects = i.objects; card = i.card; stage = i.stage; taken = i.taken; is_spent = i.is_spent } in
     let ending = c.ending_of-ending.result in
     let given : c.end_record.result ≡ shown (end_with (deal_in k) ending i.card i.table.moment) =
     c.end_record.ensures
@@ -37,6 +37,7 @@ returns-clause-ends c =
 pub returns-clause-spent : goal.returns-clause-spent
 returns-clause-spent c = record {
   card_is = ap (λ (k : KernelData). k.card) c.self.view_is;
-  over = ap next_of c.self.view_is ∙ c.requires;
+  over = ap next_of c.self.view_is ∙ c.requires.over;
+  spent = refl;
   captured = λ ending. nothing_captured _ ending c.self.inside.card _ (c.replace-moment.ensures.after ∙ c.new.ensures);
 }

@@ -1,0 +1,5 @@
+use Rattle.kernel.proofs.Telling.{captures_fit}
+use Rattle.kernel.proofs.laws.captures_fit.Goals as goal
+
+pub returns : goal.returns
+returns c deal replies end ends = captures_fit deal replies end ends
