@@ -1,3 +1,2 @@
 mod Allowing
-mod Chips
 mod Continuing

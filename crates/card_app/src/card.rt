@@ -1,5 +1,5 @@
 //! The card as its terminal meets it.
-ghost use Rattle.std.specs.Prelude.{◌≡◌, ◌++◌, ℕ, List, [], Bool, Option, Some, None, length, true, false, IfOk, IfErr, OnOk, OnErr};
+ghost use Rattle.std.specs.Prelude.{◌≡◌, ◌++◌, ℕ, List, [], Bool, Option, Some, None, true, false, IfOk, IfErr, OnOk, OnErr};
 ghost use Rattle.card_files.specs.Files.{opening_of};
 ghost use Rattle.card_state.specs.Allowed.{Allowed};
 ghost use Rattle.card_state.specs.Decisions.{Decided};
@@ -8,23 +8,17 @@ ghost use Rattle.emv_ports.specs.Cut.{is_named};
 ghost use Rattle.emv_ports.specs.Memory.{powered_off};
 ghost use Rattle.emv_ports.specs.declared.tear.Tear.{Tear};
 ghost use Rattle.torn_store.specs.Store.{IsGone};
-ghost use Rattle.apdu_core.specs.Response.{response_of};
 ghost use Rattle.card_app.specs.Answering.{card_answer};
 ghost use Rattle.card_pages.specs.Pages.{StandsFor, MayStand, found_of};
-ghost use Rattle.card_pages.specs.Replies.{said, response_in};
-ghost use Rattle.card_pages.specs.SeenKept.{Takes, IsCut};
 ghost use Rattle.card_app.specs.SeenCard.{CardOn, Answered, CutOff};
-ghost use Rattle.card_app.specs.SeenReply.{MayReply, IsAt, reply_data, phase_behind};
 ghost use Rattle.card_app.specs.Session.{Exchange};
 
-use crate::answering::answer;
-use crate::reply::Reply;
+use crate::chip::Chip;
 use apdu_core::Answer;
-use card_cryptogram::{Body, Phase};
 use card_files::Image;
-use card_pages::{Kept, compare, format, respond};
+use card_pages::format;
 use card_state::CardState;
-use emv_ports::Pages;
+use emv_ports::{Gone, Pages};
 use std::marker::Model;
 use torn_store::Lost;
 
@@ -44,25 +38,22 @@ pub fn personalise<P: Pages>(image: &Image, pages: P) -> P
 }
 
 /// A card that is on: the image of its applications, its pages with their state, and how far it has
-/// come since power-up. Contracts see these three.
+/// come since power-up. Contracts see these three. A call takes the card and gives it back; `Chip` is
+/// changed in its place.
 #[derive(Drop)]
 pub struct Card<'i, P: Pages> {
-    image: &'i Image,
-    kept: Kept<P>,
-    phase: Phase,
+    chip: Chip<'i, P>,
 }
 
 impl<'i, P: Pages> Model for Card<'i, P> {
-    ghost use Rattle.std.specs.Prelude.{◌≡◌, length};
+    ghost use Rattle.std.specs.Prelude.{◌≡◌, true};
     ghost use Rattle.card_app.specs.SeenCard.{CardSeen};
-    ghost use Rattle.card_app.specs.SeenReply.{IsAt};
 
     ghost Value = { CardSeen };
 
-    ghost view = { λ c. record { image = c.image.now; kept = c.kept; phase = c.phase } };
+    ghost view = { λ c. c.chip };
 
-    ghost invariant = { λ c. (length c.kept.state.apps.items ≡ length c.image.now)
-        × IsAt c.phase (length c.image.now) };
+    ghost invariant = { λ c. c.chip.kept.memory.on ≡ true };
 }
 
 impl<'i, P: Pages> Card<'i, P> {
@@ -90,13 +81,10 @@ impl<'i, P: Pages> Card<'i, P> {
         ensures cut { OnErr result (is_named (P.memory pages).plan 0 ≡ true) }
         ensures gone { IfErr result (λ lost. IsGone (P.memory pages) (P.memory lost.pages)) }
     {
-        match Kept::power_up(pages) {
-            Ok(kept) => Ok(Card {
-                image,
-                kept,
-                phase: Phase::Idle,
-            }),
-            Err(lost) => Err(lost),
+        let mut chip = Chip::of_pages(image, pages);
+        match chip.turn_on() {
+            Ok(()) => Ok(Card { chip }),
+            Err(Gone) => Err(cut_off(chip)),
         }
     }
 
@@ -124,18 +112,10 @@ impl<'i, P: Pages> Card<'i, P> {
             → CardOn self.entry session ds plan made → Allowed (opening_of self.entry.image) ds
             → Allowed (opening_of self.entry.image) (ds ++ (card_answer self.entry.image ds session command.now).new) }
     {
-        let mut body = Body::new();
-        let reply = answer(
-            self.image,
-            self.kept.state(),
-            self.phase,
-            command,
-            &mut body,
-        );
-        let Card { image, kept, phase } = self;
-        match carry_out(kept, phase, reply, &body, out) {
-            Ok((kept, phase)) => Ok(Card { image, kept, phase }),
-            Err(lost) => Err(lost),
+        let Card { mut chip } = self;
+        match chip.carry_on(command, out) {
+            Ok(()) => Ok(Card { chip }),
+            Err(Gone) => Err(cut_off(chip)),
         }
     }
 
@@ -145,7 +125,7 @@ impl<'i, P: Pages> Card<'i, P> {
         ensures totals { (session : List Exchange) (ds : List Decided) (plan : Option Tear) (made : ℕ)
             → CardOn self.now session ds plan made → result.now ≡ totals_of (opening_of self.now.image) ds }
     {
-        self.kept.state()
+        self.chip.totals()
     }
 
     /// Turns the card off. The pages stand for its decisions.
@@ -155,56 +135,17 @@ impl<'i, P: Pages> Card<'i, P> {
             → CardOn self.entry session ds plan made
             → StandsFor (P.memory result).cells (opening_of self.entry.image) ds }
     {
-        self.kept.power_off()
+        let Card { mut chip } = self;
+        chip.power_off();
+        chip.off_pages()
     }
 }
 
-/// Carries out a reply with this body: its decisions, and then the answer. Gives the phase behind it.
-fn carry_out<P: Pages>(
-    kept: Kept<P>,
-    phase: Phase,
-    reply: Reply,
-    body: &Body,
-    out: &mut Answer,
-) -> Result<(Kept<P>, Phase), Lost<P>>
-    requires may { MayReply kept.state reply }
-    requires at { IsAt phase (length kept.state.apps.items) }
-
-    ensures takes { IfOk result (λ done. Takes kept done.0 (reply_data body.now.items reply).new) }
-    ensures phase { IfOk result (λ done. done.1 ≡ phase_behind phase reply) }
-    ensures at { IfOk result (λ done. IsAt done.1 (length kept.state.apps.items)) }
-    ensures losses { IfOk result (λ done. done.0.memory.losses ≡ kept.memory.losses) }
-    ensures apps { IfOk result (λ done. length done.0.state.apps.items ≡ length kept.state.apps.items) }
-    ensures answer { OnOk result (out.new.items ≡ (said (reply_data body.now.items reply)).answer) }
-    ensures read_again { OnOk result (response_of out.new.items ≡ Some (response_in (reply_data body.now.items reply))) }
-
-    ensures cut { IfErr result (λ lost. IsCut kept (P.memory lost.pages) (reply_data body.now.items reply).new) }
-    ensures gone { IfErr result (λ lost. IsGone kept.memory (P.memory lost.pages)) }
-    ensures silent { OnErr result (out.new.items ≡ []) }
+/// The pages of a card, behind a loss of power.
+fn cut_off<P: Pages>(chip: Chip<'_, P>) -> Lost<P>
+    ensures { P.memory result.pages ≡ chip.entry.kept.memory }
 {
-    match reply {
-        Reply::Plain { status, phase } => {
-            respond(body, status, out);
-            Ok((kept, phase))
-        }
-        Reply::Decides {
-            app,
-            decision,
-            status,
-            phase,
-        } => match kept.decide(app, &decision) {
-            Ok(kept) => {
-                respond(body, status, out);
-                Ok((kept, phase))
-            }
-            Err(lost) => {
-                out.clear();
-                Err(lost)
-            }
-        },
-        Reply::Compares(with) => match compare(kept, &with, out) {
-            Ok(kept) => Ok((kept, phase)),
-            Err(lost) => Err(lost),
-        },
+    Lost {
+        pages: chip.off_pages(),
     }
 }

@@ -11,7 +11,7 @@ use apdu_core::Answer;
 use apdu_core::status::CONDITIONS_NOT_SATISFIED;
 use card_app::Chip;
 use card_files::Image;
-use emv_ports::{MemoryPages, Pages};
+use emv_ports::{Held, MemoryPages, Pages};
 use std::process::Abort;
 use std::test::Fail;
 
@@ -232,7 +232,8 @@ fn refusals_come_in_the_order_of_the_checks(rt: HostRuntime) -> Result<(), Fail>
     for phase in 0..6 {
         let (variant, before) = PHASES[phase];
         let image = image_of(&rt, alloc, variant)?;
-        refuse_in(&rt, &image, MemoryPages::blank(), phase, before);
+        let pages = Held::new(alloc, MemoryPages::blank())?;
+        refuse_in(&rt, &image, pages, phase, before);
     }
     Ok(())
 }

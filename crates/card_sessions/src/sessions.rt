@@ -9,7 +9,7 @@ use crate::turned_on;
 use apdu_core::Answer;
 use card_app::{Card, personalise};
 use card_files::Image;
-use emv_ports::{MemoryPages, Pages};
+use emv_ports::{Held, MemoryPages, Pages};
 use std::process::Abort;
 use std::test::Fail;
 
@@ -678,7 +678,8 @@ fn sessions_are_those_of_independent_implementations(rt: HostRuntime) -> Result<
     let alloc = rt.alloc();
     for (variant, session) in SESSIONS {
         let image = image_of(&rt, alloc, variant)?;
-        hold(&rt, &image, MemoryPages::blank(), session);
+        let pages = Held::new(alloc, MemoryPages::blank())?;
+        hold(&rt, &image, pages, session);
     }
     Ok(())
 }
@@ -688,7 +689,8 @@ fn limits_and_lists_are_the_cards_own(rt: HostRuntime) -> Result<(), Fail> {
     let alloc = rt.alloc();
     for (variant, session) in LIMITS {
         let image = image_of(&rt, alloc, variant)?;
-        hold(&rt, &image, MemoryPages::blank(), session);
+        let pages = Held::new(alloc, MemoryPages::blank())?;
+        hold(&rt, &image, pages, session);
     }
     Ok(())
 }

@@ -11,7 +11,7 @@ use crate::{turn_off, turn_on};
 use card_app::Chip;
 use card_files::Image;
 use card_state::AppState;
-use emv_ports::{Gone, MemoryPages, Pages, Tear, TearAt};
+use emv_ports::{Gone, Held, MemoryPages, Pages, Tear, TearAt};
 use std::process::Abort;
 use std::test::Fail;
 
@@ -138,7 +138,7 @@ fn what_is_found_is_what_the_plans_leave(rt: HostRuntime) -> Result<(), Fail> {
     let image = image_of(&rt, rt.alloc(), Variant::Online)?;
     for first in 0..PLANS {
         for again in 0..PLANS {
-            let pages = MemoryPages::blank();
+            let pages = Held::new(rt.alloc(), MemoryPages::blank())?;
             try_plans(&rt, &image, pages, plan_of(first), plan_of(again));
         }
     }

@@ -6,7 +6,6 @@ use Rattle.std.proofs.lemmas.Bool.{cases_eq}
 use Rattle.std.proofs.lemmas.List.{get_or-set_same, get_or-set_other}
 use Rattle.std.proofs.lemmas.Option.{same_Some, slice_get_within}
 use Rattle.card_app.specs.SeenChip.{ChipSeen, ChipOn, is_on as chip_on}
-use Rattle.card_app.specs.SeenCard.{CardSeen}
 use Rattle.card_app.specs.Session.{Exchange}
 use Rattle.card_state.specs.Decisions.{Decided}
 use Rattle.emv_ports.specs.declared.tear.Tear.{Tear}
@@ -67,11 +66,7 @@ not_over s w l p is over =
     let none : None ≡ Some p = sym (over_next s w l (below_over s w (length s.lanes) l (payment_facts s l _ p is).inside over)) ∙ is in cc
 
 chip_is_on : (chip : ChipSeen) (session : List Exchange) (ds : List Decided) (plan : Option Tear) (made : ℕ) → ChipOn chip session ds plan made → chip_on chip ≡ true
-chip_is_on chip session ds plan made on = by chip.card on
-  where
-    by : (o : Option CardSeen) → ChipOn (record chip { card = o }) session ds plan made → is_some o ≡ true
-    by (Some card) on_card = refl
-    by None on_card = absurd on_card
+chip_is_on chip session ds plan made on = on.on
 
 pub slot_is_on : (slot : SlotSeen) (row : CardRow) (plan : Option Tear) → SlotOn slot row plan → is_on slot ≡ true
 slot_is_on (OfApps chip) row plan on = chip_is_on chip row.session row.kept plan row.made on.0

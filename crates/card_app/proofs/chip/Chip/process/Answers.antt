@@ -1,61 +1,39 @@
 -- What the card says of itself holds of its place.
-use Rattle.std.proofs.Common.{◌≡◌, Option, Some, None, option_map, refl, ap, sym, subst, ◌∙◌}
+use Rattle.std.proofs.Common.{List, sym, subst}
+use Rattle.std.proofs.lemmas.Result.{on_err_weaker}
 use Rattle.card_files.specs.Files.{opening_of}
-use Rattle.card_app.specs.SeenCard.{CardSeen, CardOn}
-use Rattle.card_app.specs.SeenChip.{ChipSeen, ChipOn, IsWhole, OnCard}
-use Rattle.card_app.proofs.Chips.{image_of_card, chip_answered, chip_cut, chip_allowed}
+use Rattle.card_files.specs.Views.{AppData}
+use Rattle.torn_store.proofs.Outcomes.{on_ok_two}
+use Rattle.card_pages.specs.Cuts.{left_of, kept_by, pending_by}
+use Rattle.card_pages.specs.Pages.{MayStand}
 use Rattle.card_app.proofs.chip.Chip.process.Goals as goal
 
-pub returns-in-Ok-clause-answered : goal.returns-in-Ok-clause-answered
-returns-in-Ok-clause-answered g c session ds plan made on =
-    let shown : ChipSeen = record { image = c.self.inside.image.now; card = c.self.inside.card; pages = option_map g.P.Pages.memory c.self.inside.pages } in
-    let some : c.self.inside.card ≡ Some c.in-Some.card = sym c.take.ensures.value ∙ c.in-Some.is in
-    let here : CardOn c.in-Some.card session ds plan made =
-    subst (λ (o : Option CardSeen). OnCard o session ds plan made) some
-    (subst (λ (x : ChipSeen). ChipOn x session ds plan made) (sym c.self.view_is) on) in
-    let whole = subst (λ (o : Option CardSeen). IsWhole c.self.inside.image.now o shown.pages) some c.self.invariant in
-    let own : c.in-Some.card.image ≡ c.self.inside.image.now = image_of_card c.self.inside.image.now c.in-Some.card shown.pages whole in
-    let same : c.in-Some.card.image ≡ c.args.self.now.image = own ∙ ap (λ (x : ChipSeen). x.image) c.self.view_is in
-    let next : ChipSeen = record { image = c.self.inside.image.now; card = Some c.in-Ok.card; pages = shown.pages } in
-    chip_answered c.args.self.now next c.in-Some.card same session ds plan made c.args.command.now c.in-Ok.card c.process.new.out.items refl
-    (c.in-Ok.ensures.answered session ds plan made here)
+pub returns-clause-answered : goal.returns-clause-answered
+returns-clause-answered g c =
+    on_ok_two c.carry_on.result
+    (λ answered on session ds plan made at.
+    let one = answered session ds plan made at.card in
+    record { spared = one.spared; answer_is = one.answer_is; on = record { on = on; card = one.on } })
+    c.carry_on.ensures.answered c.carry_on.ensures.on
 
-pub returns-in-Ok-clause-allowed : goal.returns-in-Ok-clause-allowed
-returns-in-Ok-clause-allowed g c session ds plan made on allowed =
-    let shown : ChipSeen = record { image = c.self.inside.image.now; card = c.self.inside.card; pages = option_map g.P.Pages.memory c.self.inside.pages } in
-    let some : c.self.inside.card ≡ Some c.in-Some.card = sym c.take.ensures.value ∙ c.in-Some.is in
-    let here : CardOn c.in-Some.card session ds plan made =
-    subst (λ (o : Option CardSeen). OnCard o session ds plan made) some
-    (subst (λ (x : ChipSeen). ChipOn x session ds plan made) (sym c.self.view_is) on) in
-    let whole = subst (λ (o : Option CardSeen). IsWhole c.self.inside.image.now o shown.pages) some c.self.invariant in
-    let own : c.in-Some.card.image ≡ c.self.inside.image.now = image_of_card c.self.inside.image.now c.in-Some.card shown.pages whole in
-    let same : c.in-Some.card.image ≡ c.args.self.now.image = own ∙ ap (λ (x : ChipSeen). x.image) c.self.view_is in
-    chip_allowed c.args.self.now c.args.self.now c.in-Some.card same session ds plan made c.args.command.now
-    (c.in-Ok.ensures.allowed session ds plan made here) allowed
+pub returns-clause-cut : goal.returns-clause-cut
+returns-clause-cut g c =
+    on_err_weaker c.carry_on.result
+    (λ cut session ds plan made at.
+    let one = cut session ds plan made at.card in (
+      one.0,
+      record {
+        cut = one.1.cut;
+        off = record {
+          off = one.1.left.gone.off;
+          may =
+              subst
+              (λ (i : List AppData). MayStand c.carry_on.new.self.kept.memory.cells (opening_of i) (kept_by (left_of plan) ds one.0) (pending_by (left_of plan) one.0))
+              (sym c.carry_on.ensures.image) one.1.left.stands;
+        };
+      },
+    ))
+    c.carry_on.ensures.cut
 
-pub returns-in-Err-clause-cut : goal.returns-in-Err-clause-cut
-returns-in-Err-clause-cut g c session ds plan made on =
-    let shown : ChipSeen = record { image = c.self.inside.image.now; card = c.self.inside.card; pages = option_map g.P.Pages.memory c.self.inside.pages } in
-    let some : c.self.inside.card ≡ Some c.in-Some.card = sym c.take.ensures.value ∙ c.in-Some.is in
-    let here : CardOn c.in-Some.card session ds plan made =
-    subst (λ (o : Option CardSeen). OnCard o session ds plan made) some
-    (subst (λ (x : ChipSeen). ChipOn x session ds plan made) (sym c.self.view_is) on) in
-    let whole = subst (λ (o : Option CardSeen). IsWhole c.self.inside.image.now o shown.pages) some c.self.invariant in
-    let own : c.in-Some.card.image ≡ c.self.inside.image.now = image_of_card c.self.inside.image.now c.in-Some.card shown.pages whole in
-    let same : c.in-Some.card.image ≡ c.args.self.now.image = own ∙ ap (λ (x : ChipSeen). x.image) c.self.view_is in
-    let next : ChipSeen = record { image = c.self.inside.image.now; card = c.take.new.self; pages = Some (g.P.Pages.memory c.in-Err.lost.pages) } in
-    chip_cut c.args.self.now next c.in-Some.card same session ds plan made c.args.command.now (g.P.Pages.memory c.in-Err.lost.pages)
-    (ap (λ (x : ChipSeen). x.image) c.self.view_is) refl (c.in-Err.ensures.cut session ds plan made here)
-
-pub returns-in-Err-clause-allowed : goal.returns-in-Err-clause-allowed
-returns-in-Err-clause-allowed g c session ds plan made on allowed =
-    let shown : ChipSeen = record { image = c.self.inside.image.now; card = c.self.inside.card; pages = option_map g.P.Pages.memory c.self.inside.pages } in
-    let some : c.self.inside.card ≡ Some c.in-Some.card = sym c.take.ensures.value ∙ c.in-Some.is in
-    let here : CardOn c.in-Some.card session ds plan made =
-    subst (λ (o : Option CardSeen). OnCard o session ds plan made) some
-    (subst (λ (x : ChipSeen). ChipOn x session ds plan made) (sym c.self.view_is) on) in
-    let whole = subst (λ (o : Option CardSeen). IsWhole c.self.inside.image.now o shown.pages) some c.self.invariant in
-    let own : c.in-Some.card.image ≡ c.self.inside.image.now = image_of_card c.self.inside.image.now c.in-Some.card shown.pages whole in
-    let same : c.in-Some.card.image ≡ c.args.self.now.image = own ∙ ap (λ (x : ChipSeen). x.image) c.self.view_is in
-    chip_allowed c.args.self.now c.args.self.now c.in-Some.card same session ds plan made c.args.command.now
-    (c.in-Err.ensures.allowed session ds plan made here) allowed
+pub returns-clause-allowed : goal.returns-clause-allowed
+returns-clause-allowed g c session ds plan made at allowed = c.carry_on.ensures.allowed session ds plan made at.card allowed

@@ -5,36 +5,36 @@ use Rattle.card_pages.specs.SeenKept.{Took, CutAt}
 use Rattle.card_app.specs.SeenReply.{reply_data}
 use Rattle.card_app.specs.declared.reply.Reply.{Reply}
 use Rattle.card_pages.proofs.Steps.{takes_none}
-use Rattle.card_app.proofs.card.carry_out.Goals as goal
+use Rattle.card_app.proofs.chip.carry_out.Goals as goal
 
 pub returns-in-Plain-clause-takes : goal.returns-in-Plain-clause-takes
 returns-in-Plain-clause-takes g c opening ds plan made on =
-    subst (λ (r : Reply). Took c.args.kept opening ds (reply_data c.args.body.now.items r).new plan made) (sym c.in-Plain.is)
-    (takes_none c.args.kept opening ds plan made on)
+    subst (λ (r : Reply). Took c.args.kept.now opening ds (reply_data c.args.body.now.items r).new plan made) (sym c.in-Plain.is)
+    (takes_none c.args.kept.now opening ds plan made on)
 
 pub returns-in-Ok-clause-takes : goal.returns-in-Ok-clause-takes
 returns-in-Ok-clause-takes g c opening ds plan made on =
-    subst (λ (r : Reply). Took c.in-Ok.kept opening ds (reply_data c.args.body.now.items r).new plan made) (sym c.in-Decides.is)
+    subst (λ (r : Reply). Took c.decide.new.self opening ds (reply_data c.args.body.now.items r).new plan made) (sym c.in-Decides.is)
     (c.in-Ok.ensures.takes opening ds plan made on)
 
 pub returns-in-Err-clause-cut : goal.returns-in-Err-clause-cut
 returns-in-Err-clause-cut g c opening ds plan made on =
-    let lost = g.P.Pages.memory c.in-Err.lost.pages in
+    let lost = c.decide.new.self.memory in
     let at : Cut = record { before = []; cut = record { app = c.in-Decides.app; decision = c.in-Decides.decision } } in (
       at,
-      subst (λ (r : Reply). CutAt c.args.kept.memory lost opening ds (reply_data c.args.body.now.items r).new plan made at) (sym c.in-Decides.is)
+      subst (λ (r : Reply). CutAt c.args.kept.now.memory lost opening ds (reply_data c.args.body.now.items r).new plan made at) (sym c.in-Decides.is)
           (c.in-Err.ensures.cut opening ds plan made on),
     )
 
 pub returns-in-Ok-compare-clause-takes : goal.returns-in-Ok-compare-clause-takes
 returns-in-Ok-compare-clause-takes g c opening ds plan made on =
-    subst (λ (r : Reply). Took c.in-Ok-compare.kept opening ds (reply_data c.args.body.now.items r).new plan made) (sym c.in-Compares.is)
+    subst (λ (r : Reply). Took c.compare.new.kept opening ds (reply_data c.args.body.now.items r).new plan made) (sym c.in-Compares.is)
     (c.in-Ok-compare.ensures.takes opening ds plan made on)
 
 pub returns-in-Err-compare-clause-cut : goal.returns-in-Err-compare-clause-cut
 returns-in-Err-compare-clause-cut g c opening ds plan made on =
-    let lost = g.P.Pages.memory c.in-Err-compare.lost.pages in
+    let lost = c.compare.new.kept.memory in
     let one = c.in-Err-compare.ensures.cut opening ds plan made on in (
       one.0,
-      subst (λ (r : Reply). CutAt c.args.kept.memory lost opening ds (reply_data c.args.body.now.items r).new plan made one.0) (sym c.in-Compares.is) one.1,
+      subst (λ (r : Reply). CutAt c.args.kept.now.memory lost opening ds (reply_data c.args.body.now.items r).new plan made one.0) (sym c.in-Compares.is) one.1,
     )
