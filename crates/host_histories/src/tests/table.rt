@@ -24,7 +24,7 @@ const DECLINED: &str = "e2048a023035";
 
 const UNKNOWN_ACCOUNT: &str = "e2048a023134";
 
-pub const HISTORIES: [History; 24] = [
+pub const HISTORIES: [History; 25] = [
     // Two cards of one account, whose balance covers one of the payments.
     History {
         accounts: &[Opening {
@@ -50,6 +50,34 @@ pub const HISTORIES: [History; 24] = [
             ),
         ],
         balances: &[("4761739001010010", 500)],
+    },
+    // A presentment whose cryptogram is not the card's is kept, and the true request and presentment of that
+    // transaction come behind it.
+    History {
+        accounts: &[Opening {
+            pan: "4761739001010010",
+            currency: Currency::Dollar,
+            balance: 3000,
+            blocked: false,
+            pin: Some("1234"),
+            scripts: &[],
+        }],
+        turns: &[
+            Turn::Says(
+                "e36c9f1c085445524d303030315a0847617390010100105f3401019f02060000000025009f03060000000000009f1a020840950580000000005f2a0208409a032406159c01009f37040102030482021c009f3602000b9f26084d89bb8933ef3e9c9f10060140000003018a023030",
+                DECLINED,
+            ),
+            Turn::Says(
+                "e16e9f1c085445524d303030315a0847617390010100105f3401015f24032612319f02060000000025009f03060000000000009f1a020840950580000000005f2a0208409a032406159c01009f37040102030482021c009f3602000b9f2608204bb40db680038e9f1006018000000301",
+                "e2108a023035910af1767c665eb5d7d23035",
+            ),
+            Turn::Says(
+                "e36c9f1c085445524d303030315a0847617390010100105f3401019f02060000000025009f03060000000000009f1a020840950580000000005f2a0208409a032406159c01009f37040102030482021c009f3602000b9f26084d89bb8933ef3e9b9f10060140000003018a023030",
+                DECLINED,
+            ),
+            Turn::Again(0),
+        ],
+        balances: &[("4761739001010010", 3000)],
     },
     // An application that has expired, and a balance below the amount.
     History {
