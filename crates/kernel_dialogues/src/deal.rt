@@ -22,6 +22,8 @@ pub enum Difference {
     End,
     /// What is captured.
     Capture,
+    /// The account number of the end record.
+    Account,
     /// The tally.
     Tally,
     /// There is no memory left.
@@ -47,13 +49,15 @@ pub struct Deal<'t> {
     caps: [u8; 3],
     /// The names of the terminal's applications, with `+` where partial names are supported.
     aids: &'t str,
-    denial: [u8; 5],
-    online: [u8; 5],
-    fallback: [u8; 5],
-    floor: u64,
-    threshold: u64,
-    target: u8,
-    most_target: u8,
+    /// The data of the applications: those of each one between `/`, the last ones for all behind.
+    version: &'t str,
+    denial: &'t str,
+    online: &'t str,
+    fallback: &'t str,
+    floor: &'t str,
+    threshold: &'t str,
+    target: &'t str,
+    most_target: &'t str,
     exceptions: &'t str,
     amount: u64,
     other: u64,
@@ -65,8 +69,11 @@ pub struct Deal<'t> {
     pins: &'t str,
     forced: bool,
     confirm: bool,
-    /// The amounts of earlier purchases with the base account number.
+    /// The amounts of earlier purchases with the base account number, and behind `@` the number of the call
+    /// with which they are handed in.
     log: &'t str,
+    /// The card's account number.
+    pub pan: &'t str,
 }
 
 /// The base account number.
@@ -77,13 +84,14 @@ const BASE: Deal<'static> = Deal {
     kind: 22,
     caps: [0xe0, 0xb8, 0xc8],
     aids: "a0000000031010",
-    denial: [0x00, 0x10, 0x00, 0x00, 0x00],
-    online: [0x70, 0x68, 0xbc, 0x98, 0x00],
-    fallback: [0x70, 0x68, 0xbc, 0xf8, 0x00],
-    floor: 10_000,
-    threshold: 5_000,
-    target: 10,
-    most_target: 50,
+    version: "0096",
+    denial: "0010000000",
+    online: "7068bc9800",
+    fallback: "7068bcf800",
+    floor: "10000",
+    threshold: "5000",
+    target: "10",
+    most_target: "50",
     exceptions: "",
     amount: 2_500,
     other: 0,
@@ -96,6 +104,7 @@ const BASE: Deal<'static> = Deal {
     forced: false,
     confirm: true,
     log: "",
+    pan: PAN,
 };
 
 /// The value of a hexadecimal digit.
@@ -162,13 +171,14 @@ impl<'t> Deal<'t> {
             "kind" => self.kind = byte_of(value),
             "caps" => self.caps = three_of(value),
             "aids" => self.aids = value,
-            "denial" => self.denial = five_of(value),
-            "online" => self.online = five_of(value),
-            "default" => self.fallback = five_of(value),
-            "floor" => self.floor = number_of(value),
-            "threshold" => self.threshold = number_of(value),
-            "target" => self.target = byte_of(value),
-            "max" => self.most_target = byte_of(value),
+            "version" => self.version = value,
+            "denial" => self.denial = value,
+            "online" => self.online = value,
+            "default" => self.fallback = value,
+            "floor" => self.floor = value,
+            "threshold" => self.threshold = value,
+            "target" => self.target = value,
+            "max" => self.most_target = value,
             "exceptions" => self.exceptions = value,
             _ => {}
         }
@@ -187,6 +197,7 @@ impl<'t> Deal<'t> {
             "forced" => self.forced = true,
             "unconfirmed" => self.confirm = false,
             "log" => self.log = value,
+            "pan" => self.pan = value,
             _ => {}
         }
     }
@@ -221,12 +232,14 @@ impl<'t> Deal<'t> {
     {
         let mut rows = Vec::new(alloc);
         for word in self.aids.split("/") {
-            rows.push(self.row(word)?)?;
+            let row = self.row(word, rows.len())?;
+            rows.push(row)?;
         }
         Ok(rows)
     }
 
-    fn row(&self, word: &str) -> Result<AidRow, Difference>
+    /// The application with this number, counted from 0.
+    fn row(&self, word: &str, number: usize) -> Result<AidRow, Difference>
         ensures { IfOk result IsAidRow }
     {
         let mut bytes: ArrayVec<u8, 16> = ArrayVec::new();
@@ -234,25 +247,29 @@ impl<'t> Deal<'t> {
         let Some(name) = Name::new(&bytes) else {
             return Err(Difference::Line);
         };
+        let floor = number_of(own(self.floor, number));
+        let threshold = number_of(own(self.threshold, number));
+        let target = byte_of(own(self.target, number));
+        let most_target = byte_of(own(self.most_target, number));
         if name.as_slice().len() < 5
-            || self.floor > 999_999_999_999
-            || self.threshold > self.floor
-            || self.target > self.most_target
-            || self.most_target > 99
+            || floor > 999_999_999_999
+            || threshold > floor
+            || target > most_target
+            || most_target > 99
         {
             return Err(Difference::Line);
         }
         Ok(AidRow {
             name,
             partial: word.ends_with("+"),
-            version: [0x00, 0x96],
-            denial: self.denial,
-            online: self.online,
-            fallback: self.fallback,
-            floor: self.floor,
-            threshold: self.threshold,
-            target: self.target,
-            max_target: self.most_target,
+            version: two_of(own(self.version, number)),
+            denial: five_of(own(self.denial, number)),
+            online: five_of(own(self.online, number)),
+            fallback: five_of(own(self.fallback, number)),
+            floor,
+            threshold,
+            target,
+            max_target: most_target,
         })
     }
 
@@ -290,24 +307,59 @@ impl<'t> Deal<'t> {
     pub fn log(&self, alloc: Global) -> Result<Vec<Logged>, Difference>
         ensures { IfOk result (λ log. All (λ logged. logged.amount ≤ most_amount) log.items) }
     {
-        let mut log = Vec::new(alloc);
-        for word in self.log.split("/") {
-            if word.is_empty() {
-                return Ok(log);
-            }
-            let amount = number_of(word);
-            if amount > 999_999_999_999 {
-                return Err(Difference::Line);
-            }
-            let pan = digits_of(PAN)?;
-            log.push(Logged { pan, amount })?;
-        }
-        Ok(log)
+        let (amounts, _) = self.log.split_once('@').unwrap_or((self.log, ""));
+        log_of(alloc, amounts)
+    }
+
+    /// The number of the call with which the log is handed in, 0 where it is with each.
+    pub fn call(&self) -> u64 {
+        let (_, call) = self.log.split_once('@').unwrap_or(("", ""));
+        number_of(call)
     }
 }
 
+/// What is handed in with the other calls: a log by which each purchase is above each floor limit.
+pub fn other_log(alloc: Global) -> Result<Vec<Logged>, Difference>
+    ensures { IfOk result (λ log. All (λ logged. logged.amount ≤ most_amount) log.items) }
+{
+    log_of(alloc, "999999999999")
+}
+
+/// A log with these amounts.
+fn log_of(alloc: Global, amounts: &str) -> Result<Vec<Logged>, Difference>
+    ensures { IfOk result (λ log. All (λ logged. logged.amount ≤ most_amount) log.items) }
+{
+    let mut log = Vec::new(alloc);
+    for word in amounts.split("/") {
+        if word.is_empty() {
+            return Ok(log);
+        }
+        let amount = number_of(word);
+        if amount > 999_999_999_999 {
+            return Err(Difference::Line);
+        }
+        let pan = digits_of(PAN)?;
+        log.push(Logged { pan, amount })?;
+    }
+    Ok(log)
+}
+
+/// The word with this number, counted from 0, of those between `/`, the last one where there are fewer.
+fn own(words: &str, number: usize) -> &str {
+    let mut left = number;
+    let mut own = "";
+    for word in words.split("/") {
+        own = word;
+        if left == 0 {
+            return own;
+        }
+        left -= 1;
+    }
+    own
+}
+
 /// The digits of a decimal text.
-fn digits_of(text: &str) -> Result<Digits, Difference> {
+pub fn digits_of(text: &str) -> Result<Digits, Difference> {
     let mut digits: ArrayVec<u8, 19> = ArrayVec::new();
     for letter in text.bytes() {
         let _ = digits.try_push(digit_of(letter));

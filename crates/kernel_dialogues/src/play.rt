@@ -3,11 +3,11 @@ ghost use Rattle.std.specs.Prelude.{◌≤◌};
 ghost use Rattle.std.specs.List.{All};
 ghost use Rattle.emv_dict.specs.Settings.{IsPurchase, IsSettings, most_amount};
 
-use crate::deal::{Deal, Difference, put_bytes};
+use crate::deal::{Deal, Difference, digits_of, other_log, put_bytes};
 use crate::names::text_of;
 use arrayvec::ArrayVec;
 use auth_message::Message;
-use emv_dict::{Ac, Logged, Purchase, Settings};
+use emv_dict::{Ac, Digits, Logged, Purchase, Settings};
 use kernel::{Capture, EndRecord, Kernel, Next, Tally};
 use report_text::{EndParts, Line, Text, write_line};
 use std::alloc::Global;
@@ -31,10 +31,34 @@ impl Room {
     }
 }
 
+/// The terminal's log, and the one that is handed in with other calls.
+#[derive(Drop)]
+struct Logs<'l> {
+    own: &'l [Logged],
+    other: &'l [Logged],
+    /// The number, from 1, of the call with which the first one is handed in, 0 where it is with each.
+    call: u64,
+    ghost own_small: { All (λ logged. logged.amount ≤ most_amount) own.now },
+    ghost other_small: { All (λ logged. logged.amount ≤ most_amount) other.now },
+}
+
+impl<'l> Logs<'l> {
+    /// The log that is handed in with this call.
+    fn with(&self, call: u64) -> &'l [Logged]
+        ensures { All (λ logged. logged.amount ≤ most_amount) result.now }
+    {
+        if self.call == 0 || self.call == call {
+            self.own
+        } else {
+            self.other
+        }
+    }
+}
+
 /// The line of a dialogue in its parts.
 #[derive(Clone, Copy)]
 struct Parts<'t> {
-    deal: &'t str,
+    deal: Deal<'t>,
     exchanges: &'t str,
     end: &'t str,
     capture: &'t str,
@@ -47,31 +71,35 @@ struct Parts<'t> {
 /// Behind it the dialogue is played `again` times more in the same terminal.
 pub fn play(alloc: Global, line: &str, again: u32, room: &mut Room) -> Result<(), Difference> {
     let parts = parts_of(line)?;
-    let deal = Deal::read(parts.deal);
-    let settings = deal.settings(alloc)?;
-    let purchase = deal.purchase(alloc)?;
-    let log = deal.log(alloc)?;
-    go_through(&settings, &purchase, &log, &parts, again, room)
+    let settings = parts.deal.settings(alloc)?;
+    let purchase = parts.deal.purchase(alloc)?;
+    let own = parts.deal.log(alloc)?;
+    let other = other_log(alloc)?;
+    let logs = Logs {
+        own: own.as_slice(),
+        other: other.as_slice(),
+        call: parts.deal.call(),
+    };
+    go_through(&settings, &purchase, &logs, &parts, again, room)
 }
 
 /// Goes through a dialogue, and so often again in the same terminal.
 fn go_through(
     settings: &Settings,
     purchase: &Purchase,
-    log: &[Logged],
+    logs: &Logs<'_>,
     parts: &Parts<'_>,
     again: u32,
     room: &mut Room,
 ) -> Result<(), Difference>
     requires settings { IsSettings settings.now }
     requires purchase { IsPurchase purchase.now }
-    requires log { All (λ logged. logged.amount ≤ most_amount) log.now }
 {
     let mut kernel = Kernel::begin(settings, purchase);
-    play_out(&mut kernel, log, parts, room)?;
+    play_out(&mut kernel, logs, parts, room)?;
     for _ in 0..again {
         kernel.begin_again(settings, purchase);
-        play_out(&mut kernel, log, parts, room)?;
+        play_out(&mut kernel, logs, parts, room)?;
     }
     Ok(())
 }
@@ -79,16 +107,14 @@ fn go_through(
 /// Goes through the dialogue that has begun, and compares its end.
 fn play_out(
     kernel: &mut Kernel<'_>,
-    log: &[Logged],
+    logs: &Logs<'_>,
     parts: &Parts<'_>,
     room: &mut Room,
-) -> Result<(), Difference>
-    requires log { All (λ logged. logged.amount ≤ most_amount) log.now }
-{
-    let replies = exchange_all(kernel, parts.exchanges, log, &mut room.bytes)?;
+) -> Result<(), Difference> {
+    let replies = exchange_all(kernel, parts.exchanges, logs, &mut room.bytes)?;
     match kernel.next() {
-        Next::Ended => {}
-        Next::ToCard | Next::ToHost => return Err(Difference::Deed(replies)),
+        Next::Ended if !kernel.is_spent() => {}
+        _ => return Err(Difference::Deed(replies)),
     }
     let mut tally = Tally::new();
     let ended = kernel.end(&mut tally);
@@ -109,7 +135,7 @@ fn parts_of(line: &str) -> Result<Parts<'_>, Difference> {
     };
     let (end, capture) = rest.split_once(" | ").unwrap_or((rest, ""));
     Ok(Parts {
-        deal,
+        deal: Deal::read(deal),
         exchanges,
         end,
         capture,
@@ -120,18 +146,17 @@ fn parts_of(line: &str) -> Result<Parts<'_>, Difference> {
 fn exchange_all(
     kernel: &mut Kernel<'_>,
     exchanges: &str,
-    log: &[Logged],
+    logs: &Logs<'_>,
     bytes: &mut Message,
-) -> Result<u64, Difference>
-    requires { All (λ logged. logged.amount ≤ most_amount) log.now }
-{
+) -> Result<u64, Difference> {
     let mut count = 0u64;
     for word in exchanges.split(" > ") {
         for exchange in text_of(word).split(" > ") {
-            if !is_taken(kernel, exchange, log, bytes) {
+            let call = count.saturating_add(1);
+            if !is_taken(kernel, exchange, logs.with(call), bytes) {
                 return Err(Difference::Deed(count));
             }
-            count = count.saturating_add(1);
+            count = call;
         }
     }
     Ok(count)
@@ -168,7 +193,7 @@ fn compare(ended: EndRecord, parts: &Parts<'_>, room: &mut Room) -> Result<(), D
         tvr,
         tsi,
         cvm,
-        pan: _,
+        pan,
         code,
         last,
         scripts,
@@ -176,6 +201,9 @@ fn compare(ended: EndRecord, parts: &Parts<'_>, room: &mut Room) -> Result<(), D
     } = ended;
     if !is_captured(capture, parts.capture, room) {
         return Err(Difference::Capture);
+    }
+    if !is_account(&pan, parts) {
+        return Err(Difference::Account);
     }
     let end = EndParts {
         ending,
@@ -191,6 +219,21 @@ fn compare(ended: EndRecord, parts: &Parts<'_>, room: &mut Room) -> Result<(), D
     } else {
         Err(Difference::End)
     }
+}
+
+/// Whether the card's account number is there, exactly where reading is finished.
+fn is_account(pan: &Option<Digits>, parts: &Parts<'_>) -> bool {
+    match (pan, digits_of(parts.deal.pan)) {
+        (Some(pan), Ok(digits)) => has_read(parts.end) && pan.as_slice() == digits.as_slice(),
+        (None, Ok(_)) => !has_read(parts.end),
+        (_, Err(_)) => false,
+    }
+}
+
+/// Whether reading is finished: the first bit of the terminal verification results tells it.
+fn has_read(end: &str) -> bool {
+    let (_, results) = end.split_once(" tvr=").unwrap_or(("", ""));
+    matches!(results.as_bytes().first(), Some(b'8'..=b'9' | b'a'..=b'f'))
 }
 
 fn counter_and_cryptogram(last: &Option<Ac>) -> Option<(u16, [u8; 8])> {

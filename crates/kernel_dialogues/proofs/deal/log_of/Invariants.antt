@@ -1,7 +1,7 @@
 use Rattle.std.proofs.Common.{◌≤◌}
 use Rattle.std.specs.List.{All}
 use Rattle.emv_dict.specs.Settings.{most_amount}
-use Rattle.kernel_dialogues.proofs.deal.Deal.log.Given as goal
+use Rattle.kernel_dialogues.proofs.deal.log_of.Given as goal
 
 abbrev pub invariant-loop-word : goal.invariant-loop-word
 invariant-loop-word l =
