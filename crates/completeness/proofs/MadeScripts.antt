@@ -8,6 +8,7 @@ use Rattle.auth_message.proofs.Spelled.{placed, are_tags, read_fields}
 use Rattle.auth_message.proofs.Templates.{are_templates}
 use Rattle.auth_message.specs.Spelling.{spelled}
 use Rattle.ber_tlv.proofs.Reading.{no_zeros, left-end}
+use Rattle.ber_tlv.specs.Direct.{values_of}
 use Rattle.ber_tlv.specs.Item.{ItemData}
 use Rattle.ber_tlv.specs.Left.{items_of, items_behind}
 use Rattle.ber_tlv.specs.Written.{written}
@@ -21,7 +22,7 @@ use Rattle.script_words.specs.Script.{ScriptData}
 use Rattle.script_words.specs.declared.script.Ordered.{Ordered}
 use Rattle.script_words.specs.declared.script.Word.{Word}
 use Rattle.script_words.specs.declared.script.Word.TheVariants.{Block, Unblock, CardBlock, PinUnblock, Pin, Count, Amount}
-use Rattle.terminal_state.specs.Scripts.{with_tag, templates}
+use Rattle.terminal_state.specs.Scripts.{templates}
 
 -- fields that are spelled are read back
 fields_listed : (fields : List (ℕ × List ℕ)) → are_tags fields ≡ true → items_of (spelled fields) ≡ Ok (placed 0 fields)
@@ -169,4 +170,4 @@ tagged_plain place (field ∷ fields) plain =
 -- so does each one that runs before the second cryptogram
 pub templates_plain : (fields : List (ℕ × List ℕ)) → are_tags fields ≡ true → All HoldsPlain fields → All IsPlainScript (templates 0x71 (spelled fields))
 unfolding templates
-templates_plain fields are plain = subst (λ r. All IsPlainScript (with_tag 0x71 r)) (sym (fields_listed fields are)) (tagged_plain 0 fields plain)
+templates_plain fields are plain = subst (λ r. All IsPlainScript (values_of 0x71 r)) (sym (fields_listed fields are)) (tagged_plain 0 fields plain)

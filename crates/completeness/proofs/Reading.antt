@@ -2,7 +2,7 @@
 use Rattle.std.proofs.Common.{◌≡◌, ℕ, ◌+◌, ◌*◌, ◌/◌, ◌%◌, ◌≤◌, ◌==◌, ◌&&◌, Bool, true, false, not, IsTrue, if◌then◌else◌, nat_le, List, [], ◌∷◌, length, map, slice_get, Option, Some, None, option_and_then, Result, Ok, Err, refl, ap, sym, ◌∙◌, arith, leb-true, eq-eqb, le-leb, ne_eqb, eqb-true}
 use Rattle.std.specs.List.{list_all}
 use Rattle.std.proofs.lemmas.Bool.{and_parts, and_from, not_from_false}
-use Rattle.apdu_core.specs.Command.{CommandData}
+use Rattle.apdu_core.specs.Command.{record_command, CommandData}
 use Rattle.apdu_core.specs.Response.{response_of}
 use Rattle.card_app.specs.Answering.{row, instruction_row}
 use Rattle.card_app.specs.Files.{record_or, record_row}
@@ -24,7 +24,7 @@ use Rattle.read_records.specs.Afl.{RecordPlace}
 use Rattle.read_records.specs.Checked.{objects_fault}
 use Rattle.read_records.specs.DataRead.{card_unless, card_from, card_read, reading}
 use Rattle.read_records.specs.Options.{Opened}
-use Rattle.read_records.specs.Records.{record_command, held_in, held_in_all, gathered_all}
+use Rattle.read_records.specs.Records.{held_in, held_in_all, gathered_all}
 use Rattle.completeness.proofs.Answers.{Answers, answers, command_again, state_at, phase_at}
 use Rattle.completeness.proofs.Runs.{Runs, done, asks, runs_as}
 use Rattle.completeness.specs.Cards.{Now, says, goes}
@@ -124,15 +124,15 @@ there_by a place entries more None is read =
 
 -- the card's answer is the application's own record
 record OwnAnswer (image : List AppData) (a : AppData) (app : ℕ) (now : Now) (place : RecordPlace) : Type 0 where
-  same : says image now (record_command place) ≡ own_record a place
-  phase : phase_at image (goes image now (record_command place)) ≡ Started app
+  same : says image now (record_command place.sfi place.number) ≡ own_record a place
+  phase : phase_at image (goes image now (record_command place.sfi place.number)) ≡ Started app
 
 own_answer : (image : List AppData) (a : AppData) (app : ℕ) (now : Now) (place : RecordPlace) → IsTrue (are_records a.records) → slice_get image app ≡ Some a
     → phase_at image now ≡ Started app → IsThere a place → OwnAnswer image a app now place
 unfolding next_phase
 own_answer image a app now place rule there here (bytes, found) =
     let within = limits_for a place.sfi place.number bytes rule found in
-    let ans : Answers image now (record_command place) (shows bytes 0x9000) (Started app) =
+    let ans : Answers image now (record_command place.sfi place.number) (shows bytes 0x9000) (Started app) =
     answers (command_for place) (Started app) (command_again (command_for place)) here (row_is image (state_at image now) app a place bytes there found within) within.room in
     record {
       same = ans.says_so ∙ ap (λ (o : Option (List ℕ)). (said (record_or (has_record_of place.sfi a.records) o)).answer) (sym found);
@@ -163,11 +163,11 @@ module _ (image : List AppData) (a : AppData) (app : ℕ) (rule : IsTrue (are_re
   unfolding reading card_read then_read
   read_one place left entries now (Ok more) others is read here =
       let own = own_answer image a app now place rule there here (there_by a place entries more (record_in place.sfi place.number a.records) refl is) in
-      let put : gathered_all entries (held_in place.sfi (says image now (record_command place))) ≡ Ok more =
+      let put : gathered_all entries (held_in place.sfi (says image now (record_command place.sfi place.number))) ≡ Ok more =
       ap (λ (answer : List ℕ). gathered_all entries (held_in place.sfi answer)) own.same ∙ is in
-      asks (record_command place) refl
-      (runs_as (λ later. sym (record_taken (reading (opened_with entries (place ∷ left))) [] entries more place left (says image now (record_command place)) (λ l. refl) put later))
-      (others more (goes image now (record_command place)) read own.phase))
+      asks (record_command place.sfi place.number) refl
+      (runs_as (λ later. sym (record_taken (reading (opened_with entries (place ∷ left))) [] entries more place left (says image now (record_command place.sfi place.number)) (λ l. refl) put later))
+      (others more (goes image now (record_command place.sfi place.number)) read own.phase))
   read_one place left entries now (Err cause) others is read here = absurd (cc read)
 
   pub reading_runs : (left : List RecordPlace) (entries : Entries) (now : Now) → card_read (opened_with entries left) (map (own_record a) left) ≡ Ok card

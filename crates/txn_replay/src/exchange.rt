@@ -60,6 +60,7 @@ fn settle<'s, P: Pages>(
     requires captures { vec_len lane.old.captures < vec_capacity lane.old.captures }
     requires amount { at.now.planned.now.purchase.amount ≤ most_amount }
     requires amounts { All (λ logged. logged.amount ≤ most_amount) lane.old.log.items }
+    requires fresh { IsSomeAnd lane.old.running (λ kernel. kernel.value.is_spent ≡ false) }
     requires on { has_power slot.old ≡ true }
     requires lines { length lines.old.items < 8 }
     ensures moved { (issuer : HostKeys) (accounts : List AccountData) (replies : List Reply) (part : Part)
@@ -170,6 +171,7 @@ fn hear<'s>(at: &Payment<'s>, lane: &mut Lane<'s>, reply: Option<&[u8]>, lines: 
         × (lines.new.items ≡ host_lines at.now.lane (told_bytes (dialogue (deal_for p) replies)) (option_map (λ reply. reply.now) reply.entry)) }
     ensures few { length lines.new.items < 8 }
     ensures same { IsSomeAnd lane.new.running (λ kernel. lane.new ≡ record lane.old { running = Some kernel; place = lane.new.place }) }
+    ensures fresh { IsSomeAnd lane.new.running (λ kernel. kernel.value.is_spent ≡ false) }
     ensures nearer { lane_left lane.new < lane_left lane.old }
 {
     let Some(kernel) = &mut lane.running else {
@@ -265,6 +267,7 @@ fn start<'s>(at: &Payment<'s>, lane: &mut Lane<'s>)
     requires planned { IsPlanned at.now.planned.now }
     requires place { IsSome lane.old.place }
     ensures same { IsSomeAnd lane.new.running (λ kernel. lane.new ≡ record lane.old { running = Some kernel; place = lane.new.place }) }
+    ensures fresh { IsSomeAnd lane.new.running (λ kernel. kernel.value.is_spent ≡ false) }
     ensures told { (issuer : HostKeys) (accounts : List AccountData)
         → RunStands lane.new.running (seen_payment issuer accounts at.now) (Some []) }
     ensures waits { IsSomeAnd lane.new.running (λ kernel. next_of kernel.value ≡ next.ToCard) }
@@ -282,6 +285,7 @@ fn start<'s>(at: &Payment<'s>, lane: &mut Lane<'s>)
 fn lose(lane: &mut Lane<'_>)
     requires waits { IsSomeAnd lane.old.running (λ kernel. next_of kernel.value ≡ next.ToCard) }
     ensures same { IsSomeAnd lane.new.running (λ kernel. lane.new ≡ record lane.old { running = Some kernel; place = lane.new.place }) }
+    ensures fresh { IsSomeAnd lane.new.running (λ kernel. kernel.value.is_spent ≡ false) }
     ensures told { (p : Paid) (replies : List Reply) → RunStands lane.old.running p (Some replies)
         → RunStands lane.new.running p (Some (replies ++ CardGone ∷ [])) }
     ensures over { IsSomeAnd lane.new.running (λ kernel. next_of kernel.value ≡ next.Ended) }

@@ -1,5 +1,5 @@
 //! A lane of a run: a terminal with its purchases.
-ghost use Rattle.std.specs.Prelude.{◌≡◌, ◌+◌, ◌≤◌, ◌<◌, ◌^◌, ◌++◌, ◌∷◌, [], ℕ, List, length, map, IsSomeAnd, Some, None, Option, IsSome, IfOk, OnOk, sum_by, option_map, option_to_list};
+ghost use Rattle.std.specs.Prelude.{◌≡◌, ◌+◌, ◌≤◌, ◌<◌, ◌^◌, ◌++◌, ◌∷◌, [], ℕ, List, length, map, false, IsSomeAnd, Some, None, Option, IsSome, IfOk, OnOk, sum_by, option_map, option_to_list};
 ghost use Rattle.std.specs.List.{All};
 ghost use Rattle.std.specs.Vec.{vec_len, vec_capacity};
 ghost use Rattle.emv_dict.specs.Settings.{IsSettings, most_amount};
@@ -71,6 +71,7 @@ pub(crate) fn finish<'s>(
     lines: &mut Lines,
 )
     requires over { IsSomeAnd lane.old.running (λ kernel. next_of kernel.value ≡ next.Ended) }
+    requires fresh { IsSomeAnd lane.old.running (λ kernel. kernel.value.is_spent ≡ false) }
     requires few { lane.old.ended < 10000 }
     requires log { vec_len lane.old.log < vec_capacity lane.old.log }
     requires captures { vec_len lane.old.captures < vec_capacity lane.old.captures }
