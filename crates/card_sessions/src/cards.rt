@@ -45,6 +45,8 @@ pub(crate) enum Variant {
     OneOffline,
     /// Its PIN has no tries.
     NoTries,
+    /// There is neither a PIN nor a try.
+    NothingToTry,
     /// Its counter is FFFE.
     LastCounter,
 }
@@ -121,7 +123,10 @@ fn record_of(alloc: Global, number: u8, text: &str) -> Result<RecordImage, Fail>
 
 /// The PIN try limit.
 fn tries_of(variant: Variant) -> u8 {
-    if variant == Variant::NoTries { 0 } else { 3 }
+    match variant {
+        Variant::NoTries | Variant::NothingToTry => 0,
+        _ => 3,
+    }
 }
 
 /// Whether the card has object lists of its own.
@@ -167,10 +172,9 @@ pub(crate) fn opening_of(variant: Variant) -> AppState {
         },
         tries: tries_of(variant),
         blocked: variant == Variant::Blocked,
-        pin: if variant == Variant::NoPin {
-            [0; 8]
-        } else {
-            PIN_1234
+        pin: match variant {
+            Variant::NoPin | Variant::NothingToTry => [0; 8],
+            _ => PIN_1234,
         },
         ..AppState::default()
     }

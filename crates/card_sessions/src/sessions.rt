@@ -211,7 +211,7 @@ const OWN_OPTIONS: Line = (
 
 /// Cards at their limits and with object lists of their own. The answers follow from the rules, by an
 /// implementation of these apart from this program.
-const LIMITS: [(Variant, &[Line]); 26] = [
+const LIMITS: [(Variant, &[Line]); 30] = [
     // own lists, offline
     (
         Variant::OwnLists,
@@ -641,6 +641,63 @@ const LIMITS: [(Variant, &[Line]); 26] = [
                 "80ae40001f5931000000002500000000000000084080000000000840240615000102030400",
                 "801100000bce662d9e0740373e0100000003019000",
             ),
+        ],
+    ),
+    // where there is no PIN, it doesn't matter that there are no tries
+    (
+        Variant::NothingToTry,
+        &[
+            SELECT,
+            OPTIONS,
+            ("0020008008241234ffffffffff", "6a88"),
+            ("80ca9f1700", "9f1701009000"),
+        ],
+    ),
+    // the next occurrence before any SELECT is the first one
+    (
+        Variant::Base,
+        &[("00a4040207a000000003101000", SELECT.1), OPTIONS],
+    ),
+    // the amount of the second list is within the limits, or not
+    (
+        Variant::Base,
+        &[
+            SELECT,
+            OPTIONS,
+            (
+                "80ae80001d000000002500000000000000084080000000000840240615000102030400",
+                REQUEST.1,
+            ),
+            (
+                "80ae40001f5933000000020001000000000000084080000000000840240615000102030400",
+                "801100000b470b5009069e7c430100000003019000",
+            ),
+        ],
+    ),
+    // behind an approval the issuer is wrong in one transaction, and right in the next one, which forgets the count
+    (
+        Variant::Base,
+        &[
+            SELECT,
+            OPTIONS,
+            (FIRST, "801140000b6114ff966d2fd2320140000103019000"),
+            SELECT,
+            OPTIONS,
+            (
+                "80ae80001d000000002500000000000000084080000000000840240615000102030400",
+                "801180000c22f9b4dc3aeedd9d0180000103019000",
+            ),
+            ("008200000a00000000000000003030", "6300"),
+            (SECOND, "801100000cadefc9167ea681260100020103019000"),
+            SELECT,
+            OPTIONS,
+            (
+                "80ae80001d000000002500000000000000084080000000000840240615000102030400",
+                "801180000d1b14a71e005e6e8e0180020103019000",
+            ),
+            ("008200000a4b5699a498bffae13030", "9000"),
+            (SECOND, "801140000d1f93aa802760c40d0140000003019000"),
+            ("80ca9f1300", "9f1302000d9000"),
         ],
     ),
 ];
