@@ -1,5 +1,5 @@
 -- What one reply makes of a dialogue.
-use Rattle.std.proofs.Common.{◌≡◌, ◌⊎◌, inl, inr, refl, ℕ, Bool, true, false, List, [], ◌∷◌, ◌++◌, Option, Some, None, Result, Ok, Err, if◌then◌else◌}
+use Rattle.std.proofs.Common.{◌≡◌, ◌⊎◌, inl, inr, refl, sym, ap, ◌∙◌, ℕ, Bool, true, false, List, [], ◌∷◌, ◌++◌, Option, Some, None, Result, Ok, Err, if◌then◌else◌}
 use Rattle.std.specs.List.{list_any}
 use Rattle.app_select.specs.Candidates.{CandidateData}
 use Rattle.app_select.specs.Selecting.{SelectedData, selecting}
@@ -15,10 +15,14 @@ use Rattle.emv_dict.specs.declared.ending.Step.TheVariants as step
 use Rattle.emv_dict.specs.declared.judged.Judged.{Judged}
 use Rattle.emv_dict.specs.declared.purchase.AidRow.{AidRow}
 use Rattle.emv_dict.specs.declared.purchase.Logged.{Logged}
+use Rattle.kernel.proofs.Showing.{next_is_told}
 use Rattle.kernel.specs.Course.{Standing, Rest, stands, over, by_progress, settled, card_step, cut_off, host_step}
 use Rattle.kernel.specs.Dialogue.{Trade, all_failed, left_script, scripts_behind, second, scripts_before, authentication, authentication_by, has_authentication, unable_online, kind_unable, reply_read, replied, is_offline_only, first_answered, first, analysis, risk, verification, restrictions, read, granted, initiation, opened, candidates_left, dialogue, decision, kind_for, kind_wanted}
+use Rattle.kernel.specs.Kernel.{KernelData, KernelFits, KernelStands, deal_in, next_of, told_next}
 use Rattle.kernel.specs.Laws.{AsBefore, LeavesBy, IsUnable, HeardBy, Turned, cuts, is_second}
 use Rattle.kernel.specs.Reply.{Reply, CardSaid, CardGone, HostSaid, HostSilent, ToCard, Over}
+use Rattle.kernel.specs.declared.kernel.Next.{Next}
+use Rattle.kernel.specs.declared.kernel.Next.TheVariants as next
 use Rattle.online_step.specs.Authenticate.{authenticated}
 use Rattle.read_records.specs.Options.{Opened}
 use Rattle.script_run.specs.Ran.{template_ran}
@@ -251,3 +255,16 @@ replies_turn deal replies reply = (dialogue_turns deal).1 [] replies reply
 pub uncut_at_first : (deal : Deal) → AsBefore [] (dialogue deal [])
 unfolding dialogue
 uncut_at_first deal = (dialogue_turns deal).0 []
+
+-- a kernel that asks its card, and one that it becomes where the card is gone
+pub gone_leaves : (k k2 : KernelData) (replies : List Reply) → KernelFits k → KernelStands k replies → next_of k ≡ next.ToCard → deal_in k2 ≡ deal_in k
+    → KernelFits k2 → KernelStands k2 (replies ++ CardGone ∷ []) → next_of k2 ≡ next.Ended
+    → LeavesBy (list_any is_second (dialogue (deal_in k) replies).marks) (dialogue (deal_in k) replies).marks (dialogue (deal_in k) (replies ++ CardGone ∷ []))
+gone_leaves k k2 replies fits is waits same fits2 is2 ended =
+    let before : told_next (dialogue (deal_in k) replies) ≡ next.ToCard = sym (next_is_told k replies fits is) ∙ waits in
+    let behind : told_next (dialogue (deal_in k) (replies ++ CardGone ∷ [])) ≡ next.Ended =
+    ap (λ (deal : Deal). told_next (dialogue deal (replies ++ CardGone ∷ []))) (sym same) ∙ sym (next_is_told k2 (replies ++ CardGone ∷ []) fits2 is2) ∙ ended in
+    elim (replies_turn (deal_in k) replies CardGone) [
+      | inl alike ↦ let clash : next.ToCard ≡ next.Ended = sym before ∙ ap told_next (sym alike) ∙ behind in absurd (cc clash)
+      | inr turned ↦ turned
+    ]

@@ -1,15 +1,16 @@
 //! A kernel takes the replies of the card and of the host.
 ghost use Rattle.std.specs.Prelude.{◌≡◌, ◌≤◌, ◌<◌, ◌∷◌, ◌++◌, [], List, Option, Some, None, false, option_map};
-ghost use Rattle.std.specs.List.{All};
+ghost use Rattle.std.specs.List.{All, list_any};
 ghost use Rattle.emv_dict.specs.Settings.{most_amount};
 ghost use Rattle.emv_dict.specs.declared.ending.Ending.TheVariants.{Terminated};
 ghost use Rattle.emv_dict.specs.declared.ending.Step.TheVariants as steps;
 ghost use Rattle.emv_dict.specs.declared.purchase.Logged.{Logged as LoggedRow};
 ghost use Rattle.env_map.specs.Entries.{Entries};
 ghost use Rattle.kernel.specs.Course.{Standing};
-ghost use Rattle.kernel.specs.Dialogue.{restrictions};
+ghost use Rattle.kernel.specs.Dialogue.{dialogue, restrictions};
 ghost use Rattle.kernel.specs.Fits.{OpeningFits, HasReadCard};
 ghost use Rattle.kernel.specs.Kernel.{KernelStands, StageFits, StageGoes, TradingFits, TradingGoes, deal_in, next_of, stage_next, opening_next, trading_next};
+ghost use Rattle.kernel.specs.Laws.{LeavesBy, is_second};
 ghost use Rattle.kernel.specs.Rank.{rank_of, stage_rank, opening_rank, trading_rank, rank_behind};
 ghost use Rattle.kernel.specs.Reading.{IsBeforeReading};
 ghost use Rattle.kernel.specs.Reply.{Reply, CardSaid, CardGone, HostSaid, HostSilent, from_host};
@@ -63,6 +64,10 @@ impl<'s> Kernel<'s> {
         requires waits { next_of self.old ≡ next.ToCard }
         ensures stands { (replies : List Reply) → KernelStands self.old replies
             → KernelStands self.new (replies ++ CardGone ∷ []) }
+        // It is cut off, unless a script behind the second cryptogram runs: then the ending stands.
+        ensures leaves { (replies : List Reply) → KernelStands self.old replies
+            → let now = (dialogue (deal_in self.old) replies).marks in
+            LeavesBy (list_any is_second now) now (dialogue (deal_in self.old) (replies ++ CardGone ∷ [])) }
         ensures deal { deal_in self.new ≡ deal_in self.old }
         ensures nearer { rank_of self.new < rank_of self.old }
         ensures fresh { self.new.is_spent ≡ false }

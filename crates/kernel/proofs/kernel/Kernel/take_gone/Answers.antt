@@ -2,6 +2,7 @@ use Rattle.std.proofs.Common.{◌∙◌, ap}
 use Rattle.kernel.specs.Kernel.{KernelData, next_of}
 use Rattle.kernel.specs.declared.kernel.Next.TheVariants as next
 use Rattle.kernel.specs.Reply.{CardGone}
+use Rattle.kernel.proofs.Turning.{gone_leaves}
 use Rattle.kernel.proofs.Took.{kernel_took, not_spent}
 use Rattle.kernel.proofs.kernel.Kernel.take_gone.Goals as goal
 
@@ -25,3 +26,11 @@ invariant_of-self c = record {
   stage = c.stage_gone-self-inside.ensures.fits c.self.inside.objects c.self.inside.card (rw c.replace-stage.ensures.value c.self.invariant.stage);
   over = λ spent. let fresh = returns-clause-fresh c in cc;
 }
+
+pub returns-clause-leaves : goal.returns-clause-leaves
+returns-clause-leaves c = λ replies is.
+    let i = c.self.inside in
+    let k : KernelData = record { table = i.table; objects = i.objects; card = i.card; stage = i.stage; taken = i.taken; is_spent = i.is_spent } in
+    rw (← c.self.view_is)
+    (gone_leaves k _ replies c.self.invariant (rw (← c.self.view_is) at is) (ap next_of c.self.view_is ∙ c.requires.waits) c.stage_gone-self-inside.ensures.same
+    (invariant_of-self c) (returns-clause-stands c replies is) c.stage_gone-self-inside.ensures.ended)
