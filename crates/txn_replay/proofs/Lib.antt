@@ -30,6 +30,7 @@ pub mod Begins
 pub mod Banking
 pub mod Values
 pub mod Settlements
+pub mod Called
 pub mod Checked
 pub mod Turned
 pub mod Founding
