@@ -21,12 +21,14 @@ abbrev pub ItemsShort : ℕ → Result (List ItemData) TlvFault → Type 0
 ItemsShort most (Ok items) = AllByRecursion (λ item. length item.value ≤ most) items
 ItemsShort most (Err fault) = ⊤
 
-item_at-short : (most : ℕ) (bytes : List ℕ) (place : ℕ) (item : ItemData) (next : ℕ) → length bytes ≤ most → item_at bytes place ≡ Ok (item, next)
-    → (length item.value ≤ most) × (length (take next bytes) ≤ most)
+item_at-short : (most : ℕ) (bytes : List ℕ) (place : ℕ) (item : ItemData) (next : ℕ) → length bytes ≤ most + 2 → item_at bytes place ≡ Ok (item, next)
+    → (length item.value ≤ most) × (length (take next bytes) ≤ most + 2)
 item_at-short most bytes place item next fits stands =
     let lies = item_at-lies bytes place item next stands in
     let whole = lies-length bytes place item next lies in
     let within = lies.within in
+    let header = lies.header in
+    let upward = lies.upward in
     let shorter = length-take-le next bytes within in
     (omega arith, omega arith)
 
@@ -49,7 +51,7 @@ met_object-short most (Ok found) inside behind each =
     (short.0, then_walked-short most (if names_template found.0.tag then inside found else Done) (behind found) within short.2)
 met_object-short most (Err fault) inside behind each = tt
 
-walk_from-short : (most count : ℕ) (bytes : List ℕ) (place : ℕ) → length bytes ≤ most → WalkShort most (walk_from count bytes place)
+walk_from-short : (most count : ℕ) (bytes : List ℕ) (place : ℕ) → length bytes ≤ most + 2 → WalkShort most (walk_from count bytes place)
 unfolding walk_from
 walk_from-short most zero bytes place fits = tt
 walk_from-short most (suc count) bytes place fits =
@@ -62,9 +64,13 @@ walk_from-short most (suc count) bytes place fits =
       walk_from-short most count bytes found.1 fits,
     )))
 
-pub walk_values_short : (most : ℕ) (bytes : List ℕ) → length bytes ≤ most → WalkShort most (walk_of bytes)
+-- each value has two bytes less than the string, or more
+pub walk_values_fit : (most : ℕ) (bytes : List ℕ) → length bytes ≤ most + 2 → WalkShort most (walk_of bytes)
 unfolding walk_behind
-walk_values_short most bytes fits = walk_from-short most (suc (length bytes)) bytes 0 fits
+walk_values_fit most bytes fits = walk_from-short most (suc (length bytes)) bytes 0 fits
+
+pub walk_values_short : (most : ℕ) (bytes : List ℕ) → length bytes ≤ most → WalkShort most (walk_of bytes)
+walk_values_short most bytes fits = walk_values_fit most bytes (omega arith)
 
 then_left-short : (most : ℕ) (item : ItemData) (left : Result (List ItemData) TlvFault) → length item.value ≤ most → ItemsShort most left → ItemsShort most (then_left item left)
 then_left-short most item (Ok items) here rest = (here, rest)
@@ -86,7 +92,7 @@ items_from-short most (suc count) bytes place fits =
     by_byte-short most (slice_get bytes place) _ _
     (items_from-short most count bytes (place + 1) fits)
     (step-short most (item_at bytes place) _ (λ found stands.
-    let short = item_at-short most bytes place found.0 found.1 fits stands in
+    let short = item_at-short most bytes place found.0 found.1 (omega arith) stands in
     then_left-short most found.0 (items_from count bytes found.1) short.0 (items_from-short most count bytes found.1 fits)))
 
 pub item_values_short : (most : ℕ) (bytes : List ℕ) → length bytes ≤ most → ItemsShort most (items_of bytes)

@@ -4,3 +4,4 @@ pub mod Groups
 pub mod Stages
 pub mod Bounds
 pub mod FormLemmas
+pub mod Room

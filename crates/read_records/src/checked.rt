@@ -1,9 +1,11 @@
 //! The objects that a terminal tries once the records are read (EMV 4.3 Book 3 section 7.2, Annex A).
-ghost use Rattle.std.specs.Prelude.{◌≡◌, ◌↔◌, None, map, option_map};
+ghost use Rattle.std.specs.Prelude.{◌≡◌, ◌≤◌, ◌↔◌, ℕ, List, length, None, map, option_map};
+ghost use Rattle.std.specs.List.{AllByRecursion};
 ghost use Rattle.env_map.specs.Entries.{Entries};
 ghost use Rattle.object_lists.specs.Forms.{HasForms, is_day as day_test, is_code_value as code_test, is_two_digits as digits_test, is_object_list as list_test, is_verification_list as verification_test};
 ghost use Rattle.read_records.specs.Checked.{HasOptions, objects_fault, first_wrong, missing_from, form_of, passes_if_there, wrong_cause};
 ghost use Rattle.read_records.specs.Checked as spec;
+ghost use Rattle.read_records.specs.Records.{held_in};
 ghost use Rattle.read_records.specs.SeenRow.{seen_row};
 
 use ber_tlv::Tag;
@@ -73,6 +75,13 @@ pub(crate) fn objects_fault(env: &Env) -> Option<Cause>
 #[tactic(auto, using(crate::proofs::FormLemmas::formed, crate::proofs::FormLemmas::unformed))]
 pub fn forms_are_tried()
     ensures { (entries : Entries) → HasOptions entries → (objects_fault entries ≡ None) ↔ HasForms entries }
+{}
+
+/// That an object list and the list of verification methods have at most 255 bytes is no limit to a card:
+/// no answer has room for more in an object of a record.
+#[tactic(auto, using(crate::proofs::Room::records_short))]
+pub fn records_have_no_room()
+    ensures { (sfi : ℕ) (answer : List ℕ) → AllByRecursion (λ item. length item.value ≤ 254) (held_in sfi answer).objects }
 {}
 
 fn missing_among(tags: &[Tag], env: &Env) -> Option<Cause>
