@@ -347,15 +347,16 @@ fn log_of(alloc: Global, amounts: &str) -> Result<Vec<Logged>, Difference>
 /// The word with this number, counted from 0, of those between `/`, the last one where there are fewer.
 fn own(words: &str, number: usize) -> &str {
     let mut left = number;
-    let mut own = "";
     for word in words.split("/") {
-        own = word;
         if left == 0 {
-            return own;
+            return word;
         }
         left -= 1;
     }
-    own
+    match words.rsplit_once('/') {
+        Some((_, last)) => last,
+        None => words,
+    }
 }
 
 /// The digits of a decimal text.
