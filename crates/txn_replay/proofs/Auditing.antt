@@ -1,20 +1,23 @@
 -- The steps of an audit: each is of one of the scenario's cards, and its commands decide nothing.
-use Rattle.std.proofs.Common.{◌≡◌, ℕ, zero, suc, ◌+◌, List, [], ◌∷◌, slice_get, Option, Some, None, refl, subst, inl, inr, arith}
+use Rattle.std.proofs.Common.{◌≡◌, ℕ, false, zero, suc, ◌+◌, List, [], ◌∷◌, slice_get, Option, Some, None, refl, subst, inl, inr, arith}
 use Rattle.std.specs.List.{flat_map}
 use Rattle.std.proofs.lemmas.Option.{same_Some}
 use Rattle.app_select.specs.Said.{select_command}
+use Rattle.apdu_core.specs.Command.{command_of}
 use Rattle.card_files.specs.Views.{AppData}
 use Rattle.risk_mgmt.specs.Counters.{counter_tag, last_online_tag, get_data}
 use Rattle.scenario.specs.Cards.{CardData}
 use Rattle.scenario.specs.Plan.{ScenarioData}
+use Rattle.txn_replay.specs.Changes.{is_generate}
 use Rattle.txn_replay.specs.Steps.{Check, PowersUp, Asks, app_checks, checks_for, card_checks, checks_from, checks}
 use Rattle.txn_replay.proofs.Lists.{append_at}
-use Rattle.txn_replay.proofs.Deciding.{Idles, select_idles, data_idles}
+use Rattle.txn_replay.proofs.Deciding.{Idles, select_idles, data_idles, select_plain, data_plain}
 
--- this check is of the card of this number among these, and where it asks a command, that one decides nothing
+-- this check is of the card of this number among these, and where it asks a command, that one decides nothing and is no
+-- GENERATE AC
 abbrev pub IsCheckOf : ℕ → CardData → Check → Type 0
 IsCheckOf i card (PowersUp j other) = (j ≡ i) × (other ≡ card)
-IsCheckOf i card (Asks j other command) = (j ≡ i) × (other ≡ card) × Idles command
+IsCheckOf i card (Asks j other command) = (j ≡ i) × (other ≡ card) × Idles command × (is_generate (command_of command) ≡ false)
 
 pub record IsChecked (cards : List CardData) (n : ℕ) (check : Check) : Type 0 where
   pub place : ℕ
@@ -26,11 +29,11 @@ asked_of : (i : ℕ) (card : CardData) (apps : List AppData) (k : ℕ) (check : 
     → IsCheckOf i card check
 asked_of i card [] k check here = cc
 asked_of i card (app ∷ apps) zero check here =
-    subst (λ (c : Check). IsCheckOf i card c) (same_Some (Asks i card (select_command 0 app.name)) check here) (refl, refl, select_idles app.name)
+    subst (λ (c : Check). IsCheckOf i card c) (same_Some (Asks i card (select_command 0 app.name)) check here) (refl, refl, select_idles app.name, select_plain app.name)
 asked_of i card (app ∷ apps) (suc zero) check here =
-    subst (λ (c : Check). IsCheckOf i card c) (same_Some (Asks i card (get_data counter_tag)) check here) (refl, refl, data_idles counter_tag)
+    subst (λ (c : Check). IsCheckOf i card c) (same_Some (Asks i card (get_data counter_tag)) check here) (refl, refl, data_idles counter_tag, data_plain counter_tag)
 asked_of i card (app ∷ apps) (suc (suc zero)) check here =
-    subst (λ (c : Check). IsCheckOf i card c) (same_Some (Asks i card (get_data last_online_tag)) check here) (refl, refl, data_idles last_online_tag)
+    subst (λ (c : Check). IsCheckOf i card c) (same_Some (Asks i card (get_data last_online_tag)) check here) (refl, refl, data_idles last_online_tag, data_plain last_online_tag)
 asked_of i card (app ∷ apps) (suc (suc (suc k))) check here = asked_of i card apps k check here
 
 pub card_check_of : (i : ℕ) (card : CardData) (k : ℕ) (check : Check) → slice_get (card_checks i card) k ≡ Some check → IsCheckOf i card check

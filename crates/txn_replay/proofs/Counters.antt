@@ -1,5 +1,5 @@
 -- The transaction counter of an application grows with the card's decisions, by one with each transaction that starts.
-use Rattle.std.proofs.Common.{◌≡◌, ℕ, zero, suc, ◌+◌, ◌≤◌, cond, List, [], ◌∷◌, ◌++◌, map, slice_get, Option, Some, None, refl, ap, ◌∙◌, arith}
+use Rattle.std.proofs.Common.{◌≡◌, ℕ, zero, suc, ◌+◌, ◌≤◌, cond, List, [], ◌∷◌, ◌++◌, map, slice_get, Option, Some, None, false, refl, sym, ap, ◌∙◌, arith}
 use Rattle.std.specs.Prelude.{◌==◌, option_map}
 use Rattle.std.specs.List.{filter, count_by}
 use Rattle.std.proofs.lemmas.Bool.{eq-eqb}
@@ -82,3 +82,25 @@ counter_raised image ds app a there =
     let split : starts app (ds ++ new) ≡ starts app ds + starts app new = starts-append app ds new in
     let one : starts app new ≡ 1 = one_start app in
     omega arith
+
+-- a decision that starts no transaction leaves it
+pub counter_stays : (image : List AppData) (ds : List Decided) (app : ℕ) (decision : Decision) → is_start decision ≡ false
+    → counter_of image (ds ++ record { app = app; decision = decision } ∷ []) app ≡ counter_of image ds app
+unfolding own_decisions
+counter_stays image ds app decision none =
+    counter_is image (ds ++ new) app ∙ by_app (slice_get image app) ∙ sym (counter_is image ds app)
+  where
+    new : List Decided
+    new = record { app = app; decision = decision } ∷ []
+
+    no_start : starts app new ≡ 0
+    no_start = rw (eq-eqb app app refl, none) refl
+
+    by_app : (o : Option AppData) → counter_by o app (ds ++ new) ≡ counter_by o app ds
+    by_app None = refl
+    by_app (Some a) = let split : starts app (ds ++ new) ≡ starts app ds + starts app new = starts-append app ds new in let zero_more : starts app new ≡ 0 = no_start in omega arith
+
+pub counter_here : (image : List AppData) (ds : List Decided) (app : ℕ) (s : AppState) → slice_get (totals (opening_of image) ds).apps.items app ≡ Some s
+    → counter_of image ds app ≡ s.counter
+unfolding counter_of
+counter_here image ds app s here = ap counter_in here

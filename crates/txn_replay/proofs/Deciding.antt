@@ -26,7 +26,7 @@ use Rattle.card_state.specs.declared.state.AppState.{AppState}
 use Rattle.card_state.specs.declared.state.CardState.{CardState}
 use Rattle.emv_dict.specs.declared.ending.Kind.{Kind}
 use Rattle.risk_mgmt.specs.Counters.{get_data}
-use Rattle.txn_replay.specs.Changes.{is_good, counter_of}
+use Rattle.txn_replay.specs.Changes.{is_good, is_generate, counter_of}
 use Rattle.txn_replay.proofs.Counters.{counter_raised}
 
 -- Commands that decide nothing.
@@ -85,6 +85,20 @@ data_idles tag image ds session =
     data_new image (totals (opening_of image) ds) (phase_of image session)
     (record { class = 0x80; ins = 0xCA; p1 = tag / 256; p2 = tag % 256; body = []; expects = Some 0 })
 
+-- Neither is a GENERATE AC.
+pub select_plain : (name : List ℕ) → is_generate (command_of (select_command 0 name)) ≡ false
+unfolding command_of
+select_plain name = by_tail (tail_of (tail_bytes name (Some 0)))
+  where
+    by_tail : (o : Option (List ℕ × Option ℕ))
+        → is_generate (option_map (λ t. record { class = 0; ins = 0xA4; p1 = 4; p2 = 0; body = t.0; expects = t.1 }) o) ≡ false
+    by_tail None = refl
+    by_tail (Some t) = refl
+
+pub data_plain : (tag : ℕ) → is_generate (command_of (get_data tag)) ≡ false
+unfolding command_of get_data
+data_plain tag = refl
+
 -- A refusal isn't the status 9000.
 read_back : (status : ℕ) → response_of (response_bytes [] status) ≡ Some (record { body = []; status = status })
 unfolding response_of
@@ -93,7 +107,7 @@ read_back status = let same : status / 256 * 256 + status % 256 ≡ status = ome
 abbrev pub IsGood : ReplyData → Type 0
 IsGood reply = is_good (response_of (response_bytes reply.body reply.status)) ≡ true
 
-refused_bad : (status : ℕ) → (status ≡ 0x9000 → ⊥) → IsGood (refused status) → ⊥
+pub refused_bad : (status : ℕ) → (status ≡ 0x9000 → ⊥) → IsGood (refused status) → ⊥
 refused_bad status other good = other (eqb-true status 0x9000 (ap is_good (sym (read_back status)) ∙ good))
 
 -- A test of another instruction is passed over.
@@ -102,7 +116,7 @@ skip true x y = refl
 skip false x y = refl
 
 module _ (image : List AppData) (state : CardState) where
-  generate_is : (phase : Phase) (c : CommandData) → c.class ≡ 0x80 → c.ins ≡ 0xAE → row image state phase c ≡ generate_row image state phase c
+  pub generate_is : (phase : Phase) (c : CommandData) → c.class ≡ 0x80 → c.ins ≡ 0xAE → row image state phase c ≡ generate_row image state phase c
   unfolding instruction_row
   generate_is phase c class ins = rw (class, ins) refl
 

@@ -115,3 +115,19 @@ module _ (P : List AppData → CardRow → Type 0) (closed : Closed P) (s : Scen
 
   pub reached_holds : (place : Place) (n : ℕ) (choices : List Bool) (lines : List Line) (w : World) → Reached s place n choices lines w → AllHold P s w
   reached_holds = reached_keeps s (AllHold P s) first_holds event_holds
+
+-- each event leads from a sound world to a sound one
+pub event_sound : (s : ScenarioData) (w : World) (e : Event) (choice : Bool) → IsSound s w → IsSound s (happens s w e choice).world
+event_sound s w (Turn l) choice sound = turn_sound s w l choice sound
+event_sound s w (Settle k) choice sound = by (slice_get (settlements s w) k)
+  where
+    by : (o : Option Settlement) → IsSound s (settles s w o).world
+    by None = sound
+    by (Some at) = messages_sound s w _ sound
+event_sound s w (Audit k) choice sound = by (slice_get (checks s) k)
+  where
+    by : (o : Option Check) → IsSound s (audits w choice o).world
+    by None = sound
+    by (Some (PowersUp i card)) = card_sound s w i (powered (card_at w i) (found_of (card_at w i).kept (card_at w i).pending choice) (card_at w i).holder) refl sound
+    by (Some (Asks i card command)) =
+        card_sound s w i (exchanged card.image (card_at w i) command (card_answer card.image (card_at w i).kept (card_at w i).session command)) refl sound

@@ -38,4 +38,11 @@ pub mod Following
 pub mod Pieces
 pub mod Done
 pub mod Fairness
+pub mod Exchanging
+pub mod Rows
+pub mod Gives
+pub mod Sureness
+pub mod Lining
+pub mod Hearing
+pub mod Lost
 mod Worked

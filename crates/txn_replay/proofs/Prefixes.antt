@@ -31,7 +31,7 @@ pub record IsKept (image : List AppData) (card : CardRow) : Type 0 where
   pub prefix : Prefix card.acts
   pub traced : IsTraced (taken_in card.acts) card.kept card.pending card.holder
 
-taken-push : (acts : List Act) (act : Act) → taken_in (acts ++ act ∷ []) ≡ taken_next (taken_in acts) act
+pub taken-push : (acts : List Act) (act : Act) → taken_in (acts ++ act ∷ []) ≡ taken_next (taken_in acts) act
 unfolding taken_in
 taken-push acts act = fold_push taken_next none_taken acts act
 

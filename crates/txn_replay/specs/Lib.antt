@@ -9,6 +9,8 @@ pub mod Reading
 pub mod Counting
 pub mod Sound
 pub mod Laws
+pub mod Telling
+pub mod Told
 pub mod Bounds
 pub mod Standing
 pub mod Audited

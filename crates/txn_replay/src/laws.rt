@@ -1,6 +1,8 @@
 //! Laws over every run, whatever its scenario.
 ghost use Rattle.txn_replay.specs.Bounds.{WorldsAreFew, SettlementsAreFew, ChecksAreFew};
 ghost use Rattle.txn_replay.specs.Laws.{RunsAreFair, WholeRunsAreFair, WorldsAreSound, IdleLanesStay, LanesStayApart, LossesAreTold, StuckIsOver, CalmIsOver};
+ghost use Rattle.txn_replay.specs.Telling.{GivenIsTold, GivenIsLeft, HeldIsSure, AnsweredIsSure};
+ghost use Rattle.txn_replay.specs.Told.{RunsTellLosses, RunsTellReplies, PastsEnd};
 
 use host_histories::transactions_are_booked_once;
 
@@ -33,4 +35,28 @@ pub fn runs_end()
     ensures few { WorldsAreFew }
     ensures settlements { SettlementsAreFew }
     ensures checks { ChecksAreFew }
+{}
+
+/// A GENERATE AC that a card answers 9000 adds one row to those of its cryptograms, with the purchase that has
+/// the card and the counter that the answer holds; nothing else adds one. While a purchase has a card, and
+/// behind each answer, an answer rests on every decision that the card has kept.
+pub fn cards_are_told()
+    ensures given { GivenIsTold }
+    ensures left { GivenIsLeft }
+    ensures held { HeldIsSure }
+    ensures answered { AnsweredIsSure }
+{}
+
+/// The lines of a lane between a power line and an end line are the replies of that purchase, and those behind
+/// the last power line are the replies of the one that runs. The end line tells the end record of the dialogue
+/// over these replies.
+pub fn replies_are_told()
+    ensures replies { RunsTellReplies }
+    ensures ends { PastsEnd }
+{}
+
+/// Each card has lost its power as often as the lines tell: a `torn` line is of the card in its lane's last power
+/// line.
+pub fn losses_are_told()
+    ensures { RunsTellLosses }
 {}

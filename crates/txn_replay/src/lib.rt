@@ -15,6 +15,8 @@ mod slot;
 pub mod world;
 
 pub use event::Event;
-pub use laws::{lanes_are_sound, runs_are_fair, runs_end};
+pub use laws::{
+    cards_are_told, lanes_are_sound, losses_are_told, replies_are_told, runs_are_fair, runs_end,
+};
 pub use lines::Lines;
 pub use world::{NoWorld, World};

@@ -1,0 +1,190 @@
+-- A card's rows grow by those of the cryptograms that the lines of an exchange tell.
+use Rattle.std.proofs.Common.{◌≡◌, ℕ, ◌+◌, ◌<◌, ◌&&◌, Bool, true, false, if◌then◌else◌, List, [], ◌∷◌, ◌++◌, length, slice_get, Option, Some, None, refl, sym, ap, ◌∙◌, subst, arith, append-nil}
+use Rattle.std.proofs.lemmas.Bool.{and_parts}
+use Rattle.std.proofs.lemmas.List.{get_or-set_same}
+use Rattle.std.proofs.lemmas.Option.{slice_get_within}
+use Rattle.apdu_core.specs.Command.{command_of}
+use Rattle.apdu_core.specs.Response.{response_of}
+use Rattle.card_app.specs.Answering.{card_answer}
+use Rattle.card_app.specs.Session.{phase_of}
+use Rattle.card_cryptogram.specs.Phases.{current}
+use Rattle.card_pages.specs.Pages.{found_of}
+use Rattle.card_pages.specs.Replies.{CardAnswer}
+use Rattle.kernel.specs.Ended.{EndData}
+use Rattle.kernel.specs.Reply.{Reply}
+use Rattle.report_text.specs.declared.line.Line.{Line}
+use Rattle.txn_replay.specs.Changes.{is_generate, is_good, given_for, given_by, powered, exchanged, told_once, freed}
+use Rattle.txn_replay.specs.Lines.{answer_lines, host_lines, end_line}
+use Rattle.txn_replay.specs.Part.{Part, piece}
+use Rattle.txn_replay.specs.Payment.{Payment}
+use Rattle.txn_replay.specs.Sound.{holder_in}
+use Rattle.txn_replay.specs.Steps.{After, Check, PowersUp, Asks, Settlement, part_of, moved, turned_by, settlements, settles, checks, audits, with_card, happens}
+use Rattle.txn_replay.specs.Telling.{command_told, cryptogram_told, cryptograms_behind, cryptograms_told, AreRows, given_in, Gives, GivenIsTold, GivenIsLeft}
+use Rattle.txn_replay.specs.World.{Holder, Given, CardRow, new_card, card_at, lane_at}
+use Rattle.txn_replay.specs.declared.event.Event.TheVariants.{Turn}
+use Rattle.txn_replay.proofs.Auditing.{IsChecked, check_facts}
+use Rattle.txn_replay.proofs.Exchanging.{Tells, piece_tells}
+use Rattle.txn_replay.proofs.Lists.{at_set}
+use Rattle.txn_replay.proofs.Moves.{this_one}
+use Rattle.txn_replay.proofs.Payments.{payment_facts}
+use Rattle.txn_replay.proofs.Rows.{OneRow, one_row}
+use Rattle.txn_replay.proofs.Sounding.{has_card}
+
+-- an end line tells none
+end_untold : (command : Option (List ℕ)) (lines : List Line) (lane number : ℕ) (end : EndData)
+    → cryptograms_behind command (lines ++ end_line lane number end ∷ []) ≡ cryptograms_behind command lines
+unfolding cryptograms_behind
+end_untold None [] lane number end = refl
+end_untold (Some command) [] lane number end = refl
+end_untold command (line ∷ lines) lane number end =
+    ap (λ (xs : List (List ℕ)). cryptogram_told command line ++ xs) (end_untold (command_told line) lines lane number end)
+
+module _ (p : Payment) (part : Part) (h : Holder) where
+  abbrev Came : List Reply → CardRow → List (List ℕ) → List Line → Type 0
+  Came replies card messages lines = Gives p h part.card card lines
+
+  abbrev Behind : Part → List Line → Type 0
+  Behind after lines = Gives p h part.card after.card lines
+
+  none : (card : CardRow) (lines : List Line) → card.given ≡ part.card.given → cryptograms_told lines ≡ [] → Gives p h part.card card lines
+  none card lines same untold = record {
+    rows = [];
+    grown = same ∙ sym (append-nil part.card.given);
+    are = subst (λ (xs : List (List ℕ)). AreRows p.card.image h [] xs) (sym (by_kind p.card.canned)) tt;
+  }
+    where
+      by_kind : (o : Option (List (List ℕ))) → given_in o lines ≡ []
+      by_kind None = untold
+      by_kind (Some answers) = refl
+
+  ended : (card : CardRow) (lines : List Line) (number : ℕ) (end : EndData) → Gives p h part.card card lines
+      → Gives p h part.card (freed card) (lines ++ end_line p.lane number end ∷ [])
+  ended card lines number end gives = record {
+    rows = gives.rows;
+    grown = gives.grown;
+    are = subst (λ (xs : List (List ℕ)). AreRows p.card.image h gives.rows xs) (sym (by_kind p.card.canned)) gives.are;
+  }
+    where
+      by_kind : (o : Option (List (List ℕ))) → given_in o (lines ++ end_line p.lane number end ∷ []) ≡ given_in o lines
+      by_kind None = end_untold None lines p.lane number end
+      by_kind (Some answers) = refl
+
+  -- the rows of an answer
+  record Grows (command : List ℕ) (said : CardAnswer) (test : Bool) : Type 0 where
+    pub rows : List Given
+    pub is : (if test then given_for p.card.image (part.card.kept ++ said.new) (current (phase_of p.card.image part.card.session)) part.card.holder else []) ≡ rows
+    pub are : AreRows p.card.image h rows (if test then said.answer ∷ [] else [])
+
+  abbrev said_to : List ℕ → CardAnswer
+  said_to command = card_answer p.card.image part.card.kept part.card.session command
+
+  grows : part.card.holder ≡ Some h → (command : List ℕ) (test : Bool)
+      → (is_generate (command_of command) && is_good (response_of (said_to command).answer)) ≡ test → Grows command (said_to command) test
+  grows has command true is =
+      let tests = and_parts (is_generate (command_of command)) (is_good (response_of (said_to command).answer)) is in
+      let one : OneRow p.card.image (part.card.kept ++ (said_to command).new) (current (phase_of p.card.image part.card.session)) h (said_to command).answer =
+      one_row p.card.image part.card.kept h part.card.session command tests.0 tests.1 in
+      record {
+        rows = one.given ∷ [];
+        is =
+            ap (λ (o : Option Holder). given_for p.card.image (part.card.kept ++ (said_to command).new) (current (phase_of p.card.image part.card.session)) o) has
+            ∙ one.is;
+        are = (one.told, tt);
+      }
+  grows has command false is = record { rows = []; is = refl; are = tt }
+
+  answer_told : (command answer : List ℕ) (lane : ℕ)
+      → cryptograms_told (answer_lines lane command answer) ≡ (if is_generate (command_of command) && is_good (response_of answer) then answer ∷ [] else [])
+  unfolding cryptograms_behind
+  answer_told command answer lane = append-nil _
+
+  answer_gives : part.card.holder ≡ Some h → p.card.canned ≡ None → (command : List ℕ)
+      → Gives p h part.card (exchanged p.card.image part.card command (said_to command)) (answer_lines p.lane command (said_to command).answer)
+  answer_gives has apps command =
+      let one : Grows command (said_to command) (is_generate (command_of command) && is_good (response_of (said_to command).answer)) =
+      grows has command _ refl in
+      record {
+        rows = one.rows;
+        grown = ap (λ (xs : List Given). part.card.given ++ xs) one.is;
+        are =
+            subst (λ (xs : List (List ℕ)). AreRows p.card.image h one.rows xs)
+            (sym (ap (λ (o : Option (List (List ℕ))). given_in o (answer_lines p.lane command (said_to command).answer)) apps
+            ∙ answer_told command (said_to command).answer p.lane))
+            one.are;
+      }
+
+  -- a canned answer gives none
+  canned_gives : (answers : List (List ℕ)) → p.card.canned ≡ Some answers → (lines : List Line) → Gives p h part.card (told_once part.card) lines
+  canned_gives answers canned lines = record {
+    rows = [];
+    grown = sym (append-nil part.card.given);
+    are = subst (λ (o : Option (List (List ℕ))). AreRows p.card.image h [] (given_in o lines)) (sym canned) tt;
+  }
+
+  host_untold : (message : List ℕ) (reply : Option (List ℕ)) → cryptograms_told (host_lines p.lane message reply) ≡ []
+  unfolding cryptograms_behind
+  host_untold message None = refl
+  host_untold message (Some reply) = refl
+
+  gives_told : ((replies : List Reply) → part.lane.running ≡ Some replies → part.card.holder ≡ Some h) → Tells p part Came Behind
+  unfolding cryptograms_behind
+  gives_told has = record {
+    still = none part.card [] refl refl;
+    goes = λ replies card messages lines came. came;
+    ends = λ replies card messages lines came end is. ended card lines (length part.lane.ended + 1) end came;
+    powers = λ free apps choice. none _ _ refl refl;
+    power_cut = λ free. none _ _ refl refl;
+    powers_canned = λ free. none _ _ refl refl;
+    answers = λ replies runs apps command. answer_gives (has replies runs) apps command;
+    cuts = λ replies runs command cut. none _ _ refl refl;
+    tells = λ replies runs answers canned command answer. canned_gives answers canned _;
+    gone = λ replies runs command. none _ _ refl refl;
+    hosts = λ replies runs message reply. none _ _ refl (host_untold message reply);
+  }
+
+pub given_told : GivenIsTold
+given_told s w l choice p sound is =
+    let within : p.planned.card < length w.cards =
+    (let card : p.planned.card < length s.cards = slice_get_within s.cards p.planned.card p.card (payment_facts s l _ p is).card in
+    let count : length w.cards ≡ length s.cards = sound.card_count in omega arith) in
+    let part : Part = part_of w l p.planned.card in
+    let is_so : happens s w (Turn l) choice ≡ moved w l p.planned.card (piece p part choice) = ap (λ (o : Option Payment). turned_by w l choice o) is in
+    let here : card_at (moved w l p.planned.card (piece p part choice)).world p.planned.card ≡ (piece p part choice).part.card =
+    get_or-set_same w.cards p.planned.card (piece p part choice).part.card new_card within in
+    let one : Gives p (this_one p part) (card_at w p.planned.card) (piece p part choice).part.card (piece p part choice).lines =
+    piece_tells p part (Came p part (this_one p part)) (Behind p part (this_one p part)) (gives_told p part (this_one p part) (has_card s w l p sound is)) choice in
+    let lane : p.lane ≡ l = (payment_facts s l (length (lane_at w l).ended) p is).lane in
+    subst (λ (x : After). Gives p (holder_in w l) (card_at w p.planned.card) (card_at x.world p.planned.card) x.lines) (sym is_so)
+    (subst (λ (card : CardRow). Gives p (holder_in w l) (card_at w p.planned.card) card (piece p part choice).lines) (sym here)
+    (subst (λ k. Gives p (record { lane = k; number = length (lane_at w l).ended }) (card_at w p.planned.card) (piece p part choice).part.card (piece p part choice).lines) lane one))
+
+pub given_left : GivenIsLeft
+given_left s w k choice = record {
+  settle = λ i. settle_left i (slice_get (settlements s w) k);
+  audit = λ i. audit_left i (slice_get (checks s) k) (check_facts s k);
+}
+  where
+    settle_left : (i : ℕ) (o : Option Settlement) → (card_at (settles s w o).world i).given ≡ (card_at w i).given
+    settle_left i None = refl
+    settle_left i (Some at) = refl
+
+    with_left : (i j : ℕ) (card : CardRow) → card.given ≡ (card_at w j).given → (card_at (with_card w j card) i).given ≡ (card_at w i).given
+    with_left i j card same = at_set (λ (n : ℕ) (x : CardRow). x.given ≡ (card_at w n).given) w.cards j card new_card same (λ n. refl) i
+
+    audit_left : (i : ℕ) (o : Option Check) → ((check : Check) → o ≡ Some check → IsChecked s.cards 0 check)
+        → (card_at (audits w choice o).world i).given ≡ (card_at w i).given
+    audit_left i None checked = refl
+    audit_left i (Some (PowersUp j card)) checked =
+        with_left i j (powered (card_at w j) (found_of (card_at w j).kept (card_at w j).pending choice) (card_at w j).holder) refl
+    audit_left i (Some (Asks j card command)) checked =
+        with_left i j (exchanged card.image (card_at w j) command said)
+        (ap (λ (xs : List Given). (card_at w j).given ++ xs) plain ∙ append-nil (card_at w j).given)
+      where
+        said : CardAnswer
+        said = card_answer card.image (card_at w j).kept (card_at w j).session command
+
+        plain : given_by card.image (card_at w j) command said ≡ []
+        plain =
+            ap (λ b. if b && is_good (response_of said.answer)
+            then given_for card.image ((card_at w j).kept ++ said.new) (current (phase_of card.image (card_at w j).session)) (card_at w j).holder else [])
+            (checked (Asks j card command) refl).of_it.3

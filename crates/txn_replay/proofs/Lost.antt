@@ -1,0 +1,368 @@
+-- A card has lost its power as often as the lines of a run tell.
+use Rattle.std.proofs.Common.{◌≡◌, ◌≢◌, ℕ, ◌⊎◌, ◌+◌, ◌≤◌, ◌<◌, cond, Bool, true, false, if◌then◌else◌, List, [], ◌∷◌, ◌++◌, length, slice_get, Option, Some, None, refl, sym, ap, ◌∙◌, inl, inr, arith, append-nil}
+use Rattle.std.specs.Prelude.{◌==◌, ◌||◌}
+use Rattle.std.specs.List.{AllPairs, count_by, list_any}
+use Rattle.std.specs.Str.{bytes_eq}
+use Rattle.std.proofs.lemmas.Bool.{eqb-true, eq-eqb, cases_eq, cases_lt}
+use Rattle.std.proofs.lemmas.List.{append_assoc, get_or-set_other}
+use Rattle.std.proofs.lemmas.List.Sums.{fold_push, sum_by-append}
+use Rattle.std.proofs.lemmas.Option.{same_Some, slice_get_within, get_or_from_slice_get}
+use Rattle.std.proofs.lemmas.Slice.Eq.{bytes_eq-Decides}
+use Rattle.kernel.specs.Ended.{EndData}
+use Rattle.kernel.specs.Reply.{Reply}
+use Rattle.report_text.specs.declared.line.Line.{Line}
+use Rattle.report_text.specs.declared.line.Line.TheVariants.{Power, PowerCanned, PowerTorn, ToCard, Torn}
+use Rattle.scenario.specs.Cards.{CardData}
+use Rattle.scenario.specs.Plan.{ScenarioData, IsScenario}
+use Rattle.txn_replay.specs.Changes.{lost}
+use Rattle.txn_replay.specs.Laws.{is_torn}
+use Rattle.txn_replay.specs.Lines.{torn_lines, host_lines, end_line}
+use Rattle.txn_replay.specs.Part.{Part, Moved, piece}
+use Rattle.txn_replay.specs.Payment.{Payment, payment_in, next_of}
+use Rattle.txn_replay.specs.Sound.{IsSound}
+use Rattle.txn_replay.specs.Steps.{Check, PowersUp, Asks, Settlement, settlements, settles, checks, audits, with_card, part_of, turned_by, happens}
+use Rattle.txn_replay.specs.Told.{card_next, card_told, is_loss_of, losses_behind, losses_told, HasLosses, RunsTellLosses}
+use Rattle.txn_replay.specs.World.{CardRow, LaneRow, World, new_card, new_lane, first_world, card_at, lane_at}
+use Rattle.txn_replay.specs.declared.event.Event.{Event}
+use Rattle.txn_replay.specs.declared.event.Event.TheVariants.{Turn, Settle, Audit}
+use Rattle.txn_replay.proofs.Exchanging.{Tells, piece_tells}
+use Rattle.txn_replay.proofs.Folding.{event_sound}
+use Rattle.txn_replay.proofs.Lining.{reached_lines, lane_behind, card_behind}
+use Rattle.txn_replay.proofs.Lists.{at_set, get_or-map_const}
+use Rattle.txn_replay.proofs.Losses.{piece_told}
+use Rattle.txn_replay.proofs.Payments.{payment_facts}
+use Rattle.txn_replay.proofs.Sounding.{first_sound}
+
+card-push : (l : ℕ) (before : List Line) (line : Line) → card_told l (before ++ line ∷ []) ≡ card_next l (card_told l before) line
+unfolding card_told
+card-push l before line = fold_push (card_next l) [] before line
+
+losses-append : (name : List ℕ) (before xs ys : List Line) → losses_behind name before (xs ++ ys) ≡ losses_behind name before xs + losses_behind name (before ++ xs) ys
+unfolding losses_behind
+losses-append name before [] ys =
+    let none : losses_behind name before ys ≡ 0 + losses_behind name before ys = omega arith in
+    none ∙ ap (λ (ls : List Line). 0 + losses_behind name ls ys) (sym (append-nil before))
+losses-append name before (x ∷ xs) ys =
+    let one : ℕ = (if is_loss_of name before x then 1 else 0) in
+    let rest : losses_behind name (before ++ x ∷ []) (xs ++ ys) ≡ losses_behind name (before ++ x ∷ []) xs + losses_behind name ((before ++ x ∷ []) ++ xs) ys = losses-append name (before ++ x ∷ []) xs ys in
+    let same : losses_behind name ((before ++ x ∷ []) ++ xs) ys ≡ losses_behind name (before ++ x ∷ xs) ys = ap (λ (ls : List Line). losses_behind name ls ys) (append_assoc before (x ∷ []) xs) in
+    let both : losses_behind name (before ++ x ∷ []) (xs ++ ys) ≡ losses_behind name (before ++ x ∷ []) xs + losses_behind name (before ++ x ∷ xs) ys = rest ∙ ap (λ n. losses_behind name (before ++ x ∷ []) xs + n) same in
+    omega arith
+
+-- a line that tells a loss or a power-up
+abbrev pub tells_power : Line → Bool
+tells_power (Power lane card apps) = true
+tells_power (PowerCanned lane card) = true
+tells_power (PowerTorn lane card) = true
+tells_power (Torn lane) = true
+tells_power other = false
+
+abbrev pub AreQuiet : List Line → Type 0
+AreQuiet lines = list_any tells_power lines ≡ false
+
+-- any other line tells none
+record IsQuiet (line : Line) : Type 0 where
+  pub loss : (name : List ℕ) (before : List Line) → is_loss_of name before line ≡ false
+  pub torn : is_torn line ≡ false
+  pub card : (l : ℕ) (name : List ℕ) → card_next l name line ≡ name
+
+quiet_line : (line : Line) → tells_power line ≡ false → IsQuiet line
+quiet_line (Power lane card apps) quiet = cc
+quiet_line (PowerCanned lane card) quiet = cc
+quiet_line (PowerTorn lane card) quiet = cc
+quiet_line (Torn lane) quiet = cc
+quiet_line other quiet = record { loss = λ name before. refl; torn = refl; card = λ l name. refl }
+
+quiet_parts : (line : Line) (lines : List Line) → AreQuiet (line ∷ lines) → IsQuiet line × AreQuiet lines
+quiet_parts line lines quiet = by (tells_power line) refl quiet
+  where
+    by : (b : Bool) → tells_power line ≡ b → (b || list_any tells_power lines) ≡ false → IsQuiet line × AreQuiet lines
+    by true is none = cc
+    by false is none = (quiet_line line is, none)
+
+pub quiet_losses : (name : List ℕ) (before lines : List Line) → AreQuiet lines → losses_behind name before lines ≡ 0
+unfolding losses_behind
+quiet_losses name before [] quiet = refl
+quiet_losses name before (line ∷ lines) quiet =
+    let parts = quiet_parts line lines quiet in
+    ap (λ b. (if b then 1 else 0) + losses_behind name (before ++ line ∷ []) lines) (parts.0.loss name before)
+    ∙ ap (λ n. 0 + n) (quiet_losses name (before ++ line ∷ []) lines parts.1)
+
+pub quiet_card : (l : ℕ) (before lines : List Line) → AreQuiet lines → card_told l (before ++ lines) ≡ card_told l before
+quiet_card l before [] quiet = ap (card_told l) (append-nil before)
+quiet_card l before (line ∷ lines) quiet =
+    let parts = quiet_parts line lines quiet in
+    ap (card_told l) (sym (append_assoc before (line ∷ []) lines))
+    ∙ quiet_card l (before ++ line ∷ []) lines parts.1
+    ∙ card-push l before line
+    ∙ parts.0.card l (card_told l before)
+
+quiet_torn : (lines : List Line) → AreQuiet lines → count_by is_torn lines ≡ 0
+quiet_torn [] quiet = refl
+quiet_torn (line ∷ lines) quiet = let parts = quiet_parts line lines quiet in rw parts.0.torn (quiet_torn lines parts.1)
+
+apart : (k l : ℕ) → k ≢ l → (l == k) ≡ false
+apart k l other = by (l == k) refl
+  where
+    by : (b : Bool) → (l == k) ≡ b → b ≡ false
+    by true is = absurd (other (sym (eqb-true l k is)))
+    by false is = refl
+
+module _ (p : Payment) (part : Part) (before : List Line) (known : (replies : List Reply) → part.lane.running ≡ Some replies → card_told p.lane before ≡ p.card.name) where
+  -- these are losses of the purchase's card alone
+  abbrev Own : List Line → Type 0
+  Own lines = (name : List ℕ) → losses_behind name before lines ≡ (if bytes_eq p.card.name name then count_by is_torn lines else 0)
+
+  abbrev Others : List Line → Type 0
+  Others lines = (k : ℕ) → k ≢ p.lane → card_told k (before ++ lines) ≡ card_told k before
+
+  pub record Came (replies : List Reply) (card : CardRow) (messages : List (List ℕ)) (lines : List Line) : Type 0 where
+    pub own : Own lines
+    pub others : Others lines
+    pub card_is : card_told p.lane (before ++ lines) ≡ p.card.name
+
+  pub record Behind (after : Part) (lines : List Line) : Type 0 where
+    pub own : Own lines
+    pub others : Others lines
+    pub card_is : (replies : List Reply) → after.lane.running ≡ Some replies
+        → (card_told p.lane (before ++ lines) ≡ p.card.name) × (length after.lane.ended ≡ length part.lane.ended)
+
+  none_own : (lines : List Line) → AreQuiet lines → Own lines
+  none_own lines quiet name = quiet_losses name before lines quiet ∙ sym (by (bytes_eq p.card.name name))
+    where
+      by : (b : Bool) → (if b then count_by is_torn lines else 0) ≡ 0
+      by true = quiet_torn lines quiet
+      by false = refl
+
+  quiet_came : (replies others : List Reply) → part.lane.running ≡ Some others → (card : CardRow) (messages : List (List ℕ)) (lines : List Line) → AreQuiet lines → Came replies card messages lines
+  quiet_came replies others runs card messages lines quiet = record {
+    own = none_own lines quiet;
+    others = λ k other. quiet_card k before lines quiet;
+    card_is = quiet_card p.lane before lines quiet ∙ known others runs;
+  }
+
+  -- a power line of the purchase's card
+  pub record Powers (line : Line) : Type 0 where
+    pub named : (k : ℕ) (name : List ℕ) → card_next k name line ≡ (if p.lane == k then p.card.name else name)
+    pub own : (name : List ℕ) (ls : List Line) → (if is_loss_of name ls line then 1 else 0) ≡ (if bytes_eq p.card.name name then count_by is_torn (line ∷ []) else 0)
+
+  power_came : (replies : List Reply) (card : CardRow) (messages : List (List ℕ)) (line : Line) → Powers line → Came replies card messages (line ∷ [])
+  unfolding losses_behind
+  power_came replies card messages line powers = record {
+    own = λ name. (let same : (if is_loss_of name before line then 1 else 0) ≡ (if bytes_eq p.card.name name then count_by is_torn (line ∷ []) else 0) = powers.own name before in omega (arith, same));
+    others = λ k other. card-push k before line ∙ powers.named k (card_told k before) ∙ ap (λ b. if b then p.card.name else card_told k before) (apart k p.lane other);
+    card_is = card-push p.lane before line ∙ powers.named p.lane (card_told p.lane before) ∙ ap (λ b. if b then p.card.name else card_told p.lane before) (eq-eqb p.lane p.lane refl);
+  }
+
+  no_loss : (b : Bool) → ◌≡◌ {A = ℕ} 0 (if b then 0 else 0)
+  no_loss true = refl
+  no_loss false = refl
+
+  cut_own : (command : List ℕ) → (others : List Reply) → part.lane.running ≡ Some others → Own (torn_lines p.lane command)
+  unfolding losses_behind
+  cut_own command others runs name =
+      let asks : Line = ToCard p.lane (record { items = command }) in
+      let here : card_told p.lane (before ++ asks ∷ []) ≡ p.card.name = card-push p.lane before asks ∙ known others runs in
+      ap (λ (card : List ℕ). 0 + ((if bytes_eq card name then 1 else 0) + 0)) here ∙ by (bytes_eq p.card.name name)
+    where
+      by : (b : Bool) → 0 + ((if b then 1 else 0) + 0) ≡ (if b then 1 else 0)
+      by true = refl
+      by false = refl
+
+  cut_card : (k : ℕ) (command : List ℕ) → card_told k (before ++ torn_lines p.lane command) ≡ card_told k before
+  cut_card k command =
+      let asks : Line = ToCard p.lane (record { items = command }) in
+      ap (card_told k) (sym (append_assoc before (asks ∷ []) (Torn p.lane ∷ [])))
+      ∙ card-push k (before ++ asks ∷ []) (Torn p.lane)
+      ∙ card-push k before asks
+
+  ends_so : (card : CardRow) (messages : List (List ℕ)) (replies : List Reply) (lines : List Line) → Came replies card messages lines → (number : ℕ) (end : EndData) → (after : Part)
+      → after.lane.running ≡ None → Behind after (lines ++ end_line p.lane number end ∷ [])
+  ends_so card messages replies lines came number end after rests = record {
+    own = λ name. losses-append name before lines line ∙ same name (bytes_eq p.card.name name) (came.own name);
+    others = λ k other. joined k ∙ came.others k other;
+    card_is = λ others runs. cc;
+  }
+    where
+      line : List Line
+      line = end_line p.lane number end ∷ []
+
+      quiet : AreQuiet line
+      quiet = refl
+
+      joined : (k : ℕ) → card_told k (before ++ (lines ++ line)) ≡ card_told k (before ++ lines)
+      joined k = ap (card_told k) (sym (append_assoc before lines line)) ∙ quiet_card k (before ++ lines) line quiet
+
+      same : (name : List ℕ) (b : Bool) → losses_behind name before lines ≡ (if b then count_by is_torn lines else 0)
+          → losses_behind name before lines + losses_behind name (before ++ lines) line ≡ (if b then count_by is_torn (lines ++ line) else 0)
+      same name true is =
+          let none : losses_behind name (before ++ lines) line ≡ 0 = quiet_losses name (before ++ lines) line quiet in
+          let both : count_by is_torn (lines ++ line) ≡ count_by is_torn lines + count_by is_torn line = sum_by-append (λ (x : Line). cond (is_torn x) 1 0) lines line in
+          let zero_more : count_by is_torn line ≡ 0 = quiet_torn line quiet in
+          omega (arith, is, none, both, zero_more)
+      same name false is =
+          let none : losses_behind name (before ++ lines) line ≡ 0 = quiet_losses name (before ++ lines) line quiet in omega (arith, is, none)
+
+  host_quiet : (message : List ℕ) (reply : Option (List ℕ)) → AreQuiet (host_lines p.lane message reply)
+  host_quiet message None = refl
+  host_quiet message (Some reply) = refl
+
+  tells_lost : Tells p part Came Behind
+  tells_lost = record {
+    still = record {
+      own = none_own [] refl;
+      others = λ k other. quiet_card k before [] refl;
+      card_is = λ replies runs. (quiet_card p.lane before [] refl ∙ known replies runs, refl);
+    };
+    goes = λ replies card messages lines came. record { own = came.own; others = came.others; card_is = λ others runs. (came.card_is, refl) };
+    ends = λ replies card messages lines came end is. ends_so card messages replies lines came (length part.lane.ended + 1) end _ refl;
+    powers = λ free apps choice. power_came [] _ part.messages _ (record { named = λ k name. refl; own = λ name ls. no_loss (bytes_eq p.card.name name) });
+    power_cut = λ free. power_came _ (lost part.card) part.messages _ (record { named = λ k name. refl; own = λ name ls. refl });
+    powers_canned = λ free. power_came [] _ part.messages _ (record { named = λ k name. refl; own = λ name ls. no_loss (bytes_eq p.card.name name) });
+    answers = λ replies runs apps command. quiet_came _ replies runs _ part.messages _ refl;
+    cuts = λ replies runs command cut. record {
+      own = cut_own command replies runs;
+      others = λ k other. cut_card k command;
+      card_is = cut_card p.lane command ∙ known replies runs;
+    };
+    tells = λ replies runs answers canned command answer. quiet_came _ replies runs _ part.messages _ refl;
+    gone = λ replies runs command. quiet_came _ replies runs part.card part.messages _ refl;
+    hosts = λ replies runs message reply. quiet_came _ replies runs part.card _ _ (host_quiet message reply);
+  }
+
+-- each card and each running lane as the lines tell
+pub record IsLost (s : ScenarioData) (w : World) (lines : List Line) : Type 0 where
+  pub sound : IsSound s w
+  pub card : (l : ℕ) (replies : List Reply) (p : Payment) → (lane_at w l).running ≡ Some replies → next_of s w l ≡ Some p → card_told l lines ≡ p.card.name
+  pub losses : HasLosses s lines w
+
+names_differ : (cards : List CardData) → AllPairs (λ a b. a.name ≢ b.name) cards → (i j : ℕ) (a b : CardData) → slice_get cards i ≡ Some a → slice_get cards j ≡ Some b → i ≢ j
+    → bytes_eq a.name b.name ≡ false
+names_differ cards differ i j a b here there other = by_test (bytes_eq a.name b.name) refl
+  where
+    unequal : (k m : ℕ) (x y : CardData) → slice_get cards k ≡ Some x → slice_get cards m ≡ Some y → k < m → x.name ≢ y.name
+    unequal k m x y at behind before same =
+        let inside : m < length cards = slice_get_within cards m y behind in
+        differ k m x before inside
+        (ap (λ (c : CardData). c.name) (get_or_from_slice_get cards k x x at) ∙ same ∙ ap (λ (c : CardData). c.name) (sym (get_or_from_slice_get cards m y x behind)))
+
+    by_order : a.name ≡ b.name → (i < j) ⊎ (j ≤ i) → ⊥
+    by_order same (inl before) = unequal i j a b here there before same
+    by_order same (inr past) = unequal j i b a there here (let apart : j ≢ i = (λ e. other (sym e)) in omega arith) (sym same)
+
+    by_test : (t : Bool) → bytes_eq a.name b.name ≡ t → t ≡ false
+    by_test true is = absurd (by_order ((bytes_eq-Decides a.name b.name).0 is) (cases_lt i j))
+    by_test false is = refl
+
+module _ (s : ScenarioData) (fits : IsScenario s) where
+  module _ (w : World) (lines : List Line) (choice : Bool) (is_lost : IsLost s w lines) where
+    -- an event that leaves lanes and losses, and whose lines tell none
+    calm : (after : World) (new : List Line) → IsSound s after → ((l : ℕ) → lane_at after l ≡ lane_at w l) → ((i : ℕ) → (card_at after i).losses ≡ (card_at w i).losses) → AreQuiet new
+        → IsLost s after (lines ++ new)
+    calm after new sound lanes losses quiet = record {
+      sound = sound;
+      card = λ l replies p runs next.
+          quiet_card l lines new quiet
+          ∙ is_lost.card l replies p (ap (λ (row : LaneRow). row.running) (sym (lanes l)) ∙ runs)
+          (ap (λ (row : LaneRow). payment_in s l (length row.ended)) (sym (lanes l)) ∙ next);
+      losses = λ i card there.
+          losses i ∙ is_lost.losses i card there
+          ∙ (let none : losses_behind card.name lines new ≡ 0 = quiet_losses card.name lines new quiet in
+          let joined : losses_told card.name (lines ++ new) ≡ losses_told card.name lines + losses_behind card.name lines new = losses-append card.name [] lines new in
+          omega (arith, none, joined));
+    }
+
+    turn_lost : (l : ℕ) (o : Option Payment) → next_of s w l ≡ o → IsSound s (turned_by w l choice o).world
+        → IsLost s (turned_by w l choice o).world (lines ++ (turned_by w l choice o).lines)
+    turn_lost l None is sound = calm w [] sound (λ k. refl) (λ i. refl) refl
+    turn_lost l (Some p) is sound = record {
+      sound = sound;
+      card = λ k replies q runs next. by_lane k replies q runs next (cases_eq k l);
+      losses = λ i card there. by_card i card there (cases_eq i p.planned.card);
+    }
+      where
+        part : Part
+        part = part_of w l p.planned.card
+
+        m : Moved
+        m = piece p part choice
+
+        lane : p.lane ≡ l
+        lane = (payment_facts s l (length (lane_at w l).ended) p is).lane
+
+        known : (replies : List Reply) → part.lane.running ≡ Some replies → card_told p.lane lines ≡ p.card.name
+        known replies runs = ap (λ k. card_told k lines) lane ∙ is_lost.card l replies p runs is
+
+        behind : Behind p part lines known m.part m.lines
+        behind = piece_tells p part (Came p part lines known) (Behind p part lines known) (tells_lost p part lines known) choice
+
+        by_lane : (k : ℕ) (replies : List Reply) (q : Payment) → (lane_at (turned_by w l choice (Some p)).world k).running ≡ Some replies
+            → next_of s (turned_by w l choice (Some p)).world k ≡ Some q → (k ≡ l) ⊎ (k ≢ l) → card_told k (lines ++ m.lines) ≡ q.card.name
+        by_lane k replies q runs next (inl this) =
+            let row : lane_at (turned_by w l choice (Some p)).world k ≡ m.part.lane =
+            ap (λ j. lane_at (turned_by w l choice (Some p)).world j) this ∙ lane_behind s w l p is_lost.sound is m in
+            let now = behind.card_is replies (ap (λ (x : LaneRow). x.running) (sym row) ∙ runs) in
+            let same : q ≡ p =
+            same_Some q p
+            (sym next ∙ ap (λ (x : LaneRow). payment_in s k (length x.ended)) row ∙ ap (λ n. payment_in s k n) now.1 ∙ ap (λ j. payment_in s j (length (lane_at w l).ended)) this ∙ is) in
+            ap (λ j. card_told j (lines ++ m.lines)) (this ∙ sym lane) ∙ now.0 ∙ ap (λ (x : Payment). x.card.name) (sym same)
+        by_lane k replies q runs next (inr other) =
+            let row : lane_at (turned_by w l choice (Some p)).world k ≡ lane_at w k = get_or-set_other w.lanes l k m.part.lane new_lane other in
+            behind.others k (λ same. other (same ∙ lane))
+            ∙ is_lost.card k replies q (ap (λ (x : LaneRow). x.running) (sym row) ∙ runs) (ap (λ (x : LaneRow). payment_in s k (length x.ended)) (sym row) ∙ next)
+
+        there_is : slice_get s.cards p.planned.card ≡ Some p.card
+        there_is = (payment_facts s l (length (lane_at w l).ended) p is).card
+
+        by_card : (i : ℕ) (card : CardData) → slice_get s.cards i ≡ Some card → (i ≡ p.planned.card) ⊎ (i ≢ p.planned.card)
+            → (card_at (turned_by w l choice (Some p)).world i).losses ≡ losses_told card.name (lines ++ m.lines)
+        by_card i card there (inl this) =
+            let same : card ≡ p.card = same_Some card p.card (sym there ∙ ap (λ j. slice_get s.cards j) this ∙ there_is) in
+            let row : card_at (turned_by w l choice (Some p)).world i ≡ m.part.card = ap (λ j. card_at (turned_by w l choice (Some p)).world j) this ∙ card_behind s w l p is_lost.sound is m in
+            let grown : m.part.card.losses ≡ (card_at w p.planned.card).losses + count_by is_torn m.lines = piece_told p part choice in
+            let were : (card_at w p.planned.card).losses ≡ losses_told p.card.name lines = is_lost.losses p.planned.card p.card there_is in
+            let own : losses_behind p.card.name lines m.lines ≡ count_by is_torn m.lines =
+            behind.own p.card.name ∙ ap (λ b. if b then count_by is_torn m.lines else 0) ((bytes_eq-Decides p.card.name p.card.name).1 refl) in
+            let joined : losses_told p.card.name (lines ++ m.lines) ≡ losses_told p.card.name lines + losses_behind p.card.name lines m.lines = losses-append p.card.name [] lines m.lines in
+            let now : m.part.card.losses ≡ losses_told p.card.name (lines ++ m.lines) = omega (arith, grown, were, own, joined) in
+            ap (λ (x : CardRow). x.losses) row ∙ now ∙ ap (λ (c : CardData). losses_told c.name (lines ++ m.lines)) (sym same)
+        by_card i card there (inr other) =
+            let row : card_at (turned_by w l choice (Some p)).world i ≡ card_at w i = get_or-set_other w.cards p.planned.card i m.part.card new_card other in
+            let none : losses_behind card.name lines m.lines ≡ 0 =
+            behind.own card.name
+            ∙ ap (λ b. if b then count_by is_torn m.lines else 0)
+            (names_differ s.cards fits.tables.cards.names p.planned.card i p.card card there_is there (λ e. other (sym e))) in
+            let joined : losses_told card.name (lines ++ m.lines) ≡ losses_told card.name lines + losses_behind card.name lines m.lines = losses-append card.name [] lines m.lines in
+            ap (λ (x : CardRow). x.losses) row ∙ is_lost.losses i card there ∙ (omega (arith, none, joined))
+
+    settle_lost : (o : Option Settlement) → IsSound s (settles s w o).world → IsLost s (settles s w o).world (lines ++ (settles s w o).lines)
+    settle_lost None sound = calm w [] sound (λ k. refl) (λ i. refl) refl
+    settle_lost (Some at) sound = calm (settles s w (Some at)).world (settles s w (Some at)).lines sound (λ k. refl) (λ i. refl) refl
+
+    -- a card that is changed, but for its losses
+    kept_losses : (j : ℕ) (card : CardRow) → card.losses ≡ (card_at w j).losses → (i : ℕ) → (card_at (with_card w j card) i).losses ≡ (card_at w i).losses
+    kept_losses j card same i = at_set (λ (n : ℕ) (x : CardRow). x.losses ≡ (card_at w n).losses) w.cards j card new_card same (λ n. refl) i
+
+    audit_lost : (o : Option Check) → IsSound s (audits w choice o).world → IsLost s (audits w choice o).world (lines ++ (audits w choice o).lines)
+    audit_lost None sound = calm w [] sound (λ k. refl) (λ i. refl) refl
+    audit_lost (Some (PowersUp j card)) sound = calm (audits w choice (Some (PowersUp j card))).world (audits w choice (Some (PowersUp j card))).lines sound (λ k. refl)
+        (kept_losses j _ refl) refl
+    audit_lost (Some (Asks j card command)) sound = calm (audits w choice (Some (Asks j card command))).world (audits w choice (Some (Asks j card command))).lines sound (λ k. refl)
+        (kept_losses j _ refl) refl
+
+  pub lost_next : (w : World) (lines : List Line) (e : Event) (choice : Bool) → IsLost s w lines → IsLost s (happens s w e choice).world (lines ++ (happens s w e choice).lines)
+  lost_next w lines (Turn l) choice is = turn_lost w lines choice is l (next_of s w l) refl (event_sound s w (Turn l) choice is.sound)
+  lost_next w lines (Settle k) choice is = settle_lost w lines choice is (slice_get (settlements s w) k) (event_sound s w (Settle k) choice is.sound)
+  lost_next w lines (Audit k) choice is = audit_lost w lines choice is (slice_get (checks s) k) (event_sound s w (Audit k) choice is.sound)
+
+  pub lost_first : IsLost s (first_world s) []
+  unfolding losses_behind
+  lost_first = record {
+    sound = first_sound s;
+    card = λ l replies p runs next.
+        absurd (let none : None ≡ Some replies = ap (λ (row : LaneRow). row.running) (sym (get_or-map_const s.lanes l new_lane)) ∙ runs in cc);
+    losses = λ i card there. ap (λ (row : CardRow). row.losses) (get_or-map_const s.cards i new_card);
+  }
+
+pub losses_are_told : RunsTellLosses
+losses_are_told s place n choices lines w fits reached = (reached_lines s (IsLost s) (lost_first s fits) (lost_next s fits) place n choices lines w reached).losses

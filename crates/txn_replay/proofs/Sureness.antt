@@ -1,0 +1,126 @@
+-- Behind an answer, every decision that a card has kept is sure.
+use Rattle.std.proofs.Common.{◌≡◌, ℕ, ◌+◌, ◌<◌, true, List, [], ◌∷◌, ◌++◌, length, slice_get, Option, Some, None, refl, sym, ap, ◌∙◌, subst, arith, append-nil}
+use Rattle.std.specs.Prelude.{◌||◌}
+use Rattle.std.specs.List.{list_any}
+use Rattle.std.proofs.lemmas.List.{get_or-set_same}
+use Rattle.std.proofs.lemmas.Option.{slice_get_within}
+use Rattle.card_app.specs.Answering.{card_answer}
+use Rattle.card_files.specs.Views.{AppData}
+use Rattle.card_pages.specs.Pages.{found_of}
+use Rattle.card_state.specs.Decisions.{Decided}
+use Rattle.kernel.specs.Ended.{EndData}
+use Rattle.kernel.specs.Reply.{Reply}
+use Rattle.report_text.specs.declared.line.Line.{Line}
+use Rattle.txn_replay.specs.Changes.{powered, exchanged}
+use Rattle.txn_replay.specs.Laws.{Taken, sure_with, taken_in}
+use Rattle.txn_replay.specs.Lines.{host_lines, end_line}
+use Rattle.txn_replay.specs.Part.{Part, piece}
+use Rattle.txn_replay.specs.Payment.{Payment}
+use Rattle.txn_replay.specs.Sound.{HeldBy}
+use Rattle.txn_replay.specs.Steps.{After, part_of, moved, turned_by, happens}
+use Rattle.txn_replay.specs.Telling.{is_answer, IsSure, HeldIsSure, AnsweredIsSure}
+use Rattle.txn_replay.specs.World.{Holder, Found, Answering, CardRow, new_card, card_at, lane_at}
+use Rattle.txn_replay.specs.declared.event.Event.TheVariants.{Turn}
+use Rattle.txn_replay.proofs.Closing.{Closed}
+use Rattle.txn_replay.proofs.Exchanging.{Tells, piece_tells}
+use Rattle.txn_replay.proofs.Folding.{AllHold, reached_holds}
+use Rattle.txn_replay.proofs.Moves.{this_one}
+use Rattle.txn_replay.proofs.Payments.{payment_facts}
+use Rattle.txn_replay.proofs.Prefixes.{taken-push}
+use Rattle.txn_replay.proofs.Sounding.{has_card}
+
+abbrev HeldSure : List AppData → CardRow → Type 0
+HeldSure image card = (h : Holder) → card.holder ≡ Some h → IsSure card
+
+-- a power-up found them all
+found_sure : (card : CardRow) (found : List Decided) (holder : Option Holder) → IsSure (powered card found holder)
+found_sure card found holder = record {
+  all = ap (λ (t : Taken). t.all) (taken-push card.acts (Found found));
+  sure = ap (λ (t : Taken). t.sure) (taken-push card.acts (Found found));
+}
+
+-- an answer makes those sure that were taken for it
+answer_sure : (image : List AppData) (card : CardRow) (command : List ℕ) → IsSure card
+    → IsSure (exchanged image card command (card_answer image card.kept card.session command))
+answer_sure image card command is = record {
+  all = ap (λ (t : Taken). t.all) (taken-push card.acts (Answering new)) ∙ ap (λ (ds : List Decided). ds ++ new) is.all;
+  sure = ap (λ (t : Taken). t.sure) (taken-push card.acts (Answering new)) ∙ by_new new;
+}
+  where
+    new : List Decided
+    new = (card_answer image card.kept card.session command).new
+
+    by_new : (ds : List Decided) → sure_with (taken_in card.acts) ds ≡ card.kept ++ ds
+    by_new [] = is.sure ∙ sym (append-nil card.kept)
+    by_new (d ∷ ds) = ap (λ (xs : List Decided). xs ++ d ∷ ds) is.all
+
+held_closed : Closed HeldSure
+held_closed = record {
+  first = λ image h none. cc;
+  powers = λ image card with_it holder sure h has. found_sure card (found_of card.kept card.pending with_it) holder;
+  answers = λ image card command live sure h has. answer_sure image card command (sure h has);
+  tells = λ image card sure h has. record { all = (sure h has).all; sure = (sure h has).sure };
+  cuts = λ image card tear cut h is sure other none. cc;
+  loses = λ image card sure h has. record { all = (sure h has).all; sure = (sure h has).sure };
+  frees = λ image card sure h none. cc;
+}
+
+-- no line of these is an answer
+any_end : (lines : List Line) (lane number : ℕ) (end : EndData) → list_any is_answer (lines ++ end_line lane number end ∷ []) ≡ list_any is_answer lines
+any_end [] lane number end = refl
+any_end (line ∷ lines) lane number end = ap (λ b. is_answer line || b) (any_end lines lane number end)
+
+module _ (p : Payment) (part : Part) (sure : HeldSure p.card.image part.card)
+    (has : (replies : List Reply) → part.lane.running ≡ Some replies → part.card.holder ≡ Some (this_one p part)) where
+  abbrev Came : List Reply → CardRow → List (List ℕ) → List Line → Type 0
+  Came replies card messages lines = list_any is_answer lines ≡ true → IsSure card
+
+  abbrev Behind : Part → List Line → Type 0
+  Behind after lines = list_any is_answer lines ≡ true → IsSure after.card
+
+  host_none : (message : List ℕ) (reply : Option (List ℕ)) → list_any is_answer (host_lines p.lane message reply) ≡ true → ⊥
+  host_none message None some = cc
+  host_none message (Some reply) some = cc
+
+  sure_told : Tells p part Came Behind
+  sure_told = record {
+    still = λ some. cc;
+    goes = λ replies card messages lines came some. came some;
+    ends = λ replies card messages lines came end is some.
+        (let one : IsSure card = came (sym (any_end lines p.lane (length part.lane.ended + 1) end) ∙ some) in record { all = one.all; sure = one.sure });
+    powers = λ free apps choice some. cc;
+    power_cut = λ free some. cc;
+    powers_canned = λ free some. cc;
+    answers = λ replies runs apps command some. answer_sure p.card.image part.card command (sure (this_one p part) (has replies runs));
+    cuts = λ replies runs command cut some. cc;
+    tells = λ replies runs answers canned command answer some.
+        (let one : IsSure part.card = sure (this_one p part) (has replies runs) in record { all = one.all; sure = one.sure });
+    gone = λ replies runs command some. cc;
+    hosts = λ replies runs message reply some. absurd (host_none message reply some);
+  }
+
+pub held_sure : HeldIsSure
+held_sure s place n choices lines w i h reached has =
+    let hold : AllHold HeldSure s w = reached_holds HeldSure held_closed s place n choices lines w reached in
+    let held : HeldBy s w i h = hold.sound.held i h has in
+    let there : slice_get s.cards i ≡ Some held.payment.card =
+    ap (λ j. slice_get s.cards j) (sym held.card) ∙ (payment_facts s h.lane (length (lane_at w h.lane).ended) held.payment held.is).card in
+    hold.cards i held.payment.card there h has
+
+pub answered_sure : AnsweredIsSure
+answered_sure s place n choices lines w l choice p reached is some =
+    let hold : AllHold HeldSure s w = reached_holds HeldSure held_closed s place n choices lines w reached in
+    let there : slice_get s.cards p.planned.card ≡ Some p.card = (payment_facts s l _ p is).card in
+    let within : p.planned.card < length w.cards =
+    (let card : p.planned.card < length s.cards = slice_get_within s.cards p.planned.card p.card there in
+    let count : length w.cards ≡ length s.cards = hold.sound.card_count in omega arith) in
+    let part : Part = part_of w l p.planned.card in
+    let is_so : happens s w (Turn l) choice ≡ moved w l p.planned.card (piece p part choice) = ap (λ (o : Option Payment). turned_by w l choice o) is in
+    let here : card_at (moved w l p.planned.card (piece p part choice)).world p.planned.card ≡ (piece p part choice).part.card =
+    get_or-set_same w.cards p.planned.card (piece p part choice).part.card new_card within in
+    let sure : HeldSure p.card.image (card_at w p.planned.card) = hold.cards p.planned.card p.card there in
+    let has : (replies : List Reply) → part.lane.running ≡ Some replies → part.card.holder ≡ Some (this_one p part) = has_card s w l p hold.sound is in
+    let one : IsSure (piece p part choice).part.card =
+    piece_tells p part (Came p part sure has) (Behind p part sure has) (sure_told p part sure has) choice
+    (ap (λ (x : After). list_any is_answer x.lines) (sym is_so) ∙ some) in
+    subst (λ (x : After). IsSure (card_at x.world p.planned.card)) (sym is_so) (subst (λ (card : CardRow). IsSure card) (sym here) one)

@@ -1,0 +1,8 @@
+use Rattle.txn_replay.proofs.Hearing.{replies_told, pasts_end}
+use Rattle.txn_replay.proofs.laws.replies_are_told.Goals as goal
+
+pub returns-clause-replies : goal.returns-clause-replies
+returns-clause-replies c = replies_told
+
+pub returns-clause-ends : goal.returns-clause-ends
+returns-clause-ends c = pasts_end

@@ -1,0 +1,123 @@
+-- What the lines of a run tell: which card lost its power, what each terminal was told, and how each purchase ended (this
+-- project's own).
+use Rattle.std.specs.Prelude.{◌≡◌, ℕ, ◌+◌, ◌==◌, Bool, false, if◌then◌else◌, List, [], ◌∷◌, ◌++◌, map, fold, slice_get, Some}
+use Rattle.std.specs.Str.{bytes_eq}
+use Rattle.kernel.specs.Reply.{Reply, CardSaid, CardGone, HostSaid, HostSilent}
+use Rattle.report_text.specs.declared.line.EndParts.{EndParts}
+use Rattle.report_text.specs.declared.line.Line.{Line}
+use Rattle.report_text.specs.declared.line.Line.TheVariants.{Power, PowerCanned, PowerTorn, FromCard, Torn, Gone, FromHost, NoReply, End}
+use Rattle.scenario.specs.Cards.{CardData}
+use Rattle.scenario.specs.Plan.{ScenarioData, IsScenario}
+use Rattle.txn_replay.specs.Lines.{end_parts}
+use Rattle.txn_replay.specs.Payment.{Payment, payment_in, end_at}
+use Rattle.txn_replay.specs.Run.{Place, Reached}
+use Rattle.txn_replay.specs.World.{Past, LaneRow, World, card_at, lane_at}
+
+-- the card that a power line of this lane names, else the one that was known
+abbrev pub card_next : ℕ → List ℕ → Line → List ℕ
+card_next l name (Power lane card apps) = if lane == l then card.items else name
+card_next l name (PowerCanned lane card) = if lane == l then card.items else name
+card_next l name (PowerTorn lane card) = if lane == l then card.items else name
+card_next l name other = name
+
+-- the name of the card in a lane: that in its last power line
+unfoldable pub card_told : ℕ → List Line → List ℕ
+card_told l lines = fold (card_next l) [] lines
+
+-- a line behind these tells that the power of the card of this name was cut
+abbrev pub is_loss_of : List ℕ → List Line → Line → Bool
+is_loss_of name before (PowerTorn lane card) = bytes_eq card.items name
+is_loss_of name before (Torn lane) = bytes_eq (card_told lane before) name
+is_loss_of name before other = false
+
+-- how many of some lines, behind others, tell it
+unfoldable pub losses_behind : List ℕ → List Line → List Line → ℕ
+losses_behind name before [] = 0
+losses_behind name before (line ∷ lines) = (if is_loss_of name before line then 1 else 0) + losses_behind name (before ++ line ∷ []) lines
+
+abbrev pub losses_told : List ℕ → List Line → ℕ
+losses_told name lines = losses_behind name [] lines
+
+-- a card has lost its power as often as the lines tell
+abbrev pub HasLosses : ScenarioData → List Line → World → Type 0
+HasLosses s lines w = (i : ℕ) (card : CardData) → slice_get s.cards i ≡ Some card → (card_at w i).losses ≡ losses_told card.name lines
+
+abbrev pub RunsTellLosses : Type 0
+RunsTellLosses =
+    (s : ScenarioData) (place : Place) (n : ℕ) (choices : List Bool) (lines : List Line) (w : World)
+    → IsScenario s → Reached s place n choices lines w → HasLosses s lines w
+
+-- what a terminal was told: a card's answer, that the card is gone, the host's reply, or none
+pub data Heard : Type 0 where
+  Answered : (bytes : List ℕ) → Heard
+  Cut : Heard
+  Replied : (bytes : List ℕ) → Heard
+  Silence : Heard
+
+abbrev pub heard_of : Reply → Heard
+heard_of (CardSaid answer log) = Answered answer
+heard_of CardGone = Cut
+heard_of (HostSaid reply) = Replied reply
+heard_of HostSilent = Silence
+
+-- an end line, with what was told since the power line before it
+pub record EndTold : Type 0 where
+  pub heard : List Heard
+  pub number : ℕ
+  pub parts : EndParts
+
+-- what was told since a lane's last power line, and its end lines
+pub record LaneTold : Type 0 where
+  pub heard : List Heard
+  pub ended : List EndTold
+
+abbrev pub hears : LaneTold → Heard → LaneTold
+hears t heard = record { heard = t.heard ++ heard ∷ []; ended = t.ended }
+
+abbrev pub begins : LaneTold → List Heard → LaneTold
+begins t heard = record { heard = heard; ended = t.ended }
+
+abbrev pub finishes : LaneTold → ℕ → EndParts → LaneTold
+finishes t number parts = record { heard = []; ended = t.ended ++ record { heard = t.heard; number = number; parts = parts } ∷ [] }
+
+abbrev pub told_next : ℕ → LaneTold → Line → LaneTold
+told_next l t (Power lane card apps) = if lane == l then begins t [] else t
+told_next l t (PowerCanned lane card) = if lane == l then begins t [] else t
+told_next l t (PowerTorn lane card) = if lane == l then begins t (Cut ∷ []) else t
+told_next l t (FromCard lane bytes) = if lane == l then hears t (Answered bytes.items) else t
+told_next l t (Torn lane) = if lane == l then hears t Cut else t
+told_next l t (Gone lane) = if lane == l then hears t Cut else t
+told_next l t (FromHost lane bytes) = if lane == l then hears t (Replied bytes.items) else t
+told_next l t (NoReply lane) = if lane == l then hears t Silence else t
+told_next l t (End lane number parts) = if lane == l then finishes t number parts else t
+told_next l t other = t
+
+unfoldable pub lane_told : ℕ → List Line → LaneTold
+lane_told l lines = fold (told_next l) (record { heard = []; ended = [] }) lines
+
+-- the ended purchases of a lane, numbered from this on
+abbrev pub pasts_told : ℕ → List Past → List EndTold
+pasts_told n [] = []
+pasts_told n (past ∷ pasts) = record { heard = map heard_of past.replies; number = n; parts = end_parts past.end } ∷ pasts_told (n + 1) pasts
+
+-- the lines between a power line and an end line are the replies of that purchase, and so are those behind the last power
+-- line where the purchase still runs
+pub record IsLaneTold (row : LaneRow) (t : LaneTold) : Type 0 where
+  pub ended : t.ended ≡ pasts_told 1 row.ended
+  pub heard : (replies : List Reply) → row.running ≡ Some replies → t.heard ≡ map heard_of replies
+
+abbrev pub RunsTellReplies : Type 0
+RunsTellReplies =
+    (s : ScenarioData) (place : Place) (n : ℕ) (choices : List Bool) (lines : List Line) (w : World) (l : ℕ)
+    → Reached s place n choices lines w → IsLaneTold (lane_at w l) (lane_told l lines)
+
+-- an ended purchase has the end record of its dialogue over its replies
+pub record EndsSo (s : ScenarioData) (l number : ℕ) (past : Past) : Type 0 where
+  pub payment : Payment
+  pub is : payment_in s l number ≡ Some payment
+  pub ends : end_at payment past.replies ≡ Some past.end
+
+abbrev pub PastsEnd : Type 0
+PastsEnd =
+    (s : ScenarioData) (place : Place) (n : ℕ) (choices : List Bool) (lines : List Line) (w : World) (l number : ℕ) (past : Past)
+    → Reached s place n choices lines w → slice_get (lane_at w l).ended number ≡ Some past → EndsSo s l number past
