@@ -38,6 +38,7 @@ pub record Tells (p : Payment) (part : Part) (Came : List Reply → CardRow → 
       (exchanged p.card.image part.card command (card_answer p.card.image part.card.kept part.card.session command)) part.messages
       (answer_lines p.lane command (card_answer p.card.image part.card.kept part.card.session command).answer)
   pub cuts : (replies : List Reply) → part.lane.running ≡ Some replies → (command : List ℕ) (cut : Cut)
+      → cut_of p.planned.tear part.card.made (card_answer p.card.image part.card.kept part.card.session command).new ≡ Some cut
       → Came (replies ++ CardGone ∷ []) (torn part.card p.planned.tear cut) part.messages (torn_lines p.lane command)
   pub tells : (replies : List Reply) → part.lane.running ≡ Some replies → (answers : List (List ℕ)) → p.card.canned ≡ Some answers
       → (command answer : List ℕ)
@@ -64,10 +65,11 @@ module _ (p : Payment) (part : Part) (Came : List Reply → CardRow → List (Li
   cut_tells replies card lines came (Some end) is = tells.ends replies card part.messages lines came end is
 
   answer_tells : (replies : List Reply) → part.lane.running ≡ Some replies → p.card.canned ≡ None → (command : List ℕ) (cut : Option Cut)
+      → cut_of p.planned.tear part.card.made (card_answer p.card.image part.card.kept part.card.session command).new ≡ cut
       → Holds (answered p replies command part (card_answer p.card.image part.card.kept part.card.session command) cut)
-  answer_tells replies runs apps command None =
+  answer_tells replies runs apps command None is =
       settled_tells _ _ part.messages _ (tells.answers replies runs apps command) _ refl
-  answer_tells replies runs apps command (Some cut) = cut_tells _ _ _ (tells.cuts replies runs command cut) _ refl
+  answer_tells replies runs apps command (Some cut) is = cut_tells _ _ _ (tells.cuts replies runs command cut is) _ refl
 
   canned_tells : (replies : List Reply) → part.lane.running ≡ Some replies → (answers : List (List ℕ)) → p.card.canned ≡ Some answers
       → (command : List ℕ) (o : Option (List ℕ)) → Holds (canned_by p replies command part o)
@@ -78,7 +80,7 @@ module _ (p : Payment) (part : Part) (Came : List Reply → CardRow → List (Li
   kind_tells : (replies : List Reply) → part.lane.running ≡ Some replies → (command : List ℕ) (o : Option (List (List ℕ))) → p.card.canned ≡ o
       → Holds (asked_by p replies command part o)
   kind_tells replies runs command None is =
-      answer_tells replies runs is command (cut_of p.planned.tear part.card.made (card_answer p.card.image part.card.kept part.card.session command).new)
+      answer_tells replies runs is command (cut_of p.planned.tear part.card.made (card_answer p.card.image part.card.kept part.card.session command).new) refl
   kind_tells replies runs command (Some answers) is = canned_tells replies runs answers is command (slice_get answers part.card.told)
 
   ask_tells : (replies : List Reply) → part.lane.running ≡ Some replies → (deed : Deed) → Holds (asked p replies part deed)

@@ -136,7 +136,7 @@ module _ (p : Payment) (part : Part) (h : Holder) where
     power_cut = λ free. none _ _ refl refl;
     powers_canned = λ free. none _ _ refl refl;
     answers = λ replies runs apps command. answer_gives (has replies runs) apps command;
-    cuts = λ replies runs command cut. none _ _ refl refl;
+    cuts = λ replies runs command cut at. none _ _ refl refl;
     tells = λ replies runs answers canned command answer. canned_gives answers canned _;
     gone = λ replies runs command. none _ _ refl refl;
     hosts = λ replies runs message reply. none _ _ refl (host_untold message reply);

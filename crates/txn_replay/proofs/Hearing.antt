@@ -121,7 +121,7 @@ module _ (p : Payment) (part : Part) (t : LaneTold) (told : IsLaneTold part.lane
       rw same (more replies runs (CardSaid (card_answer p.card.image part.card.kept part.card.session command).answer part.lane.log)),
       λ k other u. rw (apart k p.lane other) refl,
     );
-    cuts = λ replies runs command cut. (rw same (more replies runs CardGone), λ k other u. rw (apart k p.lane other) refl);
+    cuts = λ replies runs command cut at. (rw same (more replies runs CardGone), λ k other u. rw (apart k p.lane other) refl);
     tells = λ replies runs answers canned command answer.
         (rw same (more replies runs (CardSaid answer part.lane.log)), λ k other u. rw (apart k p.lane other) refl);
     gone = λ replies runs command. (rw same (more replies runs CardGone), λ k other u. rw (apart k p.lane other) refl);
@@ -239,7 +239,7 @@ module _ (p : Payment) (part : Part) where
     power_cut = λ free. tt;
     powers_canned = λ free. tt;
     answers = λ replies runs apps command. tt;
-    cuts = λ replies runs command cut. tt;
+    cuts = λ replies runs command cut at. tt;
     tells = λ replies runs answers canned command answer. tt;
     gone = λ replies runs command. tt;
     hosts = λ replies runs message reply. tt;

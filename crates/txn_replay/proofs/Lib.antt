@@ -45,4 +45,5 @@ pub mod Sureness
 pub mod Lining
 pub mod Hearing
 pub mod Lost
+pub mod Unique
 mod Worked

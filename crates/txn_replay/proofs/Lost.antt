@@ -220,7 +220,7 @@ module _ (p : Payment) (part : Part) (before : List Line) (known : (replies : Li
     power_cut = λ free. power_came _ (lost part.card) part.messages _ (record { named = λ k name. refl; own = λ name ls. refl });
     powers_canned = λ free. power_came [] _ part.messages _ (record { named = λ k name. refl; own = λ name ls. no_loss (bytes_eq p.card.name name) });
     answers = λ replies runs apps command. quiet_came _ replies runs _ part.messages _ refl;
-    cuts = λ replies runs command cut. record {
+    cuts = λ replies runs command cut at. record {
       own = cut_own command replies runs;
       others = λ k other. cut_card k command;
       card_is = cut_card p.lane command ∙ known replies runs;

@@ -92,7 +92,7 @@ module _ (p : Payment) (part : Part) (sure : HeldSure p.card.image part.card)
     power_cut = λ free some. cc;
     powers_canned = λ free some. cc;
     answers = λ replies runs apps command some. answer_sure p.card.image part.card command (sure (this_one p part) (has replies runs));
-    cuts = λ replies runs command cut some. cc;
+    cuts = λ replies runs command cut at some. cc;
     tells = λ replies runs answers canned command answer some.
         (let one : IsSure part.card = sure (this_one p part) (has replies runs) in record { all = one.all; sure = one.sure });
     gone = λ replies runs command some. cc;

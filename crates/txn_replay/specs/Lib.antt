@@ -11,6 +11,7 @@ pub mod Sound
 pub mod Laws
 pub mod Telling
 pub mod Told
+pub mod Choices
 pub mod Bounds
 pub mod Standing
 pub mod Audited

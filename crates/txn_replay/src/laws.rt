@@ -1,5 +1,6 @@
 //! Laws over every run, whatever its scenario.
 ghost use Rattle.txn_replay.specs.Bounds.{WorldsAreFew, SettlementsAreFew, ChecksAreFew};
+ghost use Rattle.txn_replay.specs.Choices.{NoneIsOpen, RunIsOne};
 ghost use Rattle.txn_replay.specs.Laws.{RunsAreFair, WholeRunsAreFair, WorldsAreSound, IdleLanesStay, LanesStayApart, LossesAreTold, StuckIsOver, CalmIsOver};
 ghost use Rattle.txn_replay.specs.Telling.{GivenIsTold, GivenIsLeft, HeldIsSure, AnsweredIsSure};
 ghost use Rattle.txn_replay.specs.Told.{RunsTellLosses, RunsTellReplies, PastsEnd};
@@ -59,4 +60,11 @@ pub fn replies_are_told()
 /// line.
 pub fn losses_are_told()
     ensures { RunsTellLosses }
+{}
+
+/// Where no tear of a scenario leaves a choice, no card of a world that a run comes to has a decision that may be
+/// kept or not, and there is one run.
+pub fn run_is_one()
+    ensures closed { NoneIsOpen }
+    ensures one { RunIsOne }
 {}

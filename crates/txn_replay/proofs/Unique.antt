@@ -1,0 +1,343 @@
+-- Where no tear leaves a choice, a scenario has one run.
+use Rattle.std.proofs.Common.{◌≡◌, ℕ, zero, suc, ◌⊎◌, ◌+◌, ◌≤◌, ◌<◌, ◌&&◌, Bool, true, false, List, [], ◌∷◌, ◌++◌, length, slice_get, Option, Some, None, refl, sym, ap, ◌∙◌, subst, inl, inr, arith}
+use Rattle.std.specs.Prelude.{◌==◌, not, if◌then◌else◌, option_map, option_and_then}
+use Rattle.std.proofs.lemmas.Bool.{eqb-true, eq-eqb, cases_lt, cases_eq}
+use Rattle.std.proofs.lemmas.Bool.Decides.{nat_tests}
+use Rattle.std.proofs.lemmas.List.{get_or-set_other}
+use Rattle.std.proofs.lemmas.Option.{same_Some}
+use Rattle.card_pages.specs.Cuts.{Cut, Dropped, Pending, commit_of, behind_one, cut_of, left_of, pending_by}
+use Rattle.card_pages.specs.Pages.{found_of}
+use Rattle.card_state.specs.Decisions.{Decided}
+use Rattle.emv_ports.specs.Cut.{is_named}
+use Rattle.emv_ports.specs.declared.tear.Tear.{Tear}
+use Rattle.emv_ports.specs.declared.tear.TearAt.{TearAt}
+use Rattle.emv_ports.specs.declared.tear.TearAt.TheVariants.{Before, Within, Release}
+use Rattle.kernel.specs.Reply.{Reply}
+use Rattle.report_text.specs.declared.line.Line.{Line}
+use Rattle.scenario.specs.Cards.{CardData}
+use Rattle.scenario.specs.Plan.{ScenarioData, IsScenario}
+use Rattle.txn_replay.specs.Changes.{powered, torn}
+use Rattle.txn_replay.specs.Choices.{leaves_open, leaves_choice, LeavesNone, NoneIsOpen, IsSameRun, RunIsOne}
+use Rattle.txn_replay.specs.Lines.{audit_power_line}
+use Rattle.txn_replay.specs.Part.{Part, Moved, powered_up, begun, begun_by, begun_with, piece_by, piece}
+use Rattle.txn_replay.specs.Payment.{Payment, next_of}
+use Rattle.txn_replay.specs.Run.{Place, Scheduled, Round, Settling, Auditing, Finished, Reached, start, scheduled, rounds, round, again, settlement, settling, audit, auditing, finished, all_over, closing, Run}
+use Rattle.txn_replay.specs.Sound.{IsSound}
+use Rattle.txn_replay.specs.Steps.{After, Check, PowersUp, Asks, Settlement, settlements, settles, checks, audits_power, audits, with_card, part_of, moved, turned_by, happens, first_of, Step}
+use Rattle.txn_replay.specs.World.{Holder, CardRow, World, new_card, first_world, card_at}
+use Rattle.txn_replay.specs.declared.event.Event.{Event}
+use Rattle.txn_replay.specs.declared.event.Event.TheVariants.{Turn, Settle, Audit}
+use Rattle.txn_replay.proofs.Exchanging.{Tells, piece_tells}
+use Rattle.txn_replay.proofs.Folding.{reached_keeps, event_sound}
+use Rattle.txn_replay.proofs.Lining.{card_behind}
+use Rattle.txn_replay.proofs.Lists.{at_set, get_or-map_const}
+use Rattle.txn_replay.proofs.Sounding.{first_sound}
+
+-- a tear of the power-up cuts no decision
+never_cut : (tear : Tear) → tear.commit ≡ 0 → (made : ℕ) (ds : List Decided) → cut_of (Some tear) made ds ≡ None
+unfolding cut_of
+never_cut tear none made [] = refl
+never_cut tear none made (d ∷ ds) = by (tear.commit == commit_of (made + 1)) refl (never_cut tear none (made + 1) ds)
+  where
+    by : (b : Bool) → (tear.commit == commit_of (made + 1)) ≡ b → cut_of (Some tear) (made + 1) ds ≡ None
+        → (if b then Some (record { before = []; cut = d }) else option_map (behind_one d) (cut_of (Some tear) (made + 1) ds)) ≡ None
+    by true is later = let same : tear.commit ≡ commit_of (made + 1) = eqb-true tear.commit (commit_of (made + 1)) is in absurd (omega (arith, same, none))
+    by false is later = ap (option_map (behind_one d)) later
+
+-- nor does none
+unplanned_none : (made : ℕ) (ds : List Decided) → cut_of None made ds ≡ None
+unfolding cut_of
+unplanned_none made [] = refl
+unplanned_none made (d ∷ ds) = ap (option_map (behind_one d)) (unplanned_none (made + 1) ds)
+
+-- what a tear that leaves no choice leaves of a decision
+closed_left : (tear : Option Tear) → leaves_choice tear ≡ false → (made : ℕ) (ds : List Decided) (cut : Cut) → cut_of tear made ds ≡ Some cut
+    → pending_by (left_of tear) cut ≡ None
+closed_left None none made ds cut is = absurd (unplanned made ds is)
+  where
+    unplanned : (made : ℕ) (ds : List Decided) → cut_of None made ds ≡ Some cut → ⊥
+    unplanned made ds is = let other : cut_of None made ds ≡ None = unplanned_none made ds in cc
+closed_left (Some tear) none made ds cut is = by_commit (tear.commit == 0) refl none
+  where
+    by_place : (at : TearAt) → leaves_open at ≡ false → pending_by (left_of (Some (record { commit = tear.commit; at = at }))) cut ≡ None
+    by_place (Before number) closed = by (number == 1) refl closed
+      where
+        by : (b : Bool) → (number == 1) ≡ b → not b ≡ false → pending_by (if b then Dropped else Pending) cut ≡ None
+        by true is closed = refl
+        by false is closed = cc
+    by_place (Within number) closed = cc
+    by_place Release closed = refl
+
+    by_commit : (b : Bool) → (tear.commit == 0) ≡ b → (not b && leaves_open tear.at) ≡ false → pending_by (left_of (Some tear)) cut ≡ None
+    by_commit true first closed = absurd (let nothing : cut_of (Some tear) made ds ≡ None = never_cut tear (eqb-true tear.commit 0 first) made ds in cc)
+    by_commit false other closed = by_place tear.at closed
+
+module _ (p : Payment) (part : Part) (none : leaves_choice p.planned.tear ≡ false) (closed : part.card.pending ≡ None) where
+  abbrev Came : List Reply → CardRow → List (List ℕ) → List Line → Type 0
+  Came replies card messages lines = card.pending ≡ None
+
+  abbrev Behind : Part → List Line → Type 0
+  Behind after lines = after.card.pending ≡ None
+
+  tells_closed : Tells p part Came Behind
+  tells_closed = record {
+    still = closed;
+    goes = λ replies card messages lines came. came;
+    ends = λ replies card messages lines came end is. came;
+    powers = λ free apps choice. refl;
+    power_cut = λ free. closed;
+    powers_canned = λ free. refl;
+    answers = λ replies runs apps command. closed;
+    cuts = λ replies runs command cut at. closed_left p.planned.tear none part.card.made _ cut at;
+    tells = λ replies runs answers canned command answer. closed;
+    gone = λ replies runs command. closed;
+    hosts = λ replies runs message reply. closed;
+  }
+
+abbrev NoneOpen : ScenarioData → World → Type 0
+NoneOpen s w = (i : ℕ) → (card_at w i).pending ≡ None
+
+module _ (s : ScenarioData) (leaves : LeavesNone s) where
+  turn_closed : (w : World) (l : ℕ) (choice : Bool) → NoneOpen s w → (o : Option Payment) → next_of s w l ≡ o → NoneOpen s (turned_by w l choice o).world
+  turn_closed w l choice none None is = none
+  turn_closed w l choice none (Some p) is =
+      let part : Part = part_of w l p.planned.card in
+      let own : leaves_choice p.planned.tear ≡ false = leaves l _ p is in
+      at_set (λ (i : ℕ) (card : CardRow). card.pending ≡ None) w.cards p.planned.card (piece p part choice).part.card new_card
+      (piece_tells p part (Came p part own (none p.planned.card)) (Behind p part own (none p.planned.card)) (tells_closed p part own (none p.planned.card)) choice) none
+
+  event_closed : (w : World) (e : Event) (choice : Bool) → NoneOpen s w → NoneOpen s (happens s w e choice).world
+  event_closed w (Turn l) choice none = turn_closed w l choice none (next_of s w l) refl
+  event_closed w (Settle k) choice none = by (slice_get (settlements s w) k)
+    where
+      by : (o : Option Settlement) → NoneOpen s (settles s w o).world
+      by None = none
+      by (Some at) = none
+  event_closed w (Audit k) choice none = by (slice_get (checks s) k)
+    where
+      with_closed : (i : ℕ) (card : CardRow) → card.pending ≡ None → NoneOpen s (with_card w i card)
+      with_closed i card closed = at_set (λ (j : ℕ) (x : CardRow). x.pending ≡ None) w.cards i card new_card closed none
+
+      by : (o : Option Check) → NoneOpen s (audits w choice o).world
+      by None = none
+      by (Some (PowersUp i card)) = with_closed i _ refl
+      by (Some (Asks i card command)) = with_closed i _ (none i)
+
+  first_closed : NoneOpen s (first_world s)
+  first_closed i = ap (λ (row : CardRow). row.pending) (get_or-map_const s.cards i new_card)
+
+pub none_is_open : NoneIsOpen
+none_is_open s place n choices lines w i leaves reached =
+    reached_keeps s (NoneOpen s) (first_closed s leaves) (event_closed s leaves) place n choices lines w reached i
+
+-- the truth value tells nothing then
+found_same : (kept : List Decided) (pending : Option Decided) → pending ≡ None → found_of kept pending true ≡ found_of kept pending false
+found_same kept None none = refl
+found_same kept (Some d) none = cc
+
+piece_same : (p : Payment) (part : Part) → part.card.pending ≡ None → piece p part true ≡ piece p part false
+piece_same p part none = by_lane part.lane.running
+  where
+    by_tear : (cut : Bool) → begun_by p part true cut ≡ begun_by p part false cut
+    by_tear true = refl
+    by_tear false = ap (λ (found : List Decided). powered_up p part found) (found_same part.card.kept part.card.pending none)
+
+    by_kind : (o : Option (List (List ℕ))) → begun_with p part true o ≡ begun_with p part false o
+    by_kind None = by_tear (is_named p.planned.tear 0)
+    by_kind (Some answers) = refl
+
+    by_holder : (o : Option Holder) → begun p part true o ≡ begun p part false o
+    by_holder None = by_kind p.card.canned
+    by_holder (Some holder) = refl
+
+    by_lane : (o : Option (List Reply)) → piece_by p part true o ≡ piece_by p part false o
+    by_lane None = by_holder part.card.holder
+    by_lane (Some replies) = refl
+
+abbrev audit_found : World → ℕ → CardData → List Decided → After
+audit_found w i card found = record {
+  world = with_card w i (powered (card_at w i) found (card_at w i).holder);
+  lines = audit_power_line card found ∷ [];
+  choices = 1;
+}
+
+module _ (s : ScenarioData) (w : World) (none : NoneOpen s w) where
+  either_same : (e : Event) → happens s w e true ≡ happens s w e false
+  either_same (Turn l) = by (next_of s w l)
+    where
+      by : (o : Option Payment) → turned_by w l true o ≡ turned_by w l false o
+      by None = refl
+      by (Some p) = ap (λ (m : Moved). moved w l p.planned.card m) (piece_same p (part_of w l p.planned.card) (none p.planned.card))
+  either_same (Settle k) = refl
+  either_same (Audit k) = by (slice_get (checks s) k)
+    where
+      by : (o : Option Check) → audits w true o ≡ audits w false o
+      by None = refl
+      by (Some (PowersUp i card)) = ap (λ (found : List Decided). audit_found w i card found) (found_same (card_at w i).kept (card_at w i).pending (none i))
+      by (Some (Asks i card command)) = refl
+
+  happens_same : (e : Event) (choice : Bool) → happens s w e choice ≡ happens s w e false
+  happens_same e true = either_same e
+  happens_same e false = refl
+
+-- how far a run is, with its lines and its world
+pub record At : Type 0 where
+  pub place : Place
+  pub count : ℕ
+  pub lines : List Line
+  pub world : World
+
+module _ (s : ScenarioData) where
+  abbrev goes : At → Place → Event → At
+  goes at place e =
+      record { place = place; count = at.count + 1; lines = at.lines ++ (happens s at.world e false).lines; world = (happens s at.world e false).world }
+
+  abbrev moves : At → Place → At
+  moves at place = record { place = place; count = at.count; lines = at.lines; world = at.world }
+
+  abbrev by_schedule : At → ℕ → Option ℕ → Option At
+  by_schedule at k (Some l) = Some (goes at (Scheduled (k + 1)) (Turn l))
+  by_schedule at k None = Some (moves at (Round 0))
+
+  abbrev by_round : At → ℕ → Bool → Bool → Option At
+  by_round at l true over = Some (moves at (Round 0))
+  by_round at l false true = Some (moves at (Settling 0))
+  by_round at l false false = Some (goes at (Round (l + 1)) (Turn l))
+
+  abbrev by_settlement : At → ℕ → Option Settlement → Option At
+  by_settlement at k (Some one) = Some (goes at (Settling (k + 1)) (Settle k))
+  by_settlement at k None = Some (moves at (Auditing 0))
+
+  abbrev by_check : At → ℕ → Option Check → Option At
+  by_check at k (Some one) = Some (goes at (Auditing (k + 1)) (Audit k))
+  by_check at k None = Some (moves at Finished)
+
+  abbrev by_place : At → Place → Option At
+  by_place at (Scheduled k) = by_schedule at k (slice_get s.schedule k)
+  by_place at (Round l) = by_round at l (l == length s.lanes) ((l == 0) && all_over s at.world)
+  by_place at (Settling k) = by_settlement at k (slice_get (settlements s at.world) k)
+  by_place at (Auditing k) = by_check at k (slice_get (checks s) k)
+  by_place at Finished = None
+
+  abbrev next : At → Option At
+  next at = by_place at at.place
+
+  abbrev first : At
+  first = record { place = Scheduled 0; count = 0; lines = []; world = first_world s }
+
+  steps : ℕ → Option At
+  steps zero = Some first
+  steps (suc m) = option_and_then next (steps m)
+
+  -- so many moves lead there
+  record Leads (at : At) : Type 0 where
+    pub count : ℕ
+    pub is : steps count ≡ Some at
+
+  further : (at after : At) → Leads at → next at ≡ Some after → Leads after
+  unfolding steps
+  further at after leads is = record { count = suc leads.count; is = ap (option_and_then next) leads.is ∙ is }
+
+  module _ (some : 1 ≤ length s.lanes) (leaves : LeavesNone s) where
+    -- with whatever truth value an event is made
+    made : (at : At) (place : Place) (e : Event) (c : List Bool) (new : List Line) (after : World) → NoneOpen s at.world → Step s at.world e c new after
+        → goes at place e ≡ record { place = place; count = at.count + 1; lines = at.lines ++ new; world = after }
+    made at place e c new after none step =
+        let same : happens s at.world e (first_of c) ≡ happens s at.world e false = happens_same s at.world none e (first_of c) in
+        let lines : (happens s at.world e false).lines ≡ new = ap (λ (x : After). x.lines) (sym same) ∙ sym step.made in
+        let world : (happens s at.world e false).world ≡ after = ap (λ (x : After). x.world) (sym same) ∙ sym step.leads in
+        λ j. record { place = place; count = at.count + 1; lines = at.lines ++ lines j; world = world j }
+
+    past_end : {A : Type 0} (xs : List A) → slice_get xs (length xs) ≡ None
+    past_end [] = refl
+    past_end (x ∷ xs) = past_end xs
+
+    unlike : (l n : ℕ) → l < n → (l == n) ≡ false
+    unlike l n below = by (l == n) refl
+      where
+        by : (b : Bool) → (l == n) ≡ b → b ≡ false
+        by true is = absurd (let same : l ≡ n = eqb-true l n is in omega arith)
+        by false is = refl
+
+    going : (at : At) (place : Place) (e : Event) (c : List Bool) (new : List Line) (after : World) → NoneOpen s at.world → Step s at.world e c new after
+        → Leads at → next at ≡ Some (goes at place e) → Leads (record { place = place; count = at.count + 1; lines = at.lines ++ new; world = after })
+    going at place e c new after none step leads is = further at _ leads (is ∙ ap (λ (x : At). Some x) (made at place e c new after none step))
+
+    run_leads : (place : Place) (n : ℕ) (choices : List Bool) (lines : List Line) (w : World) → Reached s place n choices lines w
+        → Leads (record { place = place; count = n; lines = lines; world = w })
+    unfolding steps
+    run_leads _ _ _ _ _ start = record { count = 0; is = refl }
+    run_leads _ _ _ _ _ (scheduled {k} {l} {n} {cs} {c} {ls} {new} {w = v} {w' = v'} before at step) =
+        going (record { place = Scheduled k; count = n; lines = ls; world = v }) (Scheduled (k + 1)) (Turn l) c new v'
+        (λ i. none_is_open s _ n cs ls v i leaves before) step (run_leads _ n cs ls v before)
+        (ap (by_schedule (record { place = Scheduled k; count = n; lines = ls; world = v }) k) at)
+    run_leads _ _ _ _ _ (rounds {n} {cs} {ls} {w = v} before) =
+        let at : At = record { place = Scheduled (length s.schedule); count = n; lines = ls; world = v } in
+        further at _ (run_leads _ n cs ls v before) (ap (by_schedule at (length s.schedule)) (past_end s.schedule))
+    run_leads _ _ _ _ _ (round {l} {n} {cs} {c} {ls} {new} {w = v} {w' = v'} before inside busy step) =
+        let at : At = record { place = Round l; count = n; lines = ls; world = v } in
+        going at (Round (l + 1)) (Turn l) c new v' (λ i. none_is_open s _ n cs ls v i leaves before) step (run_leads _ n cs ls v before)
+        (ap (λ b. by_round at l b ((l == 0) && all_over s v)) (unlike l (length s.lanes) inside) ∙ ap (by_round at l false) (not_over (l == 0) refl))
+      where
+        not_over : (b : Bool) → (l == 0) ≡ b → (b && all_over s v) ≡ false
+        not_over true zero_is = busy (eqb-true l 0 zero_is)
+        not_over false other = refl
+    run_leads _ _ _ _ _ (again {n} {cs} {ls} {w = v} before) =
+        let at : At = record { place = Round (length s.lanes); count = n; lines = ls; world = v } in
+        further at _ (run_leads _ n cs ls v before)
+        (ap (λ b. by_round at (length s.lanes) b ((length s.lanes == 0) && all_over s v)) (eq-eqb (length s.lanes) (length s.lanes) refl))
+    run_leads _ _ _ _ _ (settlement {n} {cs} {ls} {w = v} before over) =
+        let at : At = record { place = Round 0; count = n; lines = ls; world = v } in
+        further at _ (run_leads _ n cs ls v before)
+        (ap (λ b. by_round at 0 b (true && all_over s v)) (unlike 0 (length s.lanes) (omega arith)) ∙ ap (by_round at 0 false) over)
+    run_leads _ _ _ _ _ (settling {k} {n} {cs} {c} {ls} {new} {w = v} {w' = v'} before at step) =
+        going (record { place = Settling k; count = n; lines = ls; world = v }) (Settling (k + 1)) (Settle k) c new v'
+        (λ i. none_is_open s _ n cs ls v i leaves before) step (run_leads _ n cs ls v before)
+        (ap (by_settlement (record { place = Settling k; count = n; lines = ls; world = v }) k) at)
+    run_leads _ _ _ _ _ (audit {k} {n} {cs} {ls} {w = v} before past) =
+        let at : At = record { place = Settling k; count = n; lines = ls; world = v } in
+        further at _ (run_leads _ n cs ls v before) (ap (by_settlement at k) past)
+    run_leads _ _ _ _ _ (auditing {k} {n} {cs} {c} {ls} {new} {w = v} {w' = v'} before at step) =
+        going (record { place = Auditing k; count = n; lines = ls; world = v }) (Auditing (k + 1)) (Audit k) c new v'
+        (λ i. none_is_open s _ n cs ls v i leaves before) step (run_leads _ n cs ls v before)
+        (ap (by_check (record { place = Auditing k; count = n; lines = ls; world = v }) k) at)
+    run_leads _ _ _ _ _ (finished {k} {n} {cs} {ls} {w = v} before past) =
+        let at : At = record { place = Auditing k; count = n; lines = ls; world = v } in
+        further at _ (run_leads _ n cs ls v before) (ap (by_check at k) past)
+
+  -- nothing follows the end
+  gone : (m n : ℕ) → m ≤ n → steps m ≡ None → steps n ≡ None
+  unfolding steps
+  gone m zero within none = absurd (let zero_is : m ≡ 0 = omega arith in let some : Some first ≡ None = ap steps (sym zero_is) ∙ none in cc)
+  gone m (suc n) within none =
+      elim (cases_lt m (suc n)) [
+        | inl below ↦ ap (option_and_then next) (gone m n (omega arith) none)
+        | inr same ↦ (let e : m ≡ suc n = omega arith in ap steps (sym e) ∙ none)
+      ]
+
+  ends : (m : ℕ) (at : At) → at.place ≡ Finished → steps m ≡ Some at → steps (suc m) ≡ None
+  unfolding steps
+  ends m at over is = ap (option_and_then next) is ∙ ap (by_place at) over
+
+  only : (x y : At) → x.place ≡ Finished → y.place ≡ Finished → Leads x → Leads y → x ≡ y
+  only x y one other here there = by (cases_lt here.count there.count) (cases_lt there.count here.count)
+    where
+      never : (a b : At) (m n : ℕ) → a.place ≡ Finished → steps m ≡ Some a → steps n ≡ Some b → m < n → ⊥
+      never a b m n over first_is then_is below = let none : steps n ≡ None = gone (suc m) n (omega arith) (ends m a over first_is) in cc
+
+      by : (here.count < there.count) ⊎ (there.count ≤ here.count) → (there.count < here.count) ⊎ (here.count ≤ there.count) → x ≡ y
+      by (inl below) other_order = absurd (never x y here.count there.count one here.is there.is below)
+      by (inr past) (inl above) = absurd (never y x there.count here.count other there.is here.is above)
+      by (inr past) (inr most) = let same : here.count ≡ there.count = omega arith in same_Some x y (sym here.is ∙ ap steps same ∙ there.is)
+
+pub run_is_one : RunIsOne
+run_is_one s lines others w v fits leaves one other =
+    let x : At = record { place = Finished; count = one.count; lines = one.reported; world = w } in
+    let y : At = record { place = Finished; count = other.count; lines = other.reported; world = v } in
+    let same : x ≡ y =
+    only s x y refl refl (run_leads s fits.tables.some_lane leaves Finished one.count one.choices one.reported w one.reached)
+    (run_leads s fits.tables.some_lane leaves Finished other.count other.choices other.reported v other.reached) in
+    record {
+      told = one.whole ∙ ap (λ (at : At). at.lines ++ closing s at.world) same ∙ sym other.whole;
+      led = ap (λ (at : At). at.world) same;
+    }
