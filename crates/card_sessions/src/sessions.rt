@@ -656,7 +656,13 @@ const LIMITS: [(Variant, &[Line]); 30] = [
     // the next occurrence before any SELECT is the first one
     (
         Variant::Base,
-        &[("00a4040207a000000003101000", SELECT.1), OPTIONS],
+        &[
+            (
+                "00a4040207a000000003101000",
+                "6f168407a0000000031010a50b50064352454449548701019000",
+            ),
+            OPTIONS,
+        ],
     ),
     // the amount of the second list is within the limits, or not
     (
@@ -666,7 +672,7 @@ const LIMITS: [(Variant, &[Line]); 30] = [
             OPTIONS,
             (
                 "80ae80001d000000002500000000000000084080000000000840240615000102030400",
-                REQUEST.1,
+                "801180000b204bb40db680038e0180000003019000",
             ),
             (
                 "80ae40001f5933000000020001000000000000084080000000000840240615000102030400",
