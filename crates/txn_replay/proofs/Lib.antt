@@ -46,4 +46,5 @@ pub mod Lining
 pub mod Hearing
 pub mod Lost
 pub mod Unique
+pub mod SameTotals
 mod Worked

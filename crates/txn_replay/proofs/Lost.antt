@@ -33,11 +33,11 @@ use Rattle.txn_replay.proofs.Losses.{piece_told}
 use Rattle.txn_replay.proofs.Payments.{payment_facts}
 use Rattle.txn_replay.proofs.Sounding.{first_sound}
 
-card-push : (l : ℕ) (before : List Line) (line : Line) → card_told l (before ++ line ∷ []) ≡ card_next l (card_told l before) line
+pub card-push : (l : ℕ) (before : List Line) (line : Line) → card_told l (before ++ line ∷ []) ≡ card_next l (card_told l before) line
 unfolding card_told
 card-push l before line = fold_push (card_next l) [] before line
 
-losses-append : (name : List ℕ) (before xs ys : List Line) → losses_behind name before (xs ++ ys) ≡ losses_behind name before xs + losses_behind name (before ++ xs) ys
+pub losses-append : (name : List ℕ) (before xs ys : List Line) → losses_behind name before (xs ++ ys) ≡ losses_behind name before xs + losses_behind name (before ++ xs) ys
 unfolding losses_behind
 losses-append name before [] ys =
     let none : losses_behind name before ys ≡ 0 + losses_behind name before ys = omega arith in

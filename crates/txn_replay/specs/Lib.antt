@@ -20,3 +20,4 @@ pub mod Seen
 pub mod Slot
 pub mod SeenSlot
 pub mod Called
+pub mod PagesTell

@@ -2,6 +2,7 @@
 ghost use Rattle.txn_replay.specs.Bounds.{WorldsAreFew, SettlementsAreFew, ChecksAreFew};
 ghost use Rattle.txn_replay.specs.Choices.{NoneIsOpen, RunIsOne};
 ghost use Rattle.txn_replay.specs.Laws.{RunsAreFair, WholeRunsAreFair, WorldsAreSound, IdleLanesStay, LanesStayApart, LossesAreTold, StuckIsOver, CalmIsOver};
+ghost use Rattle.txn_replay.specs.PagesTell.{PagesTellTotals};
 ghost use Rattle.txn_replay.specs.Telling.{GivenIsTold, GivenIsLeft, HeldIsSure, AnsweredIsSure};
 ghost use Rattle.txn_replay.specs.Told.{RunsTellLosses, RunsTellReplies, PastsEnd};
 
@@ -67,4 +68,10 @@ pub fn losses_are_told()
 pub fn run_is_one()
     ensures closed { NoneIsOpen }
     ensures one { RunIsOne }
+{}
+
+/// Two runs of a scenario that leave the same pages, with no decision open, end with the same totals of every card
+/// with applications, whatever their lines.
+pub fn pages_tell_totals()
+    ensures { PagesTellTotals }
 {}

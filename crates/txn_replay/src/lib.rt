@@ -16,8 +16,8 @@ pub mod world;
 
 pub use event::Event;
 pub use laws::{
-    cards_are_told, lanes_are_sound, losses_are_told, replies_are_told, run_is_one, runs_are_fair,
-    runs_end,
+    cards_are_told, lanes_are_sound, losses_are_told, pages_tell_totals, replies_are_told,
+    run_is_one, runs_are_fair, runs_end,
 };
 pub use lines::Lines;
 pub use world::{NoWorld, World};

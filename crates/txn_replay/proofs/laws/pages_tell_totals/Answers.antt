@@ -1,0 +1,5 @@
+use Rattle.txn_replay.proofs.SameTotals.{pages_tell}
+use Rattle.txn_replay.proofs.laws.pages_tell_totals.Goals as goal
+
+pub returns : goal.returns
+returns c = pages_tell
