@@ -114,6 +114,16 @@ fn commands_of(alloc: Global, texts: &[&str]) -> Result<Vec<Ordered>, Fail>
     Ok(commands)
 }
 
+/// An identifier has four bytes.
+fn identifier_of(id: Option<[u8; 4]>) -> Option<[u8; 4]>
+    ensures { IfSome result (λ id. length id ≡ 4) }
+{
+    let bytes = id?;
+    let mut copy = [0; 4];
+    copy.copy_from_slice(&bytes);
+    Some(copy)
+}
+
 fn script_of(rt: &impl Abort, alloc: Global, planned: &Planned) -> Result<Script, Fail>
     ensures { IfOk result IsScript }
 {
@@ -121,7 +131,7 @@ fn script_of(rt: &impl Abort, alloc: Global, planned: &Planned) -> Result<Script
     assert!(rt; 1 <= commands.len() && commands.len() <= 16);
     Ok(Script {
         before: planned.before,
-        id: planned.id,
+        id: identifier_of(planned.id),
         commands,
     })
 }
