@@ -39,7 +39,7 @@ placed_count : (place : ℕ) (fields : List (ℕ × List ℕ)) → length (place
 placed_count place [] = refl
 placed_count place (field ∷ fields) = ap suc (placed_count (place + length (written field.0 field.1)) fields)
 
-ends_placed : (fields : List (ℕ × List ℕ)) (front rest bytes : List ℕ) → are_tags fields ≡ true → bytes ≡ front ++ (spelled fields ++ rest)
+pub ends_placed : (fields : List (ℕ × List ℕ)) (front rest bytes : List ℕ) → are_tags fields ≡ true → bytes ≡ front ++ (spelled fields ++ rest)
     → end_behind bytes (length front) (placed (length front) fields ++ []) ≡ length front + length (spelled fields)
 ends_placed [] front rest bytes are same = omega arith
 ends_placed (field ∷ fields) front rest bytes are same =
