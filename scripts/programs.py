@@ -75,24 +75,33 @@ def built(name):
     return proved(name)
 
 
-class Builder:
-    """Builds a crate's program, and says what it is at."""
+def say(text):
+    """A line for people: on standard error, so that standard output is the program's alone."""
+    print(f"emvrun: {text}", file=sys.stderr, flush=True)
 
-    def __init__(self, name, say):
-        self.name, self.say = name, say
+
+def silent(text):
+    """Where nothing is to be said."""
+
+
+class Builder:
+    """Builds a crate's program, and tells what it is at. What keeps it from building is said in any case."""
+
+    def __init__(self, name, tell):
+        self.name, self.tell = name, tell
         self.crate = ROOT / "crates" / name
 
     def tool(self):
         """The path of the toolchain's command; where it is missing, no build can be made."""
         path = shutil.which(TOOL)
         if path is None:
-            self.say(f"there is no build yet, and `{TOOL}`, the command of the Rattle kit, is not on the PATH")
+            say(f"there is no build of {self.name} yet, and `{TOOL}`, the command of the Rattle kit, is not on the PATH")
             sys.exit(1)
         return path
 
     def failed(self, what, log):
         """Says what failed, with the end of what the toolchain said, and ends."""
-        self.say(f"{what} failed:")
+        say(f"{what} failed:")
         print("\n".join(log.strip().split("\n")[-25:]), file=sys.stderr)
         sys.exit(1)
 
@@ -104,20 +113,20 @@ class Builder:
     def prove_and_build(self):
         """Proves the libraries one after the other, then the program; a line each, with how many are left."""
         crates = crates_of(self.name)
-        self.say(f"{len(crates)} crates are proved, then the program is built: {BUILD_TIME}")
+        self.tell(f"{len(crates)} crates are proved, then the program is built: {BUILD_TIME}")
         proved(self.name).unlink(missing_ok=True)
         start = time.monotonic()
         for left, crate in zip(range(len(crates) - 1, 0, -1), crates):
-            self.say(f"{minutes(start)}: {crate}; {left} left")
+            self.tell(f"{minutes(start)}: {crate}; {left} left")
             run = self.run(["lib"], ROOT / "crates" / crate)
             if run.returncode != 0:
                 self.failed(f"the proof of {crate}", run.stdout)
-        self.say(f"{minutes(start)}: {self.name}, the program; 0 left")
+        self.tell(f"{minutes(start)}: {self.name}, the program; 0 left")
         # Without words the program prints its usage line and ends with 2.
         run = self.run(["run"], self.crate)
         if not os.access(proved(self.name), os.X_OK):
             self.failed("the build", run.stdout)
-        self.say(f"{minutes(start)}: proved and built")
+        self.tell(f"{minutes(start)}: proved and built")
 
     def make_trial(self):
         """Makes the trial build, which is not proved."""
@@ -139,7 +148,7 @@ class Builder:
         if is_fresh(proved(self.name), self.name):
             return proved(self.name), True
         if not is_fresh(trial(self.name), self.name):
-            self.say(f"a trial build is made ({TRIAL_TIME}), which is not proved; it is kept until a source changes")
+            self.tell(f"a trial build is made ({TRIAL_TIME}), which is not proved; it is kept until a source changes")
             self.make_trial()
         return trial(self.name), False
 
