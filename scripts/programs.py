@@ -168,3 +168,9 @@ def keep_program(folder, ended):
             except OSError:
                 pass
         time.sleep(0.001)
+
+
+if __name__ == "__main__":
+    for crate in sys.argv[1:]:
+        if (ROOT / "crates" / crate).is_dir():
+            built(crate)
