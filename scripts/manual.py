@@ -11,7 +11,8 @@ SECTIONS = [
         ("`emvrun` [`-q`] `read` < SCENARIO.toml", ""),
         ("`emvrun` [`-q`] `generate` N", ""),
         ("`emvrun` `--build` | `--help` | `--version`", ""),
-        ("`explain` [`--brief`] [`--ends`] [`--lane` N] [`--purchase` N] [SCENARIO.toml]", ""),
+        ("`explain` [`-q`] [`--brief`] [`--ends`] [`--lane` N] [`--purchase` N] [SCENARIO.toml]", ""),
+        ("`explain` `--build` | `--help`", ""),
     ]),
     ("DESCRIPTION", [
         "A scenario is a TOML document with an issuer's keys and accounts, cards with their applications and records, "
