@@ -1,0 +1,29 @@
+//! Bytes in hexadecimal.
+ghost use Rattle.std.specs.Prelude.{◌≡◌, Ok, IfOk, IfSome};
+ghost use Rattle.report_lines.specs.Bytes.{bytes_in};
+
+use hex::FromHexError;
+use std::alloc::{AllocError, Global};
+
+/// Whether each character is a digit or a lower-case letter.
+fn is_lower(text: &[u8]) -> bool {
+    text.iter().all(|byte| *byte < b'A' || *byte > b'F')
+}
+
+/// The bytes that a text writes in lower-case hexadecimal, `-` for none; `None` where it writes none.
+#[tactic(auto, unfolding(crate::specs::Bytes::bytes_in))]
+pub fn bytes_of(alloc: Global, text: &[u8]) -> Result<Option<Vec<u8>>, AllocError>
+    ensures { IfOk result (λ found. IfSome found (λ bytes. bytes_in text.now ≡ Ok bytes.items)) }
+{
+    if text == b"-".as_slice() {
+        return Ok(Some(Vec::new(alloc)));
+    }
+    if text.is_empty() || !is_lower(text) {
+        return Ok(None);
+    }
+    match hex::decode(alloc, text) {
+        Ok(bytes) => Ok(Some(bytes)),
+        Err(FromHexError::OutOfMemory) => Err(AllocError),
+        Err(_) => Ok(None),
+    }
+}

@@ -1,0 +1,74 @@
+-- Text that is appended to an open line, byte by byte.
+use Rattle.std.proofs.Common.{◌≡◌, ℕ, ◌+◌, ◌<◌, ◌≤◌, Bool, true, false, List, [], ◌∷◌, ◌++◌, length, map, take, get_or, refl, sym, ap, ◌∙◌, append_assoc, ◌/◌, ◌%◌}
+use Rattle.std.specs.List.{flat_map}
+use Rattle.std.proofs.lemmas.List.{append-nil, take_more, take_all, map-append}
+use Rattle.std.proofs.lemmas.Bool.{false≢true}
+use Rattle.std.proofs.lemmas.Grind.{flat_map-append}
+use Rattle.word_lines.specs.Hex.{digit_text, pair_text}
+use Rattle.word_lines.specs.Lines.{WordsData, stage_of, opened, shown}
+use Rattle.word_lines.proofs.Stages.{opened-open}
+
+-- what has failed stays so: what has not failed yet has not failed before
+pub not_before : (before after : Bool) → (before ≡ true → after ≡ true) → after ≡ false → before ≡ false
+not_before false after stays none = refl
+not_before true after stays none = absurd (false≢true (sym none ∙ stays refl))
+
+-- behind these bytes a text was appended, and the line is open
+pub record IsGrown (old new : WordsData) (first text : List ℕ) : Type 0 where
+  pub bytes : new.failed ≡ false → new.bytes ≡ first ++ map shown text
+  pub one : new.failed ≡ false → stage_of new.bytes ≡ 2
+  pub failed : old.failed ≡ true → new.failed ≡ true
+
+pub grown_start : (old new : WordsData) (first : List ℕ) → (new.failed ≡ false → new.bytes ≡ first) → (new.failed ≡ false → stage_of new.bytes ≡ 2)
+    → (old.failed ≡ true → new.failed ≡ true) → IsGrown old new first []
+grown_start old new first bytes one failed = record {
+  bytes = λ none. bytes none ∙ sym (append-nil first);
+  one = one;
+  failed = failed;
+}
+
+-- one byte more
+pub grown_more : (old mid new : WordsData) (first text : List ℕ) (i b : ℕ) → i < length text → b ≡ get_or text i 0
+    → IsGrown old mid first (take i text)
+    → (new.failed ≡ false → new.bytes ≡ mid.bytes ++ shown b ∷ []) → (new.failed ≡ false → stage_of new.bytes ≡ 2) → (mid.failed ≡ true → new.failed ≡ true)
+    → IsGrown old new first (take (i + 1) text)
+grown_more old mid new first text i b within here grown bytes one failed = record {
+  bytes = λ none.
+      let more : take (i + 1) text ≡ take i text ++ b ∷ [] = take_more text i 0 within ∙ ap (λ y. take i text ++ y ∷ []) (sym here) in
+      bytes none ∙ ap (λ (t : List ℕ). t ++ shown b ∷ []) (grown.bytes (not_before mid.failed new.failed failed none))
+      ∙ append_assoc first (map shown (take i text)) (shown b ∷ [])
+      ∙ ap (λ (t : List ℕ). first ++ t) (sym (map-append shown (take i text) (b ∷ [])))
+      ∙ ap (λ (t : List ℕ). first ++ map shown t) (sym more);
+  one = one;
+  failed = λ was. failed (grown.failed was);
+}
+
+-- the whole text
+pub grown_end : (old new : WordsData) (first text : List ℕ) (i : ℕ) → length text ≤ i → IsGrown old new first (take i text) → new.failed ≡ false → new.bytes ≡ first ++ map shown text
+grown_end old new first text i past grown none = grown.bytes none ∙ ap (λ (t : List ℕ). first ++ map shown t) (take_all i text past)
+
+-- two digits more
+pub grown_pair : (old mid new : WordsData) (first bytes : List ℕ) (i b x y : ℕ) → i < length bytes → b ≡ get_or bytes i 0
+    → IsGrown old mid first (flat_map pair_text (take i bytes)) → x ≡ digit_text (b / 16) → y ≡ digit_text (b % 16)
+    → (new.failed ≡ false → new.bytes ≡ opened mid.bytes ++ map shown (x ∷ y ∷ [])) → (new.failed ≡ false → stage_of new.bytes ≡ 2)
+    → (mid.failed ≡ true → new.failed ≡ true) → IsGrown old new first (flat_map pair_text (take (i + 1) bytes))
+grown_pair old mid new first bytes i b x y within here grown high low text one failed = record {
+  bytes = λ none.
+      let before : mid.failed ≡ false = not_before mid.failed new.failed failed none in
+      let more : take (i + 1) bytes ≡ take i bytes ++ b ∷ [] = take_more bytes i 0 within ∙ ap (λ y. take i bytes ++ y ∷ []) (sym here) in
+      let pair : x ∷ y ∷ [] ≡ flat_map pair_text (b ∷ []) = ap (λ x. x ∷ y ∷ []) high ∙ ap (λ y. digit_text (b / 16) ∷ y ∷ []) low in
+      text none
+      ∙ ap (λ (t : List ℕ). t ++ map shown (x ∷ y ∷ [])) (opened-open mid.bytes (grown.one before) ∙ grown.bytes before)
+      ∙ append_assoc first (map shown (flat_map pair_text (take i bytes))) (map shown (x ∷ y ∷ []))
+      ∙ ap (λ (t : List ℕ). first ++ t) (sym (map-append shown (flat_map pair_text (take i bytes)) (x ∷ y ∷ [])))
+      ∙ ap (λ (t : List ℕ). first ++ map shown (flat_map pair_text (take i bytes) ++ t)) pair
+      ∙ ap (λ (t : List ℕ). first ++ map shown t) (sym (flat_map-append pair_text (take i bytes) (b ∷ [])))
+      ∙ ap (λ (t : List ℕ). first ++ map shown (flat_map pair_text t)) (sym more);
+  one = one;
+  failed = λ was. failed (grown.failed was);
+}
+
+-- no digits yet
+pub grown_none : (old new : WordsData) (first : List ℕ) → (new.failed ≡ false → new.bytes ≡ first ++ map shown []) → (new.failed ≡ false → stage_of new.bytes ≡ 2)
+    → (old.failed ≡ true → new.failed ≡ true) → IsGrown old new first []
+grown_none old new first bytes one failed = record { bytes = bytes; one = one; failed = failed }

@@ -1,0 +1,7 @@
+//! Lines of words that stand behind a line of a report: each begins with two blanks at least.
+#![tactic(auto, using(crate::proofs::Stages::stages))]
+
+pub mod lines;
+pub mod pieces;
+
+pub use lines::WordLines;

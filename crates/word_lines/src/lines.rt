@@ -1,0 +1,159 @@
+//! The buffer of the lines.
+ghost use Rattle.std.specs.Prelude.{◌≡◌, ◌++◌, ◌≤◌, ◌∷◌, [], map, true, false, OnOk};
+ghost use Rattle.word_lines.specs.Lines.{AreWordLines, begun, closed, opened, shown, stage_of};
+
+use std::alloc::{AllocError, Global};
+use std::marker::Model;
+
+/// Lines that begin with two blanks and end with a newline; the last one may still be open. Where there
+/// is no memory for more, the buffer has failed for good and takes nothing more. Contracts see the bytes,
+/// and whether it has failed.
+#[derive(Drop)]
+pub struct WordLines {
+    bytes: Vec<u8>,
+    started: bool,
+    failed: bool,
+}
+
+/// The blanks before a line's words, but for the first two.
+const BLANKS: &[u8; 16] = b"                ";
+
+/// A printable character of ASCII, or `?`.
+fn shown(byte: u8) -> u8
+    ensures shown { result ≡ shown byte }
+    ensures printable { 32 ≤ result }
+{
+    if 32 <= byte && byte <= 126 {
+        byte
+    } else {
+        b'?'
+    }
+}
+
+impl Model for WordLines {
+    ghost use Rattle.std.specs.Prelude.{◌≡◌, if◌then◌else◌};
+    ghost use Rattle.word_lines.specs.Lines.{WordsData, stage_of};
+
+    ghost Value = { WordsData };
+
+    ghost view = { λ w. record { bytes = w.bytes.items; failed = w.failed } };
+
+    ghost invariant = { λ w. stage_of w.bytes.items ≡ (if w.started then 2 else 0) };
+}
+
+impl WordLines {
+    /// No lines.
+    pub fn new(alloc: Global) -> WordLines
+        ensures empty { result.bytes ≡ [] }
+        ensures whole { result.failed ≡ false }
+    {
+        WordLines {
+            bytes: Vec::new(alloc),
+            started: false,
+            failed: false,
+        }
+    }
+
+    /// Takes the lines away. A failure stays.
+    pub fn clear(&mut self)
+        ensures empty { self.new.bytes ≡ [] }
+        ensures failed { self.new.failed ≡ self.old.failed }
+    {
+        self.bytes.clear();
+        self.started = false;
+    }
+
+    /// Ends the open line, where there is one.
+    fn end(&mut self)
+        ensures ended { self.new.failed ≡ false → self.new.bytes ≡ closed self.old.bytes }
+        ensures none { self.new.failed ≡ false → stage_of self.new.bytes ≡ 0 }
+        ensures failed { self.old.failed ≡ true → self.new.failed ≡ true }
+    {
+        if self.failed {
+            return;
+        }
+        if self.started {
+            match self.bytes.push(b'\n') {
+                Ok(()) => self.started = false,
+                Err(_) => self.failed = true,
+            }
+        }
+    }
+
+    /// Begins a line where none is open.
+    fn begin(&mut self)
+        ensures begun { self.new.failed ≡ false → self.new.bytes ≡ opened self.old.bytes }
+        ensures one { self.new.failed ≡ false → stage_of self.new.bytes ≡ 2 }
+        ensures failed { self.old.failed ≡ true → self.new.failed ≡ true }
+    {
+        if self.failed {
+            return;
+        }
+        if !self.started {
+            match self.bytes.extend_from_slice(b"  ") {
+                Ok(()) => self.started = true,
+                Err(_) => self.failed = true,
+            }
+        }
+    }
+
+    /// Appends a byte to the open line. A byte that is no printable character of ASCII becomes `?`.
+    fn push(&mut self, byte: u8)
+        requires { self.old.failed ≡ false → stage_of self.old.bytes ≡ 2 }
+        ensures shown { self.new.failed ≡ false → self.new.bytes ≡ self.old.bytes ++ shown byte ∷ [] }
+        ensures one { self.new.failed ≡ false → stage_of self.new.bytes ≡ 2 }
+        ensures failed { self.old.failed ≡ true → self.new.failed ≡ true }
+    {
+        if self.failed {
+            return;
+        }
+        if self.bytes.push(shown(byte)).is_err() {
+            self.failed = true;
+        }
+    }
+
+    /// Ends the open line and begins a new one, with two blanks for each level: one level at least, nine at
+    /// most.
+    pub fn line(&mut self, level: u8)
+        ensures begun { self.new.failed ≡ false → self.new.bytes ≡ begun self.old.bytes level }
+        ensures failed { self.old.failed ≡ true → self.new.failed ≡ true }
+    {
+        self.end();
+        let more = usize::from(level).saturating_sub(1).min(8);
+        self.text(&BLANKS[..2 * more]);
+    }
+
+    /// Appends characters to the open line, or to a new one. A byte that is no printable character of
+    /// ASCII becomes `?`.
+    pub fn text(&mut self, text: &[u8])
+        ensures text { self.new.failed ≡ false → self.new.bytes ≡ opened self.old.bytes ++ map shown text.now }
+        ensures one { self.new.failed ≡ false → stage_of self.new.bytes ≡ 2 }
+        ensures failed { self.old.failed ≡ true → self.new.failed ≡ true }
+    {
+        self.begin();
+        for byte in text {
+            self.push(*byte);
+        }
+    }
+
+    /// Ends the open line. An error says that there was no memory, for this or an earlier piece.
+    #[tactic(auto, unfolding(crate::specs::Lines::AreWordLines))]
+    pub fn finish(&mut self) -> Result<(), AllocError>
+        ensures lines { OnOk result (AreWordLines self.new.bytes) }
+        ensures ended { OnOk result (self.new.bytes ≡ closed self.old.bytes) }
+        ensures whole { OnOk result (self.new.failed ≡ false) }
+    {
+        self.end();
+        if self.failed {
+            return Err(AllocError);
+        }
+        Ok(())
+    }
+
+    /// The bytes of the lines.
+    pub fn as_slice(&self) -> &[u8]
+        ensures { result.now ≡ self.now.bytes }
+    {
+        &self.bytes
+    }
+}
