@@ -6,6 +6,7 @@ ghost use Rattle.std.specs.Prelude.{◌≡◌, option_and_then, option_map, leng
 ghost use Rattle.std.specs.Option.{ForSome};
 ghost use Rattle.emv_dict.specs.Date.{date_of};
 ghost use Rattle.object_lists.specs.Forms.{is_day};
+ghost use Rattle.restrictions.specs.Laws.{AreOwn};
 ghost use Rattle.restrictions.specs.Restricted as spec;
 
 mod usage;
@@ -19,7 +20,9 @@ use usage::Usage;
 /// terminal: "versions differ", "service not allowed", "not yet effective" and "expired".
 #[tactic(auto, unfolding(crate::specs::Restricted::restricted))]
 pub fn restrict(card: &CardData, settings: &Settings, row: &AidRow, purchase: &Purchase) -> Tvr
-    ensures { result.0 ≡ spec.restricted card.now settings.now row.now purchase.now }
+    ensures bits { result.0 ≡ spec.restricted card.now settings.now row.now purchase.now }
+    // No bit of another step stands.
+    ensures own { AreOwn result.0 }
 {
     Tvr::of_conditions(&[
         (versions_differ(card, row), Tvr::VERSIONS_DIFFER),
