@@ -56,6 +56,6 @@ fci_in_template (Some template) = fci_in (items_of template)
 unfoldable pub fci_of : List ℕ → Option FciData
 fci_of body = fci_in_template (sole_value 0x6F (items_of body))
 
--- an object list has no more bytes than the body of an answer
+-- an object list is no longer than one that can be read
 abbrev pub IsShort : Option (List ℕ) → Type 0
-IsShort pdol = IfSome pdol (λ list. length list ≤ 256)
+IsShort pdol = IfSome pdol (λ list. length list ≤ 255)

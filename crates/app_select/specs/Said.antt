@@ -51,7 +51,7 @@ is_longer aid name = nat_lt (length aid) (length name) && starts_with nat_eq nam
 abbrev pub is_supported : List ℕ → Bool → List ℕ → Bool
 is_supported aid partial name = bytes_eq name aid || (partial && is_longer aid name)
 
--- the object list of an answer has room in a buffer
+-- the object list of an answer is short
 abbrev pub IsSaidShort : SaidData → Type 0
 IsSaidShort Unreadable = ⊤
 IsSaidShort Blocked = ⊤

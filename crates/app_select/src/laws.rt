@@ -4,6 +4,7 @@ ghost use Rattle.std.specs.List.{AllByRecursion, list_any};
 ghost use Rattle.app_select.specs.Candidates.{CandidateData, firsts, has_name, has_rank, ordered, rank_of};
 ghost use Rattle.app_select.specs.Listed.{listed};
 ghost use Rattle.app_select.specs.Laws.{HasDistinctNames, IsRising};
+ghost use Rattle.app_select.specs.Said.{IsSaidShort, select_said};
 ghost use Rattle.emv_dict.specs.declared.purchase.AidRow.{AidRow};
 
 /// The numbers that the list's answers get: no occurrence of an AID is the seventeenth, and no answer is
@@ -28,4 +29,11 @@ pub fn order_is_stable()
 pub fn names_stand_once()
     ensures distinct { (found : List CandidateData) → HasDistinctNames (firsts found) }
     ensures there { (found : List CandidateData) (name : List ℕ) → list_any (has_name name) (firsts found) ≡ list_any (has_name name) found }
+{}
+
+/// That an object list (9F38) above 255 bytes can't be read is no limit to a card: no answer to SELECT has
+/// room for one.
+#[tactic(auto, using(crate::proofs::Bounds::said_short))]
+pub fn answers_have_no_room()
+    ensures { (answer : List ℕ) → IsSaidShort (select_said answer) }
 {}

@@ -10,7 +10,7 @@ pub mod search;
 pub mod selecting;
 
 pub use candidates::Candidates;
-pub use laws::{answers_are_numbered, names_stand_once, order_is_stable};
+pub use laws::{answers_are_numbered, answers_have_no_room, names_stand_once, order_is_stable};
 pub use search::{Choice, Search, SearchNext};
 pub use selecting::{SelectNext, Selected, Selecting, steps_give_chosen};
 
