@@ -1,2 +1,3 @@
 pub mod JudgingSteps
 pub mod Rising
+pub mod OwnBits

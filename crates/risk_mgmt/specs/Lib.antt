@@ -1,5 +1,6 @@
 pub mod Asked
 pub mod Counters
 pub mod Judging
+pub mod Laws
 pub mod Risky
 pub mod Selected

@@ -4,10 +4,12 @@
 
 pub mod counters;
 pub mod judging;
+pub mod laws;
 pub mod selection;
 
 pub use emv_dict::Judged;
 pub use judging::{JudgeNext, Judging};
+pub use laws::bits_are_own;
 pub use selection::is_selected;
 
 #[cfg(test)]
