@@ -3,7 +3,7 @@ use Rattle.std.proofs.Common.{◌≡◌, ℕ, ◌≤◌, false, List, [], ◌∷
 use Rattle.std.specs.List.{fold}
 use Rattle.std.proofs.lemmas.List.Sums.{fold-append}
 use Rattle.std.proofs.lemmas.Bool.Decides.{nat_tests}
-use Rattle.word_lines.specs.Lines.{stage_of, next_stage, opened, closed}
+use Rattle.word_lines.specs.Lines.{stage_of, next_stage, opened, closed, AreWordLines}
 
 pub stage_of-append : (xs ys : List ℕ) → stage_of (xs ++ ys) ≡ fold next_stage (stage_of xs) ys
 unfolding stage_of
@@ -54,3 +54,8 @@ opened-again xs (inl none) = ap opened (opened-none xs none) ∙ opened-open (xs
 opened-again xs (inr begun) = ap opened (opened-open xs begun)
 
 pub ruleset stages = (stage_ended, stage_begun, stage_pushed, opened-open, opened-none, closed-open, closed-none, stage_of-nothing)
+
+-- no lines are lines of words
+pub no_words : AreWordLines []
+unfolding AreWordLines
+no_words = stage_of-nothing

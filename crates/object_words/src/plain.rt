@@ -1,0 +1,205 @@
+//! Values that are numbers, digits or characters. Each teller says whether it told the value: a value of
+//! another length or content is left as it is.
+use emv_dict::{Date, amount_of, has_digits};
+use word_lines::WordLines;
+
+/// The number of these bytes, the first one the highest; the greatest one where they are more than eight.
+pub fn number_in(value: &[u8]) -> u64 {
+    let mut number: u64 = 0;
+    for byte in value {
+        number = number.saturating_mul(256).saturating_add(u64::from(*byte));
+    }
+    number
+}
+
+/// Tells bytes in hexadecimal, or `-` where there are none.
+pub fn tell_hex(out: &mut WordLines, value: &[u8]) {
+    if value.is_empty() {
+        out.text(b"-");
+    } else {
+        out.hex(value);
+    }
+}
+
+/// Whether each byte has two decimal digits.
+pub(crate) fn all_digits(value: &[u8]) -> bool {
+    value.iter().all(|byte| has_digits(*byte))
+}
+
+/// Tells printable characters.
+pub(crate) fn tell_text(out: &mut WordLines, value: &[u8]) -> bool {
+    if value.is_empty() || !value.iter().all(|byte| 32 <= *byte && *byte <= 126) {
+        return false;
+    }
+    out.text(value);
+    true
+}
+
+/// Whether a half byte may stand behind filler or none, and whether it is filler: digits stand before F.
+fn after_half(filler: bool, half: u8) -> Option<bool> {
+    if half == 15 {
+        Some(true)
+    } else if half <= 9 && !filler {
+        Some(false)
+    } else {
+        None
+    }
+}
+
+/// Whether the half bytes are digits, and F behind them.
+fn are_filled_digits(value: &[u8]) -> bool {
+    let mut filler = false;
+    for byte in value {
+        let Some(high) = after_half(filler, *byte / 16) else {
+            return false;
+        };
+        let Some(low) = after_half(high, *byte % 16) else {
+            return false;
+        };
+        filler = low;
+    }
+    !value.is_empty()
+}
+
+/// How many decimal digits stand before the filler F; `None` where other half bytes stand there.
+pub fn digits_in(value: &[u8]) -> Option<u64> {
+    if !are_filled_digits(value) {
+        return None;
+    }
+    let mut count: u64 = 0;
+    for byte in value {
+        if *byte / 16 != 15 {
+            count = count.saturating_add(1);
+        }
+        if *byte % 16 != 15 {
+            count = count.saturating_add(1);
+        }
+    }
+    Some(count)
+}
+
+/// Tells a half byte that is no filler.
+fn tell_half(out: &mut WordLines, half: u8) {
+    if half != 15 {
+        out.number(u64::from(half));
+    }
+}
+
+/// Tells decimal digits, without the filler F.
+pub fn tell_digits(out: &mut WordLines, value: &[u8]) -> bool {
+    if !are_filled_digits(value) {
+        return false;
+    }
+    for byte in value {
+        tell_half(out, *byte / 16);
+        tell_half(out, *byte % 16);
+    }
+    true
+}
+
+/// Tells a number of one to four bytes.
+pub(crate) fn tell_number(out: &mut WordLines, value: &[u8]) -> bool {
+    if value.is_empty() || value.len() > 4 {
+        return false;
+    }
+    out.number(number_in(value));
+    true
+}
+
+/// Tells an amount of twelve digits.
+pub(crate) fn tell_amount(out: &mut WordLines, value: &[u8]) -> bool {
+    if !all_digits(value) {
+        return false;
+    }
+    match value {
+        [a, b, c, d, e, f] => {
+            out.number(amount_of([*a, *b, *c, *d, *e, *f]));
+            true
+        }
+        _ => false,
+    }
+}
+
+/// Tells the three digits of a country or a currency.
+pub(crate) fn tell_code(out: &mut WordLines, value: &[u8]) -> bool {
+    if !all_digits(value) {
+        return false;
+    }
+    match value {
+        [first, second] => {
+            out.number(u64::from(*first % 16));
+            out.hex(&[*second]);
+            true
+        }
+        _ => false,
+    }
+}
+
+/// Tells year, month and day.
+pub(crate) fn tell_date(out: &mut WordLines, value: &[u8]) -> bool {
+    match value {
+        [year, month, day] => match Date::read([*year, *month, *day]) {
+            Some(date) => {
+                out.number(u64::from(date.year));
+                out.text(b"-");
+                out.hex(&[*month]);
+                out.text(b"-");
+                out.hex(&[*day]);
+                true
+            }
+            None => false,
+        },
+        _ => false,
+    }
+}
+
+/// Tells hour, minute and second.
+pub(crate) fn tell_time(out: &mut WordLines, value: &[u8]) -> bool {
+    if !all_digits(value) {
+        return false;
+    }
+    match value {
+        [hour, minute, second] => {
+            out.hex(&[*hour]);
+            out.text(b":");
+            out.hex(&[*minute]);
+            out.text(b":");
+            out.hex(&[*second]);
+            true
+        }
+        _ => false,
+    }
+}
+
+/// Tells the file of a log and how many records it has.
+pub(crate) fn tell_log_entry(out: &mut WordLines, value: &[u8]) -> bool {
+    match value {
+        [file, records] => {
+            out.text(b"file ");
+            out.number(u64::from(*file));
+            out.text(b", at most ");
+            out.number(u64::from(*records));
+            out.text(b" records");
+            true
+        }
+        _ => false,
+    }
+}
+
+/// Tells the rank of an application: the low half byte, 0 for none, and whether the cardholder is asked.
+pub(crate) fn tell_priority(out: &mut WordLines, value: &[u8]) -> bool {
+    match value {
+        [byte] => {
+            if *byte % 16 == 0 {
+                out.text(b"none");
+            } else {
+                out.number(u64::from(*byte % 16));
+            }
+            if 128 <= *byte {
+                out.text(b", the cardholder must confirm");
+            }
+            true
+        }
+        _ => false,
+    }
+}
