@@ -1,3 +1,4 @@
 pub mod LawsOfRules
 pub mod Opening
 pub mod Walk
+pub mod Own

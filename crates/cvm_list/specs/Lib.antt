@@ -8,3 +8,4 @@ pub mod Rules
 pub mod Settled
 pub mod Tried
 pub mod Waiting
+pub mod OwnBits

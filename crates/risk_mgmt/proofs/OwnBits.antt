@@ -2,9 +2,9 @@
 use Rattle.std.proofs.Common.{◌≡◌, ℕ, ◌≤◌, max, sym, arith, Bool, true, false, ◌==◌, not, ◌&&◌, is_some, if◌then◌else◌, List, [], ◌∷◌, bit_and, bit_or, slice_index, refl, ◌∙◌, ap, Option, Some, None, Result, Ok, Err}
 use Rattle.std.specs.List.{AllByRecursion}
 use Rattle.std.specs.Int.{bit_at}
-use Rattle.std.proofs.lemmas.Nat.Bits.{bit_at_or, bit_at-zero}
+use Rattle.std.proofs.lemmas.Nat.Bits.{bit_at_or}
 use Rattle.emv_dict.specs.Flags.{bits_from, tvr_bit}
-use Rattle.emv_dict.specs.Progress.{Progress, Done}
+use Rattle.emv_dict.specs.Progress.{Progress}
 use Rattle.emv_dict.specs.Views.{SettingsData, PurchaseData}
 use Rattle.emv_dict.specs.declared.ending.Cause.{Cause}
 use Rattle.emv_dict.specs.declared.judged.Judged.{Judged}
@@ -13,7 +13,7 @@ use Rattle.emv_dict.specs.declared.purchase.Logged.{Logged}
 use Rattle.object_lists.specs.CardRead.{ReadCard}
 use Rattle.risk_mgmt.specs.Counters.{counter_tag, last_online_tag, counter_of, counted, is_beyond, is_new}
 use Rattle.risk_mgmt.specs.Laws.{own_bits, AreOwn, FindsOwn, BitsAreOwn}
-use Rattle.risk_mgmt.specs.Risky.{always, alone, found, last_by, last_asked, first_by, first_asked, limit_in, by_limits, checked, exceeds_floor, is_drawn, is_exception, may_decide, risky}
+use Rattle.risk_mgmt.specs.Risky.{always, alone, last_by, last_asked, first_by, first_asked, limit_in, by_limits, checked, exceeds_floor, is_drawn, is_exception, may_decide, risky}
 
 -- bits that add none to others are among them
 among : (bits own : ℕ) → bit_or bits own ≡ own → (place : ℕ) → bit_at bits place ≤ bit_at own place
