@@ -1,0 +1,5 @@
+mod Cutting
+mod Entries
+mod Finding
+mod Rowing
+mod Sendings

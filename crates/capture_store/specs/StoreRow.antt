@@ -1,0 +1,74 @@
+-- The store of a lane in the world of a run: its list, a lost call, and how far its opening has come (this project's
+-- own).
+use Rattle.std.specs.Prelude.{ℕ, ◌+◌, ◌==◌, min, Bool, true, false, if◌then◌else◌, List, [], length, Option, Some, None, unwrap_or, option_map}
+use Rattle.emv_ports.specs.Cut.{is_named}
+use Rattle.emv_ports.specs.declared.tear.Tear.{Tear}
+use Rattle.capture_store.specs.Calls.{Call, Adds, Drops, Left, called, found_by, left_by}
+
+pub record StoreRow : Type 0 where
+  -- the messages that are kept, oldest first, and a lost call that the next opening finds or doesn't
+  pub list : List (List ℕ)
+  pub lost : Option Call
+  -- how many commits were made since the opening, where the store is open
+  pub commits : Option ℕ
+  -- whether the delivery of this opening is still to come
+  pub due : Bool
+  -- the list that the opening for settlement found
+  pub found : Option (List (List ℕ))
+
+abbrev pub new_store : StoreRow
+new_store = record { list = []; lost = None; commits = None; due = false; found = None }
+
+-- the number of a commit behind an opening, the first one being 1; numbers stop at 255
+abbrev pub commit_of : ℕ → ℕ
+commit_of made = min made 255
+
+abbrev pub commit_next : StoreRow → ℕ
+commit_next row = commit_of (unwrap_or row.commits 0 + 1)
+
+-- the plan names the next commit
+abbrev pub is_cut : Option Tear → StoreRow → Bool
+is_cut plan row = is_named plan (commit_next row)
+
+-- opened: the lost call is found or not, and either way none is left
+abbrev pub opened : StoreRow → Bool → StoreRow
+opened row found = record row { list = found_by row.list row.lost found; lost = None; commits = Some 0 }
+
+-- opened for a purchase: a full list is to be delivered first
+abbrev pub opened_to_add : StoreRow → Bool → StoreRow
+opened_to_add row found = record (opened row found) { due = length (opened row found).list == 7 }
+
+-- opened for settlement
+abbrev pub opened_to_settle : StoreRow → Bool → StoreRow
+opened_to_settle row found = record (opened row found) { found = Some (opened row found).list }
+
+-- turned off
+abbrev pub closed : StoreRow → StoreRow
+closed row = record row { commits = None; due = false }
+
+-- behind a call that was made
+abbrev pub made_call : StoreRow → Call → StoreRow
+made_call row call = record row { list = called row.list call; commits = option_map (λ made. made + 1) row.commits }
+
+-- behind a call that was cut
+abbrev pub cut_call : Option Tear → StoreRow → Call → StoreRow
+cut_call plan row call =
+    record row {
+      list = (left_by plan row.list call).list;
+      lost = (left_by plan row.list call).lost;
+      commits = None;
+      due = false;
+    }
+
+-- a call under a plan
+abbrev pub call_by : Option Tear → StoreRow → Call → StoreRow
+call_by plan row call = if is_cut plan row then cut_call plan row call else made_call row call
+
+-- behind the delivery of its first message
+abbrev pub delivered_by : Option Tear → StoreRow → StoreRow
+delivered_by plan row = record (call_by plan row Drops) { due = false }
+
+-- behind the end of a purchase, with its capture or without one
+abbrev pub ended_by : Option Tear → StoreRow → Option (List ℕ) → StoreRow
+ended_by plan row None = closed row
+ended_by plan row (Some message) = closed (call_by plan row (Adds message))

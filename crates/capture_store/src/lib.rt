@@ -1,0 +1,15 @@
+//! A terminal's captures on pages that may lose their power in the middle of a write: a list of at most
+//! seven messages, oldest first. Each call that changes it is one commit, and behind any loss of power
+//! the list before the call is found, or the one behind it.
+#![tactic(auto)]
+
+mod captures;
+mod laws;
+mod shelf;
+mod spelled;
+mod stock;
+
+pub use captures::Captures;
+pub use laws::{lost_calls_leave_one_of_two, stores_keep_what_is_sent};
+pub use shelf::Shelf;
+pub use stock::prepare;
