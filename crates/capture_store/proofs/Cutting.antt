@@ -1,26 +1,25 @@
 -- What a commit leaves that is made or cut, and what the pages stand for then.
-use Rattle.std.proofs.Common.{◌≡◌, ℕ, ◌+◌, ◌*◌, ◌≤◌, Bool, true, false, ◌==◌, ◌&&◌, nat_le, List, [], ◌∷◌, length, Option, Some, None, refl, ap, sym, subst, ◌∙◌, arith}
+use Rattle.std.proofs.Common.{◌≡◌, ℕ, ◌+◌, ◌*◌, ◌≤◌, Bool, true, false, ◌==◌, nat_le, List, [], ◌∷◌, length, Option, Some, None, refl, ap, sym, subst, ◌∙◌, arith}
 use Rattle.std.specs.Prelude.{if◌then◌else◌}
 use Rattle.std.proofs.lemmas.Bool.Decides.{nat_tests}
 use Rattle.emv_ports.specs.Causes.{one_more}
-use Rattle.emv_ports.specs.Cut.{is_named, is_among, cut_at, write_cut, cuts_among, release_cut}
-use Rattle.emv_ports.specs.Memory.{Memory, next}
+use Rattle.emv_ports.specs.Cut.{is_among, release_cut}
+use Rattle.emv_ports.specs.Memory.{next}
 use Rattle.emv_ports.specs.declared.tear.Cut.TheVariants.{Spared, CutBefore}
 use Rattle.emv_ports.specs.declared.tear.Tear.{Tear}
 use Rattle.emv_ports.specs.declared.tear.TearAt.{TearAt}
 use Rattle.emv_ports.specs.declared.tear.TearAt.TheVariants.{Before, Within, Release}
 use Rattle.torn_store.specs.Layout.{recover, changed, commit_writes}
 use Rattle.torn_store.specs.Recovery.{Holds, Between}
-use Rattle.torn_store.specs.Placed.{Commits, CommitTorn, Releases, ReleaseTorn}
-use Rattle.torn_store.specs.Store.{Stored, IsGone}
-use Rattle.torn_store.proofs.Causes.{cuts_named, release_cut_named, spared_not_named}
+use Rattle.torn_store.specs.Placed.{Commits, ReleaseTorn}
+use Rattle.torn_store.specs.Store.{Stored}
+use Rattle.torn_store.proofs.Causes.{release_cut_named}
 use Rattle.torn_store.proofs.Outcomes.{has_second}
 use Rattle.torn_store.proofs.Stored.{holds_among}
 use Rattle.capture_store.specs.Calls.{Call, called, left_at, left_by}
 use Rattle.capture_store.specs.ListPages.{Cells, StandsForList, StandsBetweenLists, MayStandForList}
-use Rattle.capture_store.specs.SeenStock.{StockSeen, MakesCall, CutsCall}
+use Rattle.capture_store.specs.SeenStock.{StockSeen, CutsCall}
 use Rattle.capture_store.specs.Spelling.{IsList, IsState, state_of, list_in}
-use Rattle.capture_store.proofs.Finding.{holds_list}
 
 -- a commit writes
 some_writes : (old new : List ℕ) (writes : ℕ) → writes ≡ commit_writes old new → 1 ≤ writes
@@ -33,29 +32,6 @@ module _ (cells : Cells) (list : List (List ℕ)) (call : Call) where
 
   abbrev pub MayBy : Option Tear → Type 0
   MayBy plan = MayStandForList cells (left_by plan list call).list (left_by plan list call).lost
-
-  before_first : (named among first : Bool) → (named && among) ≡ true
-      → ((if named then (if first then CutBefore else Spared) else Spared) ≡ CutBefore → StandsForList cells list)
-      → StandsBetweenLists cells list call → MayStandForList cells list (if first then None else Some call)
-  before_first true among true is stands between = stands refl
-  before_first true among false is stands between = between
-  before_first false among first is stands between = cc
-
-  no_write : (named : Bool) → (named && false) ≡ true → MayAt Release
-  no_write true is = cc
-  no_write false is = cc
-
-  -- one of the writes is cut
-  at_write : (named : Bool) (at : TearAt) (writes : ℕ) → (named && is_among at writes) ≡ true
-      → ((if named then cut_at at 1 else Spared) ≡ CutBefore → StandsForList cells list) → StandsBetweenLists cells list call → MayAt at
-  at_write named (Before number) writes is stands between = before_first named (nat_le number writes) (number == 1) is stands between
-  at_write named (Within number) writes is stands between = between
-  at_write named Release writes is stands between = no_write named is
-
-  by_write : (plan : Option Tear) (commit writes : ℕ) → cuts_among plan commit writes ≡ true
-      → (write_cut plan commit 1 ≡ CutBefore → StandsForList cells list) → StandsBetweenLists cells list call → MayBy plan
-  by_write None commit writes is stands between = cc
-  by_write (Some tear) commit writes is stands between = at_write (tear.commit == commit) tear.at writes is stands between
 
   -- a place that is none of these writes is not the first one
   not_first : (number writes : ℕ) → 1 ≤ writes → nat_le number writes ≡ false → (number == 1) ≡ false
@@ -105,26 +81,6 @@ module _ (place : Stored) (text : List ℕ) (is : IsState place.state) (text_is 
   abbrev seen : StockSeen
   seen = record { memory = place.memory; list = list }
 
-  writes_spelled : commit_writes place.state text ≡ commit_writes (state_of list) (state_of (called list call))
-  writes_spelled = ap (λ (s : List ℕ). commit_writes s text) is.spelled ∙ ap (λ (s : List ℕ). commit_writes (state_of list) s) text_spelled
-
-  -- one of the commit's writes is cut
-  torn_write : (last : Stored) → CommitTorn place text last → CutsCall seen call last.memory
-  torn_write last torn =
-      let cells = last.memory.cells in
-      let plan = place.memory.plan in
-      let commit : ℕ = next place.memory.commit in
-      let writes : ℕ = commit_writes place.state text in record {
-        cut = cuts_named plan commit writes torn.cut;
-        stands =
-            by_write cells list call plan commit writes torn.cut (λ before. holds_list cells place.state is (torn.before before))
-            (between_lists cells torn.lost);
-        behind = λ none.
-            let cut : cuts_among plan commit writes ≡ true = torn.cut in
-            let spared : cuts_among plan commit writes ≡ false = ap (λ n. cuts_among plan commit n) writes_spelled ∙ none in cc;
-        gone = torn.gone;
-      }
-
   module _ (written : Stored) (wrote : Commits place text written) where
     -- its release is cut
     torn_release : (last : Stored) → ReleaseTorn written last → CutsCall seen call last.memory
@@ -146,44 +102,12 @@ module _ (place : Stored) (text : List ℕ) (is : IsState place.state) (text_is 
           gone = record { off = torn.gone.off; plan = torn.gone.plan; losses = torn.gone.losses ∙ ap one_more wrote.losses };
         }
 
-    -- it is released
-    made_release : (last : Stored) → Releases written last → MakesCall seen call (record { memory = last.memory; list = list_in last.state })
-    made_release last released =
-        let same : last.state ≡ text = ap (λ (s : Stored). s.state) released.same ∙ wrote.state in
-        let memory : last.memory ≡ written.memory = ap (λ (s : Stored). s.memory) released.same in
-        let plan : written.memory.plan ≡ place.memory.plan = wrote.plan in
-        let spared : release_cut place.memory.plan (next place.memory.commit) written.memory.writes ≡ Spared =
-        ap (λ (p : Option Tear). release_cut p (next place.memory.commit) written.memory.writes) (sym plan)
-        ∙ ap (λ n. release_cut written.memory.plan n written.memory.writes) (sym wrote.commit)
-        ∙ released.spared in
-        record {
-          on = ap (λ (m : Memory). m.on) memory ∙ wrote.on;
-          list = ap list_in same ∙ behind;
-          fits = subst IsList (sym (ap list_in same ∙ behind)) fits_called;
-          spared =
-              spared_not_named place.memory.plan (next place.memory.commit) written.memory.writes
-              (ap (λ n. cuts_among place.memory.plan (next place.memory.commit) n) wrote.wrote ∙ wrote.spared) spared;
-          commit = ap (λ (m : Memory). m.commit) memory ∙ wrote.commit;
-          plan = ap (λ (m : Memory). m.plan) memory ∙ wrote.plan;
-          losses = ap (λ (m : Memory). m.losses) memory ∙ wrote.losses;
-        }
-
 -- the same, of a list that is seen so
 module _ (old : StockSeen) (place : Stored) (text : List ℕ) (view : record { memory = place.memory; list = list_in place.state } ≡ old)
     (is : IsState place.state) (text_is : IsState text) (call : Call) (behind : list_in text ≡ called old.list call) where
   behind_here : list_in text ≡ called (list_in place.state) call
   behind_here = behind ∙ ap (λ (s : StockSeen). called s.list call) (sym view)
 
-  pub cuts_write : (last : Stored) → CommitTorn place text last → CutsCall old call last.memory
-  cuts_write last torn =
-      subst (λ (s : StockSeen). CutsCall s call last.memory) view (torn_write place text is text_is call behind_here last torn)
-
   pub cuts_release : (written last : Stored) → Commits place text written → ReleaseTorn written last → CutsCall old call last.memory
   cuts_release written last wrote torn =
       subst (λ (s : StockSeen). CutsCall s call last.memory) view (torn_release place text is text_is call behind_here written wrote last torn)
-
-  pub makes_call : (written last : Stored) → Commits place text written → Releases written last
-      → MakesCall old call (record { memory = last.memory; list = list_in last.state })
-  makes_call written last wrote released =
-      subst (λ (s : StockSeen). MakesCall s call (record { memory = last.memory; list = list_in last.state })) view
-      (made_release place text is text_is call behind_here written wrote last released)

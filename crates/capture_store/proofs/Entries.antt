@@ -1,5 +1,5 @@
 -- The state of a list reads back as that list, and grows and shrinks with it.
-use Rattle.std.proofs.Common.{◌≡◌, ℕ, zero, suc, ◌+◌, ◌-◌, ◌*◌, ◌/◌, ◌%◌, ◌<◌, ◌≤◌, List, [], ◌∷◌, ◌++◌, take, drop, length, get_or, slice_get, Some, refl, ap, sym, subst, ◌∙◌, arith, append-nil, append_assoc, length-append}
+use Rattle.std.proofs.Common.{◌≡◌, ℕ, zero, suc, ◌+◌, ◌-◌, ◌*◌, ◌/◌, ◌%◌, ◌<◌, ◌≤◌, List, [], ◌∷◌, ◌++◌, take, drop, length, get_or, refl, ap, sym, subst, ◌∙◌, arith, append-nil, append_assoc, length-append}
 use Rattle.std.specs.Prelude.{All}
 use Rattle.std.proofs.lemmas.List.{take_at, take_rest, drop_at, drop-drop, length_push}
 use Rattle.capture_store.specs.Spelling.{IsMessage, IsList, IsState, entry, entries, state_of, messages_in, list_in}
@@ -33,11 +33,6 @@ is_state list fits = record {
 at_state : (P : List ℕ → List (List ℕ) → Type 0) (state : List ℕ) → IsState state → ((list : List (List ℕ)) → IsList list → P (state_of list) list)
     → P state (list_in state)
 at_state P state is holds = let Q : List ℕ → Type 0 = λ s. P s (list_in state) in subst Q (sym is.spelled) (holds (list_in state) is.is_list)
-
--- its second byte is the count
-pub count_is : (state : List ℕ) → IsState state → (2 ≤ length state) × (get_or state 1 0 ≡ length (list_in state))
-count_is state is =
-    at_state (λ s list. (2 ≤ length s) × (get_or s 1 0 ≡ length list)) state is (λ list fits. (omega arith, refl))
 
 each_rest : (m : List ℕ) (ms : List (List ℕ)) → All IsMessage (m ∷ ms) → All IsMessage ms
 each_rest m ms each k d inside = each (suc k) d (omega arith)
@@ -113,24 +108,6 @@ abbrev size_at : List ℕ → ℕ
 size_at state = get_or state 2 0 * 256 + get_or state 3 0
 
 module _ (state : List ℕ) (is : IsState state) (some : 0 < length (list_in state)) where
-  -- the first message lies within the state
-  pub first_within : (4 ≤ length state) × (4 + size_at state ≤ length state)
-  first_within = at_state (λ s list. 0 < length list → (4 ≤ length s) × (4 + size_at s ≤ length s)) state is within some
-    where
-      within : (list : List (List ℕ)) → IsList list → 0 < length list → (4 ≤ length (state_of list)) × (4 + size_at (state_of list) ≤ length (state_of list))
-      within [] fits some = absurd (omega arith)
-      within (m ∷ ms) fits some =
-          let whole : length (m ++ entries ms) ≡ length m + length (entries ms) = length-append m (entries ms) in
-          let size = size_is m in (omega arith, omega (arith, whole, size))
-
-  -- and stands behind its length
-  pub first_is : slice_get (list_in state) 0 ≡ Some (take (size_at state) (drop 4 state))
-  first_is = at_state (λ s list. 0 < length list → slice_get list 0 ≡ Some (take (size_at s) (drop 4 s))) state is there some
-    where
-      there : (list : List (List ℕ)) → IsList list → 0 < length list → slice_get list 0 ≡ Some (take (size_at (state_of list)) (drop 4 (state_of list)))
-      there [] fits some = absurd (omega arith)
-      there (m ∷ ms) fits some = ap (λ (x : List ℕ). Some x) (sym (take_at m (entries ms) (size_at (state_of (m ∷ ms))) (sym (size_is m))))
-
   -- the state without it
   shorter_is : 1 ∷ (length (list_in state) - 1) ∷ drop (4 + size_at state) state ≡ state_of (drop 1 (list_in state))
   shorter_is = at_state (λ s list. 0 < length list → 1 ∷ (length list - 1) ∷ drop (4 + size_at s) s ≡ state_of (drop 1 list)) state is left some

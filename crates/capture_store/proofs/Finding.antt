@@ -1,10 +1,10 @@
 -- What an opening finds, and what the pages stand for where it is cut.
-use Rattle.std.proofs.Common.{◌≡◌, ◌⊎◌, ℕ, Bool, true, false, List, [], ◌∷◌, Option, Some, None, ap, sym, subst, ◌∙◌, lit<, inl, inr}
+use Rattle.std.proofs.Common.{◌≡◌, ◌⊎◌, ℕ, Bool, true, false, List, [], ◌∷◌, Option, Some, None, sym, subst, lit<, inl, inr}
 use Rattle.torn_store.specs.Layout.{recover}
 use Rattle.torn_store.specs.Recovery.{Holds, Between}
 use Rattle.torn_store.proofs.Outcomes.{has_first, among_within}
 use Rattle.torn_store.proofs.Stored.{holds_among, one_of_two, among_one}
-use Rattle.capture_store.specs.Calls.{Call, called, found_by}
+use Rattle.capture_store.specs.Calls.{Call, found_by}
 use Rattle.capture_store.specs.ListPages.{Cells, StandsForList, MayStandForList}
 use Rattle.capture_store.specs.Spelling.{IsList, IsState, state_of, list_in}
 use Rattle.capture_store.proofs.Entries.{is_state, same_list}

@@ -1,9 +1,9 @@
 -- The store of a lane in the world of a run: its list, a lost call, and how far its opening has come (this project's
 -- own).
-use Rattle.std.specs.Prelude.{ℕ, ◌+◌, ◌==◌, min, Bool, true, false, if◌then◌else◌, List, [], length, Option, Some, None, unwrap_or, option_map}
+use Rattle.std.specs.Prelude.{ℕ, ◌+◌, ◌==◌, min, Bool, false, if◌then◌else◌, List, [], length, Option, Some, None, unwrap_or, option_map}
 use Rattle.emv_ports.specs.Cut.{is_named}
 use Rattle.emv_ports.specs.declared.tear.Tear.{Tear}
-use Rattle.capture_store.specs.Calls.{Call, Adds, Drops, Left, called, found_by, left_by}
+use Rattle.capture_store.specs.Calls.{Call, Adds, Drops, called, found_by, left_by}
 
 pub record StoreRow : Type 0 where
   -- the messages that are kept, oldest first, and a lost call that the next opening finds or doesn't

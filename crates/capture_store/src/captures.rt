@@ -1,5 +1,5 @@
 //! A list of messages, by value while it is on.
-ghost use Rattle.std.specs.Prelude.{◌≡◌, ◌<◌, ◌≤◌, ℕ, List, Bool, Option, Some, None, length, slice_get, option_map, true, false, IfOk, IfErr, OnOk, OnErr};
+ghost use Rattle.std.specs.Prelude.{◌≡◌, ◌<◌, ◌≤◌, ℕ, List, Bool, Option, Some, None, length, slice_get, option_map, true, false, IfSome, IfOk, IfErr, OnOk, OnErr};
 ghost use Rattle.emv_ports.specs.Cut.{is_named};
 ghost use Rattle.emv_ports.specs.Memory.{powered_off};
 ghost use Rattle.torn_store.specs.Store.{IsGone};
@@ -70,7 +70,8 @@ impl<P: Pages> Captures<P> {
 
     /// The oldest message. `None` exactly where there is none.
     pub fn first(&self) -> Option<&[u8]>
-        ensures { option_map (λ message. message.now) result ≡ slice_get self.now.list 0 }
+        ensures first { option_map (λ message. message.now) result ≡ slice_get self.now.list 0 }
+        ensures fits { IfSome result (λ message. IsMessage message.now) }
     {
         self.stock.first()
     }

@@ -13,3 +13,6 @@ pub use captures::Captures;
 pub use laws::{lost_calls_leave_one_of_two, stores_keep_what_is_sent};
 pub use shelf::Shelf;
 pub use stock::prepare;
+
+#[cfg(test)]
+mod tests;

@@ -1,5 +1,5 @@
 //! The place of a lane's store: on, off, or absent.
-ghost use Rattle.std.specs.Prelude.{◌≡◌, ◌<◌, ◌≤◌, Bool, Option, Some, None, is_some, length, slice_get, option_map, true, false, IsTrue, IsSome, IsNone, IfSome, OnOk, OnErr};
+ghost use Rattle.std.specs.Prelude.{◌≡◌, ◌<◌, ◌≤◌, ◌==◌, Bool, Option, Some, None, is_some, length, slice_get, option_map, true, false, IsTrue, IsSome, IsNone, IfSome, OnOk, OnErr};
 ghost use Rattle.emv_ports.specs.Causes.{one_more};
 ghost use Rattle.emv_ports.specs.Cut.{is_named, is_plan};
 ghost use Rattle.emv_ports.specs.declared.tear.Tear.{Tear as Plan};
@@ -12,6 +12,9 @@ ghost use Rattle.capture_store.specs.StoreRow.{StoreRow, new_store, is_cut, open
 use crate::stock::{Stock, prepare};
 use emv_ports::{Gone, Pages, Tear};
 use std::marker::Model;
+
+/// The most messages that a store holds.
+const MOST: usize = 7;
 
 /// A place with a store, on or off, or without one. A call changes it where it is, and behind a loss of
 /// power it is off. What it stands for is the row of a lane's store in the world of a run.
@@ -93,11 +96,21 @@ impl<P: Pages> Shelf<P> {
         }
     }
 
+    /// Whether it holds as many messages as a store may.
+    pub fn is_full(&self) -> bool
+        requires { has_power self.now ≡ true }
+        ensures exact { result ≡ (count_of self.now == 7) }
+        ensures row { (row : StoreRow) (plan : Option Plan) → ShelfOn self.now row plan → result ≡ (length row.list == 7) }
+    {
+        self.count() == MOST
+    }
+
     /// Its oldest message. `None` exactly where there is none.
     pub fn first(&self) -> Option<&[u8]>
         requires { has_power self.now ≡ true }
-        ensures { (row : StoreRow) (plan : Option Plan) → ShelfOn self.now row plan
+        ensures first { (row : StoreRow) (plan : Option Plan) → ShelfOn self.now row plan
             → option_map (λ message. message.now) result ≡ slice_get row.list 0 }
+        ensures fits { IfSome result (λ message. IsMessage message.now) }
     {
         match &self.0 {
             Some(stock) => stock.first(),

@@ -55,7 +55,8 @@ fn first_size(state: &[u8]) -> usize
 pub(crate) fn first_in(state: &[u8]) -> &[u8]
     requires state { IsState state.now }
     requires some { 0 < length (list_in state.now) }
-    ensures { slice_get (list_in state.now) 0 ≡ Some result.now }
+    ensures first { slice_get (list_in state.now) 0 ≡ Some result.now }
+    ensures fits { IsMessage result.now }
 {
     let end = 4 + first_size(state);
     &state[4..end]

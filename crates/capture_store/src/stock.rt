@@ -1,5 +1,5 @@
 //! A list of messages on its pages, in their place.
-ghost use Rattle.std.specs.Prelude.{◌≡◌, ◌<◌, ◌≤◌, ℕ, List, [], Bool, Option, Some, None, length, slice_get, option_map, true, false, IsTrue, OnOk, OnErr};
+ghost use Rattle.std.specs.Prelude.{◌≡◌, ◌<◌, ◌≤◌, ℕ, List, [], Bool, Option, Some, None, length, slice_get, option_map, true, false, IsTrue, IfSome, OnOk, OnErr};
 ghost use Rattle.emv_ports.specs.Cut.{is_named, is_plan};
 ghost use Rattle.emv_ports.specs.Memory.{planned, powered_off};
 ghost use Rattle.torn_store.specs.Store.{IsGone};
@@ -116,7 +116,8 @@ impl<P: Pages> Stock<P> {
     /// The oldest message. `None` exactly where there is none.
     pub(crate) fn first(&self) -> Option<&[u8]>
         requires { self.now.memory.on ≡ true }
-        ensures { option_map (λ message. message.now) result ≡ slice_get self.now.list 0 }
+        ensures first { option_map (λ message. message.now) result ≡ slice_get self.now.list 0 }
+        ensures fits { IfSome result (λ message. IsMessage message.now) }
     {
         if self.count() == 0 {
             return None;

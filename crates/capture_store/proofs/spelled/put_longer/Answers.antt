@@ -2,7 +2,6 @@
 use Rattle.std.proofs.Common.{◌≡◌, ℕ, ◌-◌, List, length, take, drop, ap, ◌∙◌, arith, length-drop}
 use Rattle.std.proofs.lemmas.List.{take_rest}
 use Rattle.capture_store.proofs.Entries.{state_short, longer_put, longer_state, same_list}
-use Rattle.capture_store.specs.Spelling.{list_in}
 use Rattle.capture_store.proofs.spelled.put_longer.Goals as goal
 
 pub append-requires-2 : goal.append-requires-2

@@ -1,5 +1,5 @@
 -- What a cut release leaves.
-use Rattle.std.proofs.Common.{rules, ap, sym, ◌∙◌}
+use Rattle.std.proofs.Common.{rules, ap, ◌∙◌}
 use Rattle.capture_store.specs.SeenStock.{StockSeen}
 use Rattle.capture_store.proofs.Cutting.{cuts_release}
 use Rattle.capture_store.proofs.stock.Stock.commit.Goals as goal
