@@ -1,5 +1,5 @@
 //! A list of messages, by value while it is on.
-ghost use Rattle.std.specs.Prelude.{◌≡◌, ◌<◌, ◌≤◌, ℕ, List, Bool, Option, Some, None, length, slice_get, option_map, true, false, IfSome, IfOk, IfErr, OnOk, OnErr};
+ghost use Rattle.std.specs.Prelude.{◌≡◌, ◌<◌, ◌≤◌, ℕ, List, Bool, Option, length, slice_get, option_map, true, false, IfSome, IfOk, IfErr, OnOk, OnErr};
 ghost use Rattle.emv_ports.specs.Cut.{is_named};
 ghost use Rattle.emv_ports.specs.Memory.{powered_off};
 ghost use Rattle.torn_store.specs.Store.{IsGone};

@@ -1,5 +1,5 @@
 //! The place of a lane's store: on, off, or absent.
-ghost use Rattle.std.specs.Prelude.{◌≡◌, ◌<◌, ◌≤◌, ◌==◌, Bool, Option, Some, None, is_some, length, slice_get, option_map, true, false, IsTrue, IsSome, IsNone, IfSome, OnOk, OnErr};
+ghost use Rattle.std.specs.Prelude.{◌≡◌, ◌<◌, ◌≤◌, ◌==◌, Bool, Option, Some, None, is_some, length, slice_get, option_map, true, false, IsTrue, IfSome, OnOk, OnErr};
 ghost use Rattle.emv_ports.specs.Causes.{one_more};
 ghost use Rattle.emv_ports.specs.Cut.{is_named, is_plan};
 ghost use Rattle.emv_ports.specs.declared.tear.Tear.{Tear as Plan};

@@ -1,5 +1,5 @@
 //! A list of messages on its pages, in their place.
-ghost use Rattle.std.specs.Prelude.{◌≡◌, ◌<◌, ◌≤◌, ℕ, List, [], Bool, Option, Some, None, length, slice_get, option_map, true, false, IsTrue, IfSome, OnOk, OnErr};
+ghost use Rattle.std.specs.Prelude.{◌≡◌, ◌<◌, ◌≤◌, ℕ, List, [], Bool, Option, None, length, slice_get, option_map, true, false, IsTrue, IfSome, OnOk, OnErr};
 ghost use Rattle.emv_ports.specs.Cut.{is_named, is_plan};
 ghost use Rattle.emv_ports.specs.Memory.{planned, powered_off};
 ghost use Rattle.torn_store.specs.Store.{IsGone};

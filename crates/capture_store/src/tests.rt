@@ -2,7 +2,6 @@ ghost use Rattle.std.specs.Prelude.{◌≡◌, ◌<◌, ◌≤◌, true, false, 
 ghost use Rattle.emv_ports.specs.Cut.{is_place};
 ghost use Rattle.capture_store.specs.Calls.{Adds};
 ghost use Rattle.capture_store.specs.SeenShelf.{ShelfOn, IsShelfOff, is_on};
-ghost use Rattle.capture_store.specs.SeenStock.{MakesCall};
 ghost use Rattle.capture_store.specs.Spelling.{IsMessage};
 ghost use Rattle.capture_store.specs.StoreRow.{StoreRow, call_by};
 
