@@ -71,7 +71,7 @@ each_more (x ∷ xs) m each is = longer (each_more xs m (each_rest x xs each) is
     longer rest (suc k) d inside = rest k d (omega arith)
 
 -- the list with one more message
-list_more : (list : List (List ℕ)) (m : List ℕ) → IsList list → length list < 7 → IsMessage m → IsList (list ++ m ∷ [])
+pub list_more : (list : List (List ℕ)) (m : List ℕ) → IsList list → length list < 7 → IsMessage m → IsList (list ++ m ∷ [])
 list_more list m fits room is = record {
   few = let more = length_push list m in omega (arith, more);
   each = each_more list m fits.each is;
@@ -135,7 +135,8 @@ module _ (state : List ℕ) (is : IsState state) (some : 0 < length (list_in sta
       ∙ ap (λ n. 1 ∷ (length (list_in state) - 1) ∷ drop (4 + n) state) size_is
       ∙ shorter_is
 
-list_less : (list : List (List ℕ)) → IsList list → IsList (drop 1 list)
+-- the list without its first message
+pub list_less : (list : List (List ℕ)) → IsList list → IsList (drop 1 list)
 list_less [] fits = fits
 list_less (m ∷ ms) fits = record { few = let few = fits.few in omega (arith, few); each = each_rest m ms fits.each }
 

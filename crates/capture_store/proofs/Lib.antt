@@ -1,5 +1,6 @@
 mod Cutting
 mod Entries
 mod Finding
+mod Fits
 mod Rowing
 mod Sendings

@@ -5,3 +5,4 @@ pub mod SeenStock
 pub mod StoreRow
 pub mod SeenShelf
 pub mod Sending
+pub mod Fitting

@@ -10,7 +10,7 @@ mod spelled;
 mod stock;
 
 pub use captures::Captures;
-pub use laws::{lost_calls_leave_one_of_two, stores_keep_what_is_sent};
+pub use laws::{lost_calls_leave_one_of_two, stores_have_room, stores_keep_what_is_sent};
 pub use shelf::Shelf;
 pub use stock::prepare;
 
