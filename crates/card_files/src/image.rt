@@ -122,7 +122,7 @@ impl Image {
         out.blocked = false;
         out.apps.clear();
         for image in self.apps() {
-            out.apps.push(image.opening);
+            out.apps.push(image.opening.copy());
         }
     }
 }

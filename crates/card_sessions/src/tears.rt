@@ -71,12 +71,12 @@ fn plan_of(number: u8) -> Tear
 
 /// Whether the plan leaves this state: without the decision that it cuts where the first write was cut
 /// before it began, with it at the release, and either at any other place.
-fn may_be_left(tear: Tear, state: AppState) -> bool {
+fn may_be_left(tear: Tear, state: &AppState) -> bool {
     if tear.commit == 0 {
-        return state == state_behind(0);
+        return *state == state_behind(0);
     }
-    let dropped = state == state_behind(tear.commit - 1);
-    let kept = state == state_behind(tear.commit);
+    let dropped = *state == state_behind(tear.commit - 1);
+    let kept = *state == state_behind(tear.commit);
     match tear.at {
         TearAt::Before(1) => dropped,
         TearAt::Release => kept,
@@ -107,7 +107,7 @@ fn state_found<'i, P: Pages>(chip: &mut Chip<'i, P>, tear: Option<Tear>) -> Opti
 {
     match turn_on(chip, tear) {
         Ok(()) => {
-            let state = chip.totals().apps.as_slice().first().copied();
+            let state = chip.totals().apps.as_slice().first().map(AppState::copy);
             turn_off(chip);
             state
         }
@@ -127,7 +127,7 @@ fn try_plans<P: Pages>(rt: &impl Abort, image: &Image, pages: P, first: Tear, ag
     let then = state_found(&mut chip, Some(again));
     assert_eq!(rt; then.is_none(), again.commit == 0, "{first:?}, {again:?}");
     let last = state_found(&mut chip, None).expect(rt, "a card that is on");
-    assert!(rt; may_be_left(first, last), "{first:?}, {again:?}");
+    assert!(rt; may_be_left(first, &last), "{first:?}, {again:?}");
     if let Some(state) = then {
         assert_eq!(rt; state, last, "{first:?}, {again:?}");
     }

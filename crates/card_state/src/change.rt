@@ -79,11 +79,11 @@ pub fn changed(app: &AppState, decision: &Decision) -> AppState
         Decision::First {
             kind: Kind::Aac,
             ..
-        } => *app,
+        } => app.copy(),
         Decision::First {
             kind: Kind::Arqc,
             ..
-        } => *app,
+        } => app.copy(),
         Decision::Authenticated { right } => AppState {
             auth_failed: !*right,
             ..*app
@@ -118,8 +118,8 @@ fn decided(app: &AppState, kind: Kind, how: How, amount: u64) -> AppState
             ..*app
         },
         (How::Offline, Kind::Tc) => with_approval(app, amount),
-        (How::Offline, _) => *app,
-        (How::Alone, _) => *app,
+        (How::Offline, _) => app.copy(),
+        (How::Alone, _) => app.copy(),
     }
 }
 
@@ -151,7 +151,7 @@ fn scripted(app: &AppState, command: &Scripted) -> AppState
             blocked: false,
             ..*app
         },
-        Scripted::CardBlock => *app,
+        Scripted::CardBlock => app.copy(),
         Scripted::PinUnblock { limit } => AppState {
             tries: *limit,
             ..*app

@@ -1,7 +1,9 @@
+ghost use Rattle.std.specs.Prelude.{◌≡◌};
+
 use arrayvec::ArrayVec;
 
 /// The state of one application of a card.
-#[derive(Clone, Copy, PartialEq, Eq, Debug, Default)]
+#[derive(Drop, PartialEq, Eq, Debug, Default)]
 pub struct AppState {
     /// The application transaction counter, object 9F36.
     pub counter: u16,
@@ -23,6 +25,15 @@ pub struct AppState {
     pub auth_failed: bool,
     /// The reference PIN as a plain PIN block of format 2, or zeros for none.
     pub pin: [u8; 8],
+}
+
+impl AppState {
+    /// The same state once more, where it must stand twice.
+    pub fn copy(&self) -> AppState
+        ensures { result ≡ self.now }
+    {
+        AppState { ..*self }
+    }
 }
 
 /// The state of a card: its applications in the order of its image.

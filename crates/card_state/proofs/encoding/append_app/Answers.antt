@@ -1,5 +1,4 @@
-use Rattle.std.proofs.Common.{◌≡◌, ℕ, ◌<◌, append_assoc, get_or, arith, rules}
-use Rattle.std.proofs.lemmas.List.{get_or_default}
+use Rattle.std.proofs.Common.{append_assoc, arith}
 use Rattle.card_state.specs.Encoding.{app_bytes}
 use Rattle.card_state.proofs.encoding.append_app.Goals as goal
 
@@ -7,7 +6,7 @@ pub returns-clause-items : goal.returns-clause-items
 unfolding app_bytes
 returns-clause-items c =
     rw (
-      c.append-9.ensures.items,
+      c.append_pin.ensures.items,
       c.append-8.ensures.items,
       c.append-7.ensures.items,
       c.append-6.ensures.items,
@@ -33,10 +32,6 @@ returns-clause-ranges c = record {
   count_limit = omega arith;
   sum_limit = omega arith;
   tries = omega arith;
-  pin_size = search rules;
-  pin = λ k d within.
-      let small : (i : ℕ) → get_or c.args.app.pin i 0 < 256 = search rules in
-      let here : get_or c.args.app.pin k 0 < 256 = small k in
-      let same : get_or c.args.app.pin k d ≡ get_or c.args.app.pin k 0 = get_or_default c.args.app.pin k d 0 within in
-      omega arith;
+  pin_size = c.append_pin.ensures.size;
+  pin = c.append_pin.ensures.bytes;
 }
