@@ -1,7 +1,7 @@
 -- A home that is read as far as its state reaches.
 use Rattle.std.proofs.Common.{◌≡◌, ◌<◌, ◌≤◌, ◌+◌, ◌*◌, ◌/◌, ◌%◌, ℕ, zero, suc, List, [], ◌∷◌, ◌++◌, length, get_or, take, drop, map, replicate, refl, ap, sym, ◌∙◌, arith, Option, Some, None, IsSome}
 use Rattle.std.proofs.Math.Seq.{take-append-add}
-use Rattle.std.proofs.lemmas.List.{get_or-take, length-take-le, take_min}
+use Rattle.std.proofs.lemmas.List.{get_or-take}
 use Rattle.emv_ports.specs.Memory.{Memory}
 use Rattle.torn_store.specs.Layout.{joined, framed, state_in, recover_at}
 use Rattle.torn_store.specs.Store.{IsOn}

@@ -4,6 +4,8 @@ ghost use Rattle.emv_ports.specs.Cut.{is_place, is_plan};
 ghost use Rattle.torn_store.specs.Layout.{recover};
 ghost use Rattle.torn_store.specs.Recovery.{Among, Between};
 
+mod by_hand;
+
 use super::*;
 use arrayvec::ArrayVec;
 use emv_ports::{MemoryPages, Pages, Tear, TearAt};

@@ -1,4 +1,4 @@
-use Rattle.std.proofs.Common.{◌≡◌, ◌<◌, ◌≤◌, ◌+◌, ◌*◌, ◌/◌, length, get_or, arith, drop, Some, ap, sym, ◌∙◌}
+use Rattle.std.proofs.Common.{arith, drop, sym, ◌∙◌}
 use Rattle.torn_store.specs.Layout.{recover_at}
 use Rattle.torn_store.proofs.Homes.{the_some, home_size, length_at, state_read}
 use Rattle.torn_store.proofs.Opening.{some_is}

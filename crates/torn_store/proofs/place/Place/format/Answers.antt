@@ -1,4 +1,4 @@
-use Rattle.std.proofs.Common.{subst, sym}
+use Rattle.std.proofs.Common.{subst}
 use Rattle.torn_store.specs.Placed.{TurnedOnce}
 use Rattle.torn_store.specs.Store.{Stored}
 use Rattle.torn_store.proofs.Opening.{ready_holds}

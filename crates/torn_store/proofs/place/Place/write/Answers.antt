@@ -1,4 +1,4 @@
-use Rattle.torn_store.proofs.Stored.{stored, placed_ready, commits, commit_torn}
+use Rattle.torn_store.proofs.Stored.{placed_ready, commits, commit_torn}
 use Rattle.torn_store.proofs.place.Place.write.Goals as goal
 
 pub commit_state-requires-clause-ready : goal.commit_state-requires-clause-ready

@@ -1,4 +1,4 @@
-use Rattle.std.proofs.Common.{ℕ, List, ◌++◌, map, sym, subst}
+use Rattle.std.proofs.Common.{◌++◌, map, sym, subst}
 use Rattle.emv_ports.specs.Memory.{Memory}
 use Rattle.torn_store.specs.Conversion.{converted}
 use Rattle.torn_store.specs.Layout.{recover}
