@@ -27,14 +27,15 @@ rule [] none (suc k) = refl
 rule (l ∷ ls) none zero = (head_holds l.1 l.0 (first_broken ls) none).0
 rule (l ∷ ls) none (suc k) = rule ls (head_holds l.1 l.0 (first_broken ls) none).1 k
 
-kept : (app : AppData) → app_fault app ≡ None → KeepsRules app
+kept : (app : AppData) → app_fault app ≡ None → length app.aip ≡ 2 → KeepsRules app
 unfolding app_fault file_lines state_lines
-kept app none =
+kept app none profile =
     let at = rule (file_lines app ++ state_lines app) none in
     record {
       name = at 0;
       label = at 1;
       pdol = at 3;
+      aip = profile;
       afl = at 5;
       gpo_format = at 6;
       ac_format = at 7;
@@ -58,30 +59,30 @@ unmapped : {A B : Type 0} (f : A → B) (o : Option A) → option_map f o ≡ No
 unmapped f None none = refl
 unmapped f (Some x) none = absurd (true≢false (some_is_not_none (f x) none))
 
-each_kept : (number : ℕ) (apps : List AppData) → field_fault number apps ≡ None → All KeepsRules apps
-each_kept number [] none k d within = absurd (omega arith)
-each_kept number (app ∷ apps) none zero d within =
+each_kept : (number : ℕ) (apps : List AppData) → field_fault number apps ≡ None → All (λ app. length app.aip ≡ 2) apps → All KeepsRules apps
+each_kept number [] none profiles k d within = absurd (omega arith)
+each_kept number (app ∷ apps) none profiles zero d within =
     let parts = first_none (option_map (OfField number) (app_fault app)) (field_fault (number + 1) apps) none in
-    kept app (unmapped (OfField number) (app_fault app) parts.0)
-each_kept number (app ∷ apps) none (suc k) d within =
+    kept app (unmapped (OfField number) (app_fault app) parts.0) (profiles 0 d (omega arith))
+each_kept number (app ∷ apps) none profiles (suc k) d within =
     let parts = first_none (option_map (OfField number) (app_fault app)) (field_fault (number + 1) apps) none in
-    each_kept (number + 1) apps parts.1 k d (omega arith)
+    each_kept (number + 1) apps parts.1 (λ i x inside. profiles (suc i) x (omega arith)) k d (omega arith)
 
 counted : (test : Bool) (count : ℕ) (rest : Option Fault) → (if test then rest else Some (OfCount count)) ≡ None → (test ≡ true) × (rest ≡ None)
 counted true count rest none = (refl, none)
 counted false count rest none = absurd (true≢false (some_is_not_none (OfCount count) none))
 
 -- a card without a fault is an image
-pub faultless : (apps : List AppData) → image_fault apps ≡ None → IsImage apps
+pub faultless : (apps : List AppData) → image_fault apps ≡ None → All (λ app. length app.aip ≡ 2) apps → IsImage apps
 unfolding image_fault
-faultless apps none =
+faultless apps none profiles =
     let parts = counted (is_within 1 4 (length apps)) (length apps) (option_or (field_fault 0 apps) (name_fault [] apps)) none in
     let ends = and_parts (nat_le 1 (length apps)) (nat_le (length apps) 4) parts.0 in
     let faults = first_none (field_fault 0 apps) (name_fault [] apps) parts.1 in
     record {
       some = leb-true 1 (length apps) ends.0;
       few = leb-true (length apps) 4 ends.1;
-      rules = each_kept 0 apps faults.0;
+      rules = each_kept 0 apps faults.0 profiles;
       names = names_apart [] apps (λ i j d before within. absurd (omega arith)) faults.1;
     }
 

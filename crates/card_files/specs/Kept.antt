@@ -1,5 +1,5 @@
 -- What holds of an image as a whole, and of each of its applications.
-use Rattle.std.specs.Prelude.{◌≢◌, ◌≤◌, List, IsTrue, length}
+use Rattle.std.specs.Prelude.{◌≡◌, ◌≢◌, ◌≤◌, List, IsTrue, length}
 use Rattle.std.specs.List.{All, AllPairs}
 use Rattle.emv_dict.specs.Bcd.{has_digits}
 use Rattle.emv_dict.specs.Pan.{is_pan_length}
@@ -8,11 +8,12 @@ use Rattle.card_files.specs.AppRules.{is_name, is_label, is_afl, is_format, are_
 use Rattle.card_files.specs.Lists.{is_optional_pdol, is_cdol1, is_cdol2}
 use Rattle.card_files.specs.Views.{AppData}
 
--- every key of an application keeps to its rule
+-- every key of an application keeps to its rule; its profile has two bytes, as the image holds it
 pub record KeepsRules (app : AppData) : Type 0 where
   pub name : IsTrue (is_name app.name)
   pub label : IsTrue (is_label app.label)
   pub pdol : IsTrue (is_optional_pdol app.pdol)
+  pub aip : length app.aip ≡ 2
   pub afl : IsTrue (is_afl app.afl)
   pub gpo_format : IsTrue (is_format app.gpo_format)
   pub ac_format : IsTrue (is_format app.ac_format)

@@ -1,6 +1,6 @@
 //! The first fault of a card's applications.
 ghost use Rattle.std.specs.Prelude.{◌≡◌, ◌+◌, ◌≤◌, List, ℕ, [], length, map, Some, None, IfSome, option_map, option_copied};
-ghost use Rattle.std.specs.List.{list_any};
+ghost use Rattle.std.specs.List.{All, list_any};
 ghost use Rattle.std.specs.Str.{bytes_eq};
 ghost use Rattle.card_files.specs.Faults as spec;
 ghost use Rattle.card_files.specs.Faults.{first_broken, file_lines, state_lines, app_fault, field_fault, name_fault, image_fault, OfField};
@@ -117,10 +117,19 @@ fn key_bytes(key: &str) -> ArrayVec<u8, 16>
     }
 }
 
+/// A profile has two bytes. Contracts see it as a list, which has a length of its own.
+fn is_pair(profile: [u8; 2])
+    ensures { length profile ≡ 2 }
+{
+    let [_, _] = profile;
+}
+
 /// The application's first key that is against its rule, as a fault of the application of this number.
 fn field_of(number: u8, app: &AppImage) -> Option<ImageFault>
-    ensures { option_map seen_fault result ≡ option_map (OfField number) (app_fault app.now) }
+    ensures fault { option_map seen_fault result ≡ option_map (OfField number) (app_fault app.now) }
+    ensures profile { length app.now.aip ≡ 2 }
 {
+    is_pair(app.aip);
     match first_key(app) {
         Some(key) => Some(ImageFault::Field {
             app: number,
@@ -133,7 +142,8 @@ fn field_of(number: u8, app: &AppImage) -> Option<ImageFault>
 /// The first key of any application, the applications counted from this number on.
 fn first_field(number: u8, apps: &[AppImage]) -> Option<ImageFault>
     requires { number + length apps.now ≤ 4 }
-    ensures { option_map seen_fault result ≡ field_fault number apps.now }
+    ensures fault { option_map seen_fault result ≡ field_fault number apps.now }
+    ensures profiles { result ≡ None → All (λ app. length app.aip ≡ 2) apps.now }
 {
     match apps {
         [] => None,
@@ -179,7 +189,8 @@ fn first_same_name(apps: &[AppImage]) -> Option<ImageFault>
 /// applications in order; else the first name that an earlier application has.
 #[tactic(auto, unfolding(crate::specs::Faults::image_fault))]
 pub(crate) fn first_fault(apps: &[AppImage]) -> Option<ImageFault>
-    ensures { option_map seen_fault result ≡ image_fault apps.now }
+    ensures fault { option_map seen_fault result ≡ image_fault apps.now }
+    ensures profiles { result ≡ None → All (λ app. length app.aip ≡ 2) apps.now }
 {
     if apps.is_empty() || apps.len() > 4 {
         return Some(ImageFault::Count(apps.len()));

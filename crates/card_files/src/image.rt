@@ -29,12 +29,11 @@ impl Model for Image {
 
     ghost Value = { List AppData };
 
-    ghost use Rattle.std.specs.Prelude.{◌≡◌, None};
-    ghost use Rattle.card_files.specs.Faults.{image_fault};
+    ghost use Rattle.card_files.specs.Kept.{IsImage};
 
     ghost view = { λ image. image.apps.items };
 
-    ghost invariant = { λ image. image_fault image.apps.items ≡ None };
+    ghost invariant = { λ image. IsImage image.apps.items };
 }
 
 impl Image {

@@ -133,11 +133,11 @@ module _ (image : List AppData) (a : AppData) (app : ℕ) (whole : IsWhole a) (p
       (done None (λ later. ap (λ (said : Said). after_options said later) (refuses now given ans)) (ltb-false s.counter 65535 left, ans.phase, ans.kept ∙ append-nil now.kept))
 
 pub initiation_runs : (image : List AppData) → InitiationRuns image
-initiation_runs image a app now s terminal whole rules profile there state_is card_open app_open here =
+initiation_runs image a app now s terminal whole rules there state_is card_open app_open here =
     let g = given_for a.pdol terminal rules.pdol in
-    let room : length (body_for a) ≤ 256 = options_room a.gpo_format a.aip a.afl rules.gpo_format profile (leb-true (length a.afl) 248 rules.afl) whole.short in
+    let room : length (body_for a) ≤ 256 = options_room a.gpo_format a.aip a.afl rules.gpo_format rules.aip (leb-true (length a.afl) 248 rules.afl) whole.short in
     let left : Bool = nat_lt s.counter 65535 in
     let is : row image (state_at image now) (Selected app) (command_for g.given) ≡ answered app a left =
     options_row_is image (state_at image now) app a s g.given there state_is
     ∙ options_is app a s (state_at image now).blocked g.given left g.size (starts_is a s (state_at image now).blocked card_open app_open room left refl) in
-    runs_as (λ later. sym (ap (λ (filling : Option (List ℕ)). initiating_with filling later) g.is)) (run_by image a app whole profile now s g.given left refl is room here)
+    runs_as (λ later. sym (ap (λ (filling : Option (List ℕ)). initiating_with filling later) g.is)) (run_by image a app whole rules.aip now s g.given left refl is room here)

@@ -28,7 +28,7 @@ use Rattle.completeness.proofs.Selects.{Selects, selects_one}
 use Rattle.completeness.proofs.Shown.{fci_data}
 use Rattle.completeness.proofs.Stages.{ReadEnds, Initiated, InitiationRuns}
 use Rattle.completeness.specs.Cards.{Now, powered, goes}
-use Rattle.completeness.specs.WellFormed.{HaveProfiles, IsWhole, WellFormed}
+use Rattle.completeness.specs.WellFormed.{IsWhole, WellFormed}
 use Rattle.emv_dict.specs.Settings.{IsSettings}
 use Rattle.emv_dict.specs.declared.ending.Step.TheVariants as step
 use Rattle.emv_dict.specs.declared.purchase.AidRow.{AidRow}
@@ -40,7 +40,7 @@ use Rattle.read_records.specs.Options.{Opened, initiating}
 use Rattle.terminal_state.specs.Marks.{Mark, moment}
 use Rattle.terminal_state.specs.Terminal.{Deal, terminal_objects}
 
-module _ (image : List AppData) (reads : ReadEnds image) (initiates : InitiationRuns image) (deal : Deal) (kept : List Decided) (is_image : IsImage image) (profiles : HaveProfiles image)
+module _ (image : List AppData) (reads : ReadEnds image) (initiates : InitiationRuns image) (deal : Deal) (kept : List Decided) (is_image : IsImage image)
     (well : WellFormed image deal kept) where
   abbrev state : CardState
   state = totals (opening_of image) kept
@@ -164,7 +164,7 @@ module _ (image : List AppData) (reads : ReadEnds image) (initiates : Initiation
       let terminal : Entries = terminal_objects deal selected.row (moment []) in
       let runs : Runs image (Initiated image chosen.own whole chosen.app chosen.now at) at (initiating selected.pdol terminal) =
       subst (λ (list : Option (List ℕ)). Runs image (Initiated image chosen.own whole chosen.app chosen.now at) at (initiating list terminal)) (sym chosen.pdol)
-      (initiates chosen.own chosen.app at chosen.now terminal whole rules (profiles chosen.app chosen.own chosen.is) chosen.is here good chosen.unblocked chosen.phase) in
+      (initiates chosen.own chosen.app at chosen.now terminal whole rules chosen.is here good chosen.unblocked chosen.phase) in
       chain (cut_off []) step.Initiate [] (granted deal selected.row others) step.Initiate (initiating selected.pdol terminal) runs
       (λ after value held. granted_ends selected.row others chosen.app chosen.own chosen.now whole at after selected.left value held chosen.is chosen.same chosen.others ends) log
 
@@ -193,11 +193,11 @@ module _ (image : List AppData) (reads : ReadEnds image) (initiates : Initiation
       list_runs image kept deal is_image well.apart well.unblocked well.serves deal.purchase.confirm listed_runs deal.settings.aids settings.rows well.serves.listed (powered kept) refl
 
 -- the whole dialogue, where reading and GET PROCESSING OPTIONS do what they owe
-pub dialogue_ends : (image : List AppData) → ReadEnds image → InitiationRuns image → (deal : Deal) (found : List Decided) → IsImage image → HaveProfiles image → IsSettings deal.settings → WellFormed image deal found
+pub dialogue_ends : (image : List AppData) → ReadEnds image → InitiationRuns image → (deal : Deal) (found : List Decided) → IsImage image → IsSettings deal.settings → WellFormed image deal found
     → Ends image (powered found) (dialogue deal)
 unfolding dialogue
-dialogue_ends image reads initiates deal found is_image profiles settings well =
+dialogue_ends image reads initiates deal found is_image settings well =
     chain (cut_off []) step.Select [] (λ selected. initiation deal selected (candidates_left deal selected.left)) step.Power (selecting deal.settings.aids deal.purchase.confirm)
-    (selecting_runs image reads initiates deal found is_image profiles well settings)
-    (λ at selected chosen. initiation_ends image reads initiates deal found is_image profiles well at selected chosen (candidates_left deal selected.left)
-    (λ now same serving. candidates_end image reads initiates deal found is_image profiles well selected.left chosen.left now same serving)) []
+    (selecting_runs image reads initiates deal found is_image well settings)
+    (λ at selected chosen. initiation_ends image reads initiates deal found is_image well at selected chosen (candidates_left deal selected.left)
+    (λ now same serving. candidates_end image reads initiates deal found is_image well selected.left chosen.left now same serving)) []

@@ -1,5 +1,5 @@
 -- What each stage of a dialogue owes, for a card of this image.
-use Rattle.std.proofs.Common.{◌≡◌, ℕ, ◌≤◌, false, List, slice_get, Option, Some, None, length}
+use Rattle.std.proofs.Common.{◌≡◌, ℕ, ◌≤◌, false, List, slice_get, Option, Some, None}
 use Rattle.card_app.specs.OwnLists.{cdol_of}
 use Rattle.card_cryptogram.specs.declared.phase.Phase.TheVariants.{Selected, Started}
 use Rattle.card_files.specs.Kept.{KeepsRules}
@@ -48,6 +48,6 @@ Initiated image a whole app s before at (Some opened) = (opened ≡ whole.reads.
 abbrev pub InitiationRuns : List AppData → Type 0
 InitiationRuns image =
     (a : AppData) (app : ℕ) (now : Now) (s : AppState) (terminal : Entries) (whole : IsWhole a)
-    → KeepsRules a → length a.aip ≡ 2 → slice_get image app ≡ Some a → slice_get (state_at image now).apps.items app ≡ Some s
+    → KeepsRules a → slice_get image app ≡ Some a → slice_get (state_at image now).apps.items app ≡ Some s
     → (state_at image now).blocked ≡ false → s.blocked ≡ false → phase_at image now ≡ Selected app
     → Runs image (Initiated image a whole app s now) now (initiating a.pdol terminal)

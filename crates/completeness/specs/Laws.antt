@@ -5,7 +5,7 @@ use Rattle.card_files.specs.Views.{AppData}
 use Rattle.card_state.specs.Decisions.{Decided}
 use Rattle.completeness.specs.Cards.{Now}
 use Rattle.completeness.specs.Told.{Told, IsDecided, IsLinked}
-use Rattle.completeness.specs.WellFormed.{HaveProfiles, WellFormed}
+use Rattle.completeness.specs.WellFormed.{WellFormed}
 use Rattle.emv_dict.specs.Settings.{IsSettings}
 use Rattle.emv_dict.specs.declared.ending.Ending.{Ending}
 use Rattle.issuer_host.specs.Account.{AccountData}
@@ -18,7 +18,7 @@ use Rattle.terminal_state.specs.Terminal.{Deal}
 abbrev pub PurchasesAreDecided : Type 0
 PurchasesAreDecided =
     (image : List AppData) (deal : Deal) (found : List Decided) (now : Now) (replies : List Reply) (ending : Ending)
-    → IsImage image → HaveProfiles image → IsSettings deal.settings → WellFormed image deal found → Told image deal found now replies
+    → IsImage image → IsSettings deal.settings → WellFormed image deal found → Told image deal found now replies
     → (dialogue deal replies).deed ≡ Over ending → IsDecided ending
 
 -- the host of a scenario leaves each transaction to the terminal

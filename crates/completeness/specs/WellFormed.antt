@@ -75,10 +75,6 @@ pub record IsWhole (a : AppData) : Type 0 where
   pub second : list_total (value_of 0x8D reads.card.entries) ≡ Some (total_of (cdol_of a.cdol2))
   pub short : a.gpo_format ≡ 2 → length a.afl ≤ 244
 
--- the profile of each application has two bytes, as in every image that is read from a scenario
-abbrev pub HaveProfiles : List AppData → Type 0
-HaveProfiles image = (app : ℕ) (a : AppData) → slice_get image app ≡ Some a → length a.aip ≡ 2
-
 -- with these decisions found, the card isn't blocked, one of its applications can serve the purchase, and each is whole
 pub record WellFormed (image : List AppData) (deal : Deal) (found : List Decided) : Type 0 where
   pub unblocked : (totals (opening_of image) found).blocked ≡ false

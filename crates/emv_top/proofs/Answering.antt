@@ -6,7 +6,7 @@ use Rattle.emv_ports.specs.Memory.{Memory}
 use Rattle.emv_ports.specs.Reading.{ReadsUpTo}
 use Rattle.emv_top.specs.Answers.{Answers, AnswersRead, AnswersWords, AreSettled, Completes, IsAccepted, IsCut, IsCutShort, IsRefused, IsStarved, IsWhole, Leaves, Plays, Refuses, SinkCount, SourceCount, Unbegun}
 use Rattle.emv_top.specs.Courses.{Replays, Reads, Stopped}
-use Rattle.emv_top.specs.Decided.{DecidedRun, HasProfiles, RunsAreDecided}
+use Rattle.emv_top.specs.Decided.{DecidedRun, RunsAreDecided}
 use Rattle.emv_top.specs.Input.{IsInput}
 use Rattle.emv_top.specs.StatusCode.{code_of}
 use Rattle.emv_top.specs.declared.status.Status.{Status}
@@ -29,14 +29,14 @@ use Rattle.txn_replay.specs.World.{World}
 use Rattle.txn_replay.specs.Seen.{WorldSeen, WorldStands}
 
 -- in a whole run purchases are decided, the laws are kept, and no decision is open
-pub decided_whole : (s : ScenarioData) (v : WorldSeen) (old new : Option (List ℕ)) → WholeRunsAreFair → RunsAreDecided → IsScenario s → HasProfiles s → Completes (Run s) (WorldStands v) old new
+pub decided_whole : (s : ScenarioData) (v : WorldSeen) (old new : Option (List ℕ)) → WholeRunsAreFair → RunsAreDecided → IsScenario s → Completes (Run s) (WorldStands v) old new
     → Completes (DecidedRun s) (λ w. WorldStands v w × IsFair s w × AreSettled s w) old new
-decided_whole s v old new law decides fits profiles whole =
+decided_whole s v old new law decides fits whole =
     let run : Run s whole.lines whole.world = whole.run in
     record {
       lines = whole.lines;
       world = whole.world;
-      run = (run, decides s Finished run.count run.choices run.reported whole.world run.reached fits profiles);
+      run = (run, decides s Finished run.count run.choices run.reported whole.world run.reached fits);
       stands = (whole.stands, law s whole.lines whole.world run, run_settled s run.count run.choices run.reported whole.world run.reached);
       written = whole.written;
     }

@@ -9,10 +9,10 @@ use Rattle.card_files.specs.Kept.{IsImage}
 use Rattle.card_state.specs.Decisions.{Decided}
 use Rattle.completeness.specs.Laws.{PurchasesAreDecided, HostsAreLinked}
 use Rattle.completeness.specs.Told.{Told, IsDecided}
-use Rattle.completeness.specs.WellFormed.{HaveProfiles, WellFormed}
+use Rattle.completeness.specs.WellFormed.{WellFormed}
 use Rattle.emv_dict.specs.Settings.{IsSettings}
 use Rattle.emv_ports.specs.Cut.{is_named}
-use Rattle.emv_top.specs.Decided.{Begun, begun_as, begun_unless, begun_with, begun_on, begun_by, begun_in, begun, HasProfiles, IsDecidedAt, AreDecided, RunsAreDecided}
+use Rattle.emv_top.specs.Decided.{Begun, begun_as, begun_unless, begun_with, begun_on, begun_by, begun_in, begun, IsDecidedAt, AreDecided, RunsAreDecided}
 use Rattle.emv_top.proofs.Fates.{now_of, IsWhole, Fate, still, goes, ends, fate}
 use Rattle.kernel.specs.Reply.{Reply}
 use Rattle.report_text.specs.declared.line.Line.{Line}
@@ -39,12 +39,11 @@ use Rattle.txn_replay.proofs.Waiting.{settle_lanes, audit_lanes, calm_over}
 -- the rules that a purchase's card, terminal and issuer keep
 record KeepsRules (p : Payment) : Type 0 where
   image : p.card.canned ≡ None → IsImage p.card.image
-  profiles : HaveProfiles p.card.image
   settings : IsSettings p.settings
 
-payment_rules : (s : ScenarioData) (l n : ℕ) (p : Payment) → IsScenario s → HasProfiles s → payment_in s l n ≡ Some p → KeepsRules p
+payment_rules : (s : ScenarioData) (l n : ℕ) (p : Payment) → IsScenario s → payment_in s l n ≡ Some p → KeepsRules p
 unfolding payment_in
-payment_rules s l n p fits profiles is = by_lane (slice_get s.lanes l) refl is
+payment_rules s l n p fits is = by_lane (slice_get s.lanes l) refl is
   where
     by_card : (lane : LaneData) (planned : Planned) (o : Option CardData) → slice_get s.lanes l ≡ Some lane → slice_get s.cards planned.card ≡ o
         → option_map (payment_with s l lane planned) o ≡ Some p → KeepsRules p
@@ -60,7 +59,6 @@ payment_rules s l n p fits profiles is = by_lane (slice_get s.lanes l) refl is
           settings =
               subst (λ (x : LaneData). IsSettings x.settings) (get_or_from_slice_get s.lanes l lane lane lane_there)
               (fits.tables.lanes l lane (slice_get_within s.lanes l lane lane_there)).settings;
-          profiles = profiles planned.card card there;
         })
 
     by_planned : (lane : LaneData) (o : Option Planned) → slice_get s.lanes l ≡ Some lane → option_and_then (payment_of s l lane) o ≡ Some p → KeepsRules p
@@ -249,7 +247,7 @@ module _ (s : ScenarioData) (began : List Begun) (w : World) (l : ℕ) (p : Paym
         (ended_more more past pushed decided) (ended_there more);
   }
 
-module _ (law : PurchasesAreDecided) (hosts : HostsAreLinked) (s : ScenarioData) (fits : IsScenario s) (profiles : HasProfiles s) where
+module _ (law : PurchasesAreDecided) (hosts : HostsAreLinked) (s : ScenarioData) (fits : IsScenario s) where
   turn_accounts : (began : List Begun) (w : World) (l : ℕ) (choice : Bool) → IsSound s w → Accounts s began w
       → Accounts s (began ++ begun_in s w l choice) (turned s w l choice).world
   turn_accounts began w l choice sound accounts = by_next (next_of s w l) refl
@@ -273,11 +271,11 @@ module _ (law : PurchasesAreDecided) (hosts : HostsAreLinked) (s : ScenarioData)
       by_next : (o : Option Payment) → next_of s w l ≡ o → Accounts s (began ++ begun_by w l choice o (lane_at w l).running) (turned_by w l choice o).world
       by_next None is = longer s began (begun_by w l choice None (lane_at w l).running) w accounts
       by_next (Some p) is =
-          let rules = payment_rules s l (length (lane_at w l).ended) p fits profiles is in
+          let rules = payment_rules s l (length (lane_at w l).ended) p fits is in
           let part = part_of w l p.planned.card in
           let more = begun_by w l choice (Some p) (lane_at w l).running in
           by_outcome p is more (piece p part choice) (outcome p part choice (has_card s w l p sound is))
-          (fate law hosts p rules.image rules.profiles rules.settings (λ found. Contains (began ++ more) (next_begun w l found)) part choice
+          (fate law hosts p rules.image rules.settings (λ found. Contains (began ++ more) (next_begun w l found)) part choice
           (λ replies ran whole. (let one = accounts.running l replies p ran is whole in
           (one.0, Contains-append_left began more (next_begun w l one.0) one.1, one.2)))
           (found_here p))
@@ -332,4 +330,4 @@ module _ (law : PurchasesAreDecided) (hosts : HostsAreLinked) (s : ScenarioData)
   accounted _ _ _ _ _ (finished before none) = accounted _ _ _ _ _ before
 
 pub runs_decided : PurchasesAreDecided → HostsAreLinked → RunsAreDecided
-runs_decided law hosts s place n cs ls w reached fits profiles = (accounted law hosts s fits profiles place n cs ls w reached).ended
+runs_decided law hosts s place n cs ls w reached fits = (accounted law hosts s fits place n cs ls w reached).ended

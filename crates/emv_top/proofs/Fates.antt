@@ -9,7 +9,7 @@ use Rattle.card_state.specs.Decisions.{Decided}
 use Rattle.completeness.specs.Cards.{Now}
 use Rattle.completeness.specs.Laws.{PurchasesAreDecided, HostsAreLinked}
 use Rattle.completeness.specs.Told.{Told, begins, card as told_card, host as told_host, IsDecided, IsLinked}
-use Rattle.completeness.specs.WellFormed.{HaveProfiles, WellFormed}
+use Rattle.completeness.specs.WellFormed.{WellFormed}
 use Rattle.emv_dict.specs.Settings.{IsSettings}
 use Rattle.emv_ports.specs.Cut.{is_named}
 use Rattle.emv_ports.specs.declared.tear.Tear.{Tear}
@@ -64,7 +64,7 @@ unfolding cut_of
 no_cut made [] = refl
 no_cut made (d ∷ ds) = rw (no_cut (made + 1) ds) refl
 
-module _ (law : PurchasesAreDecided) (hosts : HostsAreLinked) (p : Payment) (image : p.card.canned ≡ None → IsImage p.card.image) (profiles : HaveProfiles p.card.image) (settings : IsSettings p.settings)
+module _ (law : PurchasesAreDecided) (hosts : HostsAreLinked) (p : Payment) (image : p.card.canned ≡ None → IsImage p.card.image) (settings : IsSettings p.settings)
     (IsFound : List Decided → Type 0) (part : Part) where
   -- what its terminal was told
   abbrev WasTold : CardRow → List Reply → Type 0
@@ -78,7 +78,7 @@ module _ (law : PurchasesAreDecided) (hosts : HostsAreLinked) (p : Payment) (ima
       (λ whole. (let one = told whole in (
         one.0,
         one.1,
-        λ formed. law p.card.image (deal_for p) one.0 (now_of card) replies end.ending (image whole.apps) profiles settings formed one.2
+        λ formed. law p.card.image (deal_for p) one.0 (now_of card) replies end.ending (image whole.apps) settings formed one.2
             (over_of (deal_for p) (dialogue (deal_for p) replies).marks (dialogue (deal_for p) replies).deed end is),
       )))
 

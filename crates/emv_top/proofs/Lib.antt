@@ -18,7 +18,5 @@ pub mod ReadSettled
 pub mod Fates
 pub mod Deciding
 pub mod Accepting
-pub mod Profiles
 pub mod Booked
-pub mod Drawn
 pub mod Summing

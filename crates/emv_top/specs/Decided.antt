@@ -4,11 +4,10 @@ use Rattle.std.specs.Prelude.{◌≡◌, ℕ, Bool, true, false, List, [], ◌�
 use Rattle.card_pages.specs.Pages.{found_of}
 use Rattle.card_state.specs.Decisions.{Decided}
 use Rattle.completeness.specs.Told.{IsDecided}
-use Rattle.completeness.specs.WellFormed.{HaveProfiles, WellFormed}
+use Rattle.completeness.specs.WellFormed.{WellFormed}
 use Rattle.emv_ports.specs.Cut.{is_named}
 use Rattle.kernel.specs.Reply.{Reply}
 use Rattle.report_text.specs.declared.line.Line.{Line}
-use Rattle.scenario.specs.Cards.{CardData}
 use Rattle.scenario.specs.Plan.{ScenarioData, IsScenario}
 use Rattle.txn_replay.specs.Payment.{Payment, payment_in, next_of, deal_for}
 use Rattle.txn_replay.specs.Run.{Place, Reached, start, scheduled, rounds, round, again, settlement, settling, audit, auditing, finished, Run}
@@ -78,15 +77,11 @@ IsDecidedAt s began l number past =
 abbrev pub AreDecided : ScenarioData → List Begun → World → Type 0
 AreDecided s began w = (l number : ℕ) (past : Past) → slice_get (lane_at w l).ended number ≡ Some past → IsDecidedAt s began l number past
 
--- each card's applications have profiles of two bytes, as in every scenario that is read
-abbrev pub HasProfiles : ScenarioData → Type 0
-HasProfiles s = (i : ℕ) (card : CardData) → slice_get s.cards i ≡ Some card → HaveProfiles card.image
-
 -- of every world that a run comes to
 abbrev pub RunsAreDecided : Type 0
 RunsAreDecided =
     (s : ScenarioData) (place : Place) (n : ℕ) (choices : List Bool) (lines : List Line) (w : World) (reached : Reached s place n choices lines w)
-    → IsScenario s → HasProfiles s → AreDecided s (begun reached) w
+    → IsScenario s → AreDecided s (begun reached) w
 
 -- a whole run, in which these purchases are decided
 abbrev pub DecidedRun : ScenarioData → List Line → World → Type 0

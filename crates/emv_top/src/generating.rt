@@ -5,7 +5,7 @@ ghost use Rattle.std.specs.Io.{WritesAtMost};
 ghost use Rattle.std.specs.List.{All};
 ghost use Rattle.emv_ports.specs.Memory.{IsBlank};
 ghost use Rattle.emv_top.specs.Answers.{AreSettled, AreSpare, Completes, SinkCount};
-ghost use Rattle.emv_top.specs.Decided.{DecidedRun, HasProfiles};
+ghost use Rattle.emv_top.specs.Decided.{DecidedRun};
 ghost use Rattle.emv_top.specs.Generating.{Generates, booked, capped, paid, summary_of};
 ghost use Rattle.generated.specs.Generated.{generated_of};
 ghost use Rattle.scenario.specs.Plan.{IsScenario};

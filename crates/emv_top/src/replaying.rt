@@ -3,7 +3,7 @@ ghost use Rattle.std.specs.Prelude.{◌≡◌, ◌≢◌, ◌<◌, true, false, 
 ghost use Rattle.std.specs.List.{All};
 ghost use Rattle.emv_ports.specs.Memory.{IsBlank};
 ghost use Rattle.emv_top.specs.Answers.{AreSettled, AreSpare, Completes, Plays, SinkCount};
-ghost use Rattle.emv_top.specs.Decided.{DecidedRun, HasProfiles};
+ghost use Rattle.emv_top.specs.Decided.{DecidedRun};
 ghost use Rattle.emv_top.specs.Courses.{Carries, Halts, IsAt, Replays, Stopped};
 ghost use Rattle.emv_top.specs.Stops.{HasStop};
 ghost use Rattle.emv_top.specs.declared.status.Status.{Status};
@@ -205,7 +205,6 @@ pub fn replay_whole<'s, P: Pages, K: Sink>(
     sink: &mut K,
 ) -> Result<World<'s, P>, Ended<P>>
     requires rules { IsScenario scenario.now }
-    requires profiles { HasProfiles scenario.now }
     requires pages { length bank.items ≡ 64 }
     requires blank { All IsBlank (map P.memory bank.items) }
     ensures whole { IfOk result (λ world. Completes (DecidedRun scenario.now)

@@ -7,7 +7,6 @@ ghost use Rattle.emv_ports.specs.Growth.{AppendsFront};
 ghost use Rattle.emv_ports.specs.Memory.{IsBlank};
 ghost use Rattle.emv_ports.specs.Reading.{ReadsUpTo};
 ghost use Rattle.emv_top.specs.Answers.{Answers, AnswersRead, AnswersWords, IsAccepted, IsCutShort, IsRefused, IsStarved, IsWhole, Plays, Refuses, SinkCount, SourceCount, TellsUsage, Unbegun};
-ghost use Rattle.emv_top.specs.Decided.{HasProfiles};
 ghost use Rattle.emv_top.specs.Generating.{AnswersAsked, IsSummed, IsSummedShort, IsUnsummed};
 ghost use Rattle.emv_top.specs.Input.{IsInput, first_purchases};
 ghost use Rattle.emv_top.specs.Words.{generate_of, order_of};
@@ -41,7 +40,6 @@ fn replay<P: Pages, K: Sink>(
     sink: &mut K,
 ) -> Ended<P>
     requires rules { IsScenario scenario.now }
-    requires profiles { HasProfiles scenario.now }
     requires pages { length bank.items ≡ 64 }
     requires blank { All IsBlank (map P.memory bank.items) }
     ensures plays { Plays Order.Replay scenario.now (K.held sink.old) (K.held sink.new) (map P.memory result.bank.items) result.tally result.status }
@@ -91,7 +89,6 @@ fn play<P: Pages, K: Sink>(
     sink: &mut K,
 ) -> Ended<P>
     requires rules { IsScenario scenario }
-    requires profiles { HasProfiles scenario }
     requires some { order ≡ Order.Read → 1 ≤ length (first_purchases scenario.lanes) }
     requires pages { length bank.items ≡ 64 }
     requires blank { All IsBlank (map P.memory bank.items) }

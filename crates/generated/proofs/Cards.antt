@@ -52,6 +52,7 @@ app_rules card = record {
   name = refl;
   label = refl;
   pdol = refl;
+  aip = refl;
   afl = refl;
   gpo_format = refl;
   ac_format = refl;

@@ -39,6 +39,7 @@ app_keeps keys files holder counters access f h c a = record {
   name = f.name;
   label = f.label;
   pdol = f.pdol;
+  aip = f.aip;
   afl = f.afl;
   gpo_format = f.gpo_format;
   ac_format = f.ac_format;

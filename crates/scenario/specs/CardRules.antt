@@ -19,6 +19,7 @@ pub record KeepsFiles (files : FilesData) : Type 0 where
   pub name : IsTrue (is_name files.name)
   pub label : IsTrue (is_label files.label)
   pub pdol : IsTrue (is_optional_pdol files.pdol)
+  pub aip : length files.aip ≡ 2
   pub afl : IsTrue (is_afl files.afl)
   pub gpo_format : IsTrue (is_format files.gpo_format)
   pub ac_format : IsTrue (is_format files.ac_format)

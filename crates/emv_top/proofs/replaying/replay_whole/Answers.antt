@@ -8,7 +8,7 @@ use Rattle.emv_top.proofs.replaying.replay_whole.Goals as goal
 
 pub returns-in-Ok-replay_through-clause-whole : goal.returns-in-Ok-replay_through-clause-whole
 returns-in-Ok-replay_through-clause-whole g c =
-    decided_whole c.args.scenario.now c.replay_through.new.world _ _ c.runs_are_fair.ensures.whole c.runs_are_decided.ensures c.requires.rules c.requires.profiles
+    decided_whole c.args.scenario.now c.replay_through.new.world _ _ c.runs_are_fair.ensures.whole c.runs_are_decided.ensures c.requires.rules
     c.in-Ok-replay_through.ensures.ok
 
 pub returns-in-Ok-replay_through-clause-spare : goal.returns-in-Ok-replay_through-clause-spare

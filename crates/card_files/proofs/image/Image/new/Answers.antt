@@ -1,4 +1,4 @@
-use Rattle.std.proofs.Common.{◌≡◌, sym}
+use Rattle.std.proofs.Common.{◌≡◌, refl, sym}
 use Rattle.std.specs.Prelude.{None}
 use Rattle.card_files.specs.Faults.{image_fault}
 use Rattle.card_files.proofs.Keeping.{faultless, has_no_fault}
@@ -7,8 +7,13 @@ use Rattle.card_files.proofs.image.Image.new.Goals as goal
 pub returns-in-Some-clause-all : goal.returns-in-Some-clause-all
 returns-in-Some-clause-all c = λ is.
     let none : image_fault c.args.apps.items ≡ None = has_no_fault c.args.apps.items is in
-    let some = rw c.deref.ensures.value at c.in-Some.ensures in
+    let some = rw c.deref.ensures.value at c.in-Some.ensures.fault in
     cc (none, some)
 
 pub returns-in-None-clause-image : goal.returns-in-None-clause-image
-returns-in-None-clause-image c = faultless c.args.apps.items (sym (rw c.deref.ensures.value at c.in-None.ensures))
+returns-in-None-clause-image c =
+    faultless c.args.apps.items (sym (rw c.deref.ensures.value at c.in-None.ensures.fault)) (rw c.deref.ensures.value at (c.in-None.ensures.profiles refl))
+
+pub invariant_of-result : goal.invariant_of-result
+invariant_of-result c =
+    faultless c.args.apps.items (sym (rw c.deref.ensures.value at c.in-None.ensures.fault)) (rw c.deref.ensures.value at (c.in-None.ensures.profiles refl))
