@@ -1,5 +1,5 @@
 -- What a card decides and answers to any bytes (ISO/IEC 7816-4; EMV 4.3 Book 3 section 6.5).
-use Rattle.std.specs.Prelude.{ℕ, ◌==◌, ◌&&◌, not, Bool, if◌then◌else◌, List, Option, Some, None}
+use Rattle.std.specs.Prelude.{ℕ, ◌==◌, ◌&&◌, not, if◌then◌else◌, List, Option, Some, None}
 use Rattle.apdu_core.specs.Command.{CommandData, command_of}
 use Rattle.card_files.specs.Files.{opening_of}
 use Rattle.card_files.specs.Views.{AppData}

@@ -1,5 +1,5 @@
 -- SELECT, READ RECORD and GET DATA (EMV 4.3 Book 1 section 11.3, Book 3 sections 6.5.11 and 6.5.7).
-use Rattle.std.specs.Prelude.{ℕ, ◌/◌, ◌%◌, ◌==◌, ◌&&◌, ◌||◌, not, Bool, nat_lt, nat_le, if◌then◌else◌, List, [], ◌∷◌, length, Option, Some, None}
+use Rattle.std.specs.Prelude.{ℕ, ◌/◌, ◌==◌, ◌&&◌, not, Bool, if◌then◌else◌, List, [], ◌∷◌, length, Option, Some, None}
 use Rattle.std.specs.Int.{to_be_bytes, w16}
 use Rattle.apdu_core.specs.Command.{CommandData}
 use Rattle.ber_tlv.specs.Written.{written}

@@ -1,5 +1,5 @@
 -- GET PROCESSING OPTIONS (EMV 4.3 Book 3 section 6.5.8).
-use Rattle.std.specs.Prelude.{ℕ, ◌++◌, ◌==◌, ◌&&◌, not, Bool, false, nat_lt, nat_le, if◌then◌else◌, List, length, Option, Some, None}
+use Rattle.std.specs.Prelude.{ℕ, ◌==◌, ◌&&◌, not, Bool, false, nat_le, if◌then◌else◌, List, length, Option, Some, None}
 use Rattle.ber_tlv.specs.Direct.{sole_value}
 use Rattle.ber_tlv.specs.Left.{items_of}
 use Rattle.card_files.specs.Views.{AppData}

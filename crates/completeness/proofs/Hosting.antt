@@ -1,25 +1,13 @@
 -- The replies of an issuer's host leave each transaction to the terminal: the new ones, and those that it kept.
-use Rattle.std.proofs.Common.{ℕ, Bool, true, false, if◌then◌else◌, IfSome, List, [], ◌∷◌, Option, Some, None, Result, Ok, Err, refl, sym, subst}
-use Rattle.std.specs.List.{All}
-use Rattle.std.specs.Str.{bytes_eq}
-use Rattle.std.proofs.lemmas.List.Elements.{All-nil, All-head, All-tail, All-push}
-use Rattle.auth_message.specs.Data.{RequestData, PresentData}
-use Rattle.auth_message.specs.Message.{message_of}
-use Rattle.auth_message.specs.declared.fault.MessageFault.{MessageFault}
-use Rattle.auth_message.specs.declared.message.Incoming.{Incoming}
-use Rattle.auth_message.specs.declared.message.Incoming.TheVariants.{Request, Present, Reverse}
-use Rattle.auth_message.specs.declared.reversal.ReversalFields.{ReversalFields}
-use Rattle.host_ledger.specs.Key.{same_key}
-use Rattle.host_ledger.specs.declared.key.Key.{Key}
+use Rattle.std.proofs.Common.{ℕ, Bool, true, false, if◌then◌else◌, List, [], Option, Some, None, refl, sym, subst}
+use Rattle.std.proofs.lemmas.List.Elements.{All-nil}
+use Rattle.auth_message.specs.Data.{RequestData}
 use Rattle.issuer_host.specs.Account.{AccountData}
-use Rattle.issuer_host.specs.Balance.{account_of}
-use Rattle.issuer_host.specs.Books.{Kept, Books, no_books, kept_at}
+use Rattle.issuer_host.specs.Books.{Books}
 use Rattle.issuer_host.specs.Code.{code_bytes}
-use Rattle.issuer_host.specs.History.{with_first, kept_in, books_with, books_from}
-use Rattle.issuer_host.specs.Reply.{request_key, present_key, reversal_key, request_is_genuine, request_code, present_code, reversal_code, plain, said_bytes, is_served, script_keys, response_of, online_reply, request_reply, present_reply, reversal_reply, new_request, new_present, new_reversal, again_or, reply_in, reply_to}
+use Rattle.issuer_host.specs.Reply.{plain, said_bytes, is_served, script_keys, response_of, online_reply}
 use Rattle.issuer_host.specs.Scripts.{all_script_bytes}
 use Rattle.issuer_host.specs.declared.code.Code.{Code}
-use Rattle.issuer_host.specs.declared.code.Code.TheVariants.{Declined, UnknownAccount}
 use Rattle.issuer_host.specs.declared.keys.HostKeys.{HostKeys}
 use Rattle.issuer_host.proofs.Replies.{every_reply}
 use Rattle.issuer_host.specs.declared.script.ScriptKeys.{ScriptKeys}

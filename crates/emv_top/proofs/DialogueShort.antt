@@ -30,7 +30,7 @@ use Rattle.restrictions.specs.Restricted.{restricted}
 use Rattle.risk_mgmt.specs.Risky.{risky}
 use Rattle.script_run.specs.Ran.{template_ran, no_script}
 use Rattle.terminal_state.specs.Marks as mark
-use Rattle.terminal_state.specs.Marks.{Mark, moment, latest, card_of, or_earlier}
+use Rattle.terminal_state.specs.Marks.{Mark, moment, latest, card_of}
 use Rattle.terminal_state.specs.Scripts.{templates, kept}
 use Rattle.terminal_state.specs.Terminal.{Deal, terminal_objects}
 

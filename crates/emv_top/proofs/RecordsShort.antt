@@ -14,7 +14,6 @@ use Rattle.ber_tlv.specs.Walked.{Walked, Done, Broken, Met, walk_of}
 use Rattle.ber_tlv.specs.declared.item.TlvFault.{TlvFault}
 use Rattle.ber_tlv.specs.declared.tag.Tag.{Tag}
 use Rattle.ber_tlv.proofs.WalkBounds.{WalkShort, ItemsShort, walk_values_short, item_values_short}
-use Rattle.emv_dict.specs.Progress.{Progress}
 use Rattle.emv_dict.specs.Progress as progress
 use Rattle.emv_dict.specs.declared.ending.Cause.{Cause}
 use Rattle.emv_dict.specs.declared.ending.Cause.TheVariants as cause

@@ -1,9 +1,7 @@
 -- Where no tear leaves a choice, a scenario has one run.
-use Rattle.std.proofs.Common.{◌≡◌, ℕ, zero, suc, ◌⊎◌, ◌+◌, ◌≤◌, ◌<◌, ◌&&◌, Bool, true, false, List, [], ◌∷◌, ◌++◌, length, slice_get, Option, Some, None, refl, sym, ap, ◌∙◌, subst, inl, inr, arith}
+use Rattle.std.proofs.Common.{◌≡◌, ℕ, zero, suc, ◌⊎◌, ◌+◌, ◌≤◌, ◌<◌, ◌&&◌, Bool, true, false, List, [], ◌∷◌, ◌++◌, length, slice_get, Option, Some, None, refl, sym, ap, ◌∙◌, inl, inr, arith}
 use Rattle.std.specs.Prelude.{◌==◌, not, if◌then◌else◌, option_map, option_and_then}
-use Rattle.std.proofs.lemmas.Bool.{eqb-true, eq-eqb, cases_lt, cases_eq}
-use Rattle.std.proofs.lemmas.Bool.Decides.{nat_tests}
-use Rattle.std.proofs.lemmas.List.{get_or-set_other}
+use Rattle.std.proofs.lemmas.Bool.{eqb-true, eq-eqb, cases_lt}
 use Rattle.std.proofs.lemmas.Option.{same_Some}
 use Rattle.card_pages.specs.Cuts.{Cut, Dropped, Pending, commit_of, behind_one, cut_of, left_of, pending_by}
 use Rattle.card_pages.specs.Pages.{found_of}
@@ -15,23 +13,20 @@ use Rattle.emv_ports.specs.declared.tear.TearAt.TheVariants.{Before, Within, Rel
 use Rattle.kernel.specs.Reply.{Reply}
 use Rattle.report_text.specs.declared.line.Line.{Line}
 use Rattle.scenario.specs.Cards.{CardData}
-use Rattle.scenario.specs.Plan.{ScenarioData, IsScenario}
-use Rattle.txn_replay.specs.Changes.{powered, torn}
-use Rattle.txn_replay.specs.Choices.{leaves_open, leaves_choice, LeavesNone, NoneIsOpen, IsSameRun, RunIsOne}
+use Rattle.scenario.specs.Plan.{ScenarioData}
+use Rattle.txn_replay.specs.Changes.{powered}
+use Rattle.txn_replay.specs.Choices.{leaves_open, leaves_choice, LeavesNone, NoneIsOpen, RunIsOne}
 use Rattle.txn_replay.specs.Lines.{audit_power_line}
 use Rattle.txn_replay.specs.Part.{Part, Moved, powered_up, begun, begun_by, begun_with, piece_by, piece}
 use Rattle.txn_replay.specs.Payment.{Payment, next_of}
-use Rattle.txn_replay.specs.Run.{Place, Scheduled, Round, Settling, Auditing, Finished, Reached, start, scheduled, rounds, round, again, settlement, settling, audit, auditing, finished, all_over, closing, Run}
-use Rattle.txn_replay.specs.Sound.{IsSound}
-use Rattle.txn_replay.specs.Steps.{After, Check, PowersUp, Asks, Settlement, settlements, settles, checks, audits_power, audits, with_card, part_of, moved, turned_by, happens, first_of, Step}
+use Rattle.txn_replay.specs.Run.{Place, Scheduled, Round, Settling, Auditing, Finished, Reached, start, scheduled, rounds, round, again, settlement, settling, audit, auditing, finished, all_over, closing}
+use Rattle.txn_replay.specs.Steps.{After, Check, PowersUp, Asks, Settlement, settlements, settles, checks, audits, with_card, part_of, moved, turned_by, happens, first_of, Step}
 use Rattle.txn_replay.specs.World.{Holder, CardRow, World, new_card, first_world, card_at}
 use Rattle.txn_replay.specs.declared.event.Event.{Event}
 use Rattle.txn_replay.specs.declared.event.Event.TheVariants.{Turn, Settle, Audit}
 use Rattle.txn_replay.proofs.Exchanging.{Tells, piece_tells}
-use Rattle.txn_replay.proofs.Folding.{reached_keeps, event_sound}
-use Rattle.txn_replay.proofs.Lining.{card_behind}
+use Rattle.txn_replay.proofs.Folding.{reached_keeps}
 use Rattle.txn_replay.proofs.Lists.{at_set, get_or-map_const}
-use Rattle.txn_replay.proofs.Sounding.{first_sound}
 
 -- a tear of the power-up cuts no decision
 never_cut : (tear : Tear) → tear.commit ≡ 0 → (made : ℕ) (ds : List Decided) → cut_of (Some tear) made ds ≡ None

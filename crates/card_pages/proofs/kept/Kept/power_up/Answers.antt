@@ -3,7 +3,7 @@ use Rattle.std.proofs.Common.{◌≡◌, Some, None, ap, sym, subst, ◌∙◌}
 use Rattle.card_state.specs.Totals.{totals}
 use Rattle.card_state.specs.declared.state.CardState.{CardState}
 use Rattle.card_pages.specs.Pages.{MayStand, found_of}
-use Rattle.card_pages.specs.SeenKept.{KeptState, KeptOn}
+use Rattle.card_pages.specs.SeenKept.{KeptState}
 use Rattle.card_pages.proofs.PowerUps.{without, with_pending, may_between, still_may, finds, kept_on}
 use Rattle.card_pages.proofs.kept.Kept.power_up.Goals as goal
 
