@@ -107,7 +107,12 @@ fn state_found<'i, P: Pages>(chip: &mut Chip<'i, P>, tear: Option<Tear>) -> Opti
 {
     match turn_on(chip, tear) {
         Ok(()) => {
-            let state = chip.totals().apps.as_slice().first().map(|state| state.copy());
+            let state = chip
+                .totals()
+                .apps
+                .as_slice()
+                .first()
+                .map(|state| state.copy());
             turn_off(chip);
             state
         }
