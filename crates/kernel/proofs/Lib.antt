@@ -20,3 +20,4 @@ mod Growing
 mod Turning
 mod Telling
 mod Restricting
+mod Belonging

@@ -115,7 +115,7 @@ module _ {A : Type 0} (left : Step → (List (List ℕ) → Progress A) → Stan
   settle_all log replies wanted (Done value rest) wants = keeps value log replies
 
   -- what holds of each place at which a step may stand
-  card_all : (cut : Step) (course : List (List ℕ) → Progress A) (log : List Logged) (replies : List Reply) → Q (card_step left cut step marks course next log replies)
+  pub card_all : (cut : Step) (course : List (List ℕ) → Progress A) (log : List Logged) (replies : List Reply) → Q (card_step left cut step marks course next log replies)
   unfolding card_step
   card_all cut course log [] = settle_all log [] _ (course []) asks
   card_all cut course log (CardSaid answer now ∷ replies) =
@@ -124,7 +124,7 @@ module _ {A : Type 0} (left : Step → (List (List ℕ) → Progress A) → Stan
   card_all cut course log (HostSaid said ∷ replies) = settle_all log (HostSaid said ∷ replies) _ (course []) asks
   card_all cut course log (HostSilent ∷ replies) = settle_all log (HostSilent ∷ replies) _ (course []) asks
 
-host_all : (marks : List Mark) (message : List ℕ) (next : Option (List ℕ) → Rest Mark) (Q : Standing Mark → Type 0) → Q (stands marks (ToHost message))
+pub host_all : (marks : List Mark) (message : List ℕ) (next : Option (List ℕ) → Rest Mark) (Q : Standing Mark → Type 0) → Q (stands marks (ToHost message))
     → ((heard : Option (List ℕ)) (log : List Logged) (replies : List Reply) → Q (next heard log replies))
     → (log : List Logged) (replies : List Reply) → Q (host_step marks message next log replies)
 unfolding host_step

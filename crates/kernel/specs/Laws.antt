@@ -1,5 +1,6 @@
 -- What holds of every dialogue.
-use Rattle.std.specs.Prelude.{◌≡◌, ◌⊎◌, Bool, true, false, ◌&&◌, ◌||◌, not, List, [], ◌∷◌, ◌++◌, Option, Some, None, is_some, Result, Ok, Err}
+use Rattle.std.specs.Prelude.{◌≡◌, ◌⊎◌, ℕ, ◌==◌, Bool, true, false, ◌&&◌, ◌||◌, not, List, [], ◌∷◌, ◌++◌, Option, Some, None, is_some, Result, Ok, Err}
+use Rattle.std.specs.Int.{bit_at}
 use Rattle.std.specs.List.{list_any}
 use Rattle.std.specs.Str.{bytes_eq}
 use Rattle.auth_message.specs.Reply.{ReplyData, reply_of}
@@ -16,7 +17,7 @@ use Rattle.kernel.specs.Ended.{EndData, end_of}
 use Rattle.kernel.specs.Reply.{Reply, CardSaid, CardGone, HostSaid, HostSilent, Deed, ToCard, ToHost, Over}
 use Rattle.object_lists.specs.CardRead.{ReadCard}
 use Rattle.restrictions.specs.Restricted.{restricted}
-use Rattle.terminal_state.specs.Marks.{Mark, HasRead, HasRestricted, HasFirst, HasReply, WasUnable, HasSecond, latest}
+use Rattle.terminal_state.specs.Marks.{Mark, HasRead, HasRestricted, HasVerified, HasJudged, HasFirst, HasReply, WasUnable, HasAuthenticated, HasRunBefore, HasSecond, HasRunBehind, latest, moment}
 use Rattle.terminal_state.specs.Terminal.{Deal}
 
 -- what a terminal did at first, and behind each reply
@@ -165,3 +166,22 @@ IsRestricted deal marks =
 
 abbrev pub ReadingRestricts : Type 0
 ReadingRestricts = (deal : Deal) (replies : List Reply) → IsRestricted deal (dialogue deal replies).marks
+
+-- the bits that a step may set (EMV 4.3 Book 3 Annex C5), the five bytes of the terminal verification results one behind
+-- another: no offline data authentication; restrictions; verification; risk management; issuer authentication; scripts
+-- before and behind the second cryptogram
+abbrev pub own_bits : Mark → ℕ
+own_bits (HasRead card) = 0x8000000000
+own_bits (HasRestricted bits) = 0x00F0000000
+own_bits (HasVerified verified) = 0x2000FC0000
+own_bits (HasJudged judged) = 0x300800F800
+own_bits (HasAuthenticated good) = 0x0000000040
+own_bits (HasRunBefore result) = 0x0000000020
+own_bits (HasRunBehind result) = 0x0000000010
+own_bits other = 0x0000000000
+
+-- a bit that stands, at a place counted from 0 at the right, belongs to a step that is finished
+abbrev pub BitsBelong : Type 0
+BitsBelong =
+    (deal : Deal) (replies : List Reply) (place : ℕ) → bit_at (moment (dialogue deal replies).marks).tvr place ≡ 1
+    → list_any (λ mark. bit_at (own_bits mark) place == 1) (dialogue deal replies).marks ≡ true

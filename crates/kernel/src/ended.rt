@@ -1,5 +1,6 @@
 //! What a dialogue ends with (EMV 4.3 Book 4 section 6), and what is captured of it.
 ghost use Rattle.std.specs.Prelude.{◌≡◌, ℕ, List, Some, option_map};
+ghost use Rattle.auth_message.specs.Whole.{IsMessage};
 ghost use Rattle.emv_dict.specs.Settings.{IsPurchase};
 ghost use Rattle.env_map.specs.Entries.{value_of};
 ghost use Rattle.kernel.specs.Ended as spec;
@@ -34,12 +35,18 @@ impl Model for Capture {
     ghost Value = { List ℕ };
 
     ghost view = { λ c. c.message.items };
+
+    ghost use Rattle.auth_message.specs.Whole.{IsMessage};
+
+    ghost invariant = { λ c. IsMessage c.message.items };
 }
 
 impl Capture {
     /// The message that captures the payment, in place of what `out` held.
     pub fn into_message(self, out: &mut Message)
-        ensures { out.new.items ≡ self }
+        ensures bytes { out.new.items ≡ self }
+        // The host reads it.
+        ensures read { IsMessage out.new.items }
     {
         let Capture { message } = self;
         *out = message;

@@ -1,5 +1,5 @@
 //! What holds of every dialogue, whatever the card and the host say.
-ghost use Rattle.kernel.specs.Laws.{DeedsGrow, StepsStay, EndsStay, RepliesTurn, HostIsTold, CapturesFit, ReadingRestricts};
+ghost use Rattle.kernel.specs.Laws.{DeedsGrow, StepsStay, EndsStay, RepliesTurn, HostIsTold, CapturesFit, ReadingRestricts, BitsBelong};
 
 /// Further replies add commands and messages behind those that were sent.
 pub fn deeds_grow()
@@ -37,4 +37,9 @@ pub fn captures_fit()
 /// Once the card is read, the bits of the processing restrictions stand.
 pub fn reading_restricts()
     ensures { ReadingRestricts }
+{}
+
+/// A bit of the terminal verification results that stands belongs to a step that is finished.
+pub fn bits_belong()
+    ensures { BitsBelong }
 {}
