@@ -85,6 +85,7 @@ fn lane(alloc: Global, issuer: &HostKeys, count: u32, number: u32) -> Result<Lan
     Ok(Lane {
         settings,
         purchases,
+        iso: false,
     })
 }
 

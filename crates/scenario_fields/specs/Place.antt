@@ -1,5 +1,7 @@
 -- The paths of a scenario's tables, keys and items.
 use Rattle.std.specs.Prelude.{ℕ, List, [], ◌++◌, codes, decimal, Option, Some, None}
+use Rattle.scenario_fields.specs.declared.place.LaneAt.{LaneAt}
+use Rattle.scenario_fields.specs.declared.place.LaneAt.TheVariants.{Numbered, Only}
 use Rattle.scenario_fields.specs.declared.place.Place.{Place}
 use Rattle.scenario_fields.specs.declared.place.Place.TheVariants.{Top, Issuer, Account, Scripts, Card, App, Record, Lane, Aid, Purchase, Tear}
 
@@ -29,17 +31,22 @@ in_app i j key = in_card i (item_path (codes "app") j (codes "." ++ key))
 abbrev pub in_record : ℕ → ℕ → ℕ → List ℕ → List ℕ
 in_record i j k key = in_app i j (item_path (codes "record") k (codes "." ++ key))
 
-abbrev pub in_lane : ℕ → List ℕ → List ℕ
-in_lane i key = item_path (codes "lane") i (codes "." ++ key)
+-- one of the lanes, or the only one of its document, and what follows it
+abbrev pub lane_path : LaneAt → List ℕ → List ℕ
+lane_path (Numbered i) rest = item_path (codes "lane") i rest
+lane_path Only rest = codes "lane" ++ rest
 
-abbrev pub in_aid : ℕ → ℕ → List ℕ → List ℕ
-in_aid i j key = in_lane i (item_path (codes "aid") j (codes "." ++ key))
+abbrev pub in_lane : LaneAt → List ℕ → List ℕ
+in_lane at key = lane_path at (codes "." ++ key)
 
-abbrev pub in_purchase : ℕ → ℕ → List ℕ → List ℕ
-in_purchase i j key = in_lane i (item_path (codes "purchase") j (codes "." ++ key))
+abbrev pub in_aid : LaneAt → ℕ → List ℕ → List ℕ
+in_aid at j key = in_lane at (item_path (codes "aid") j (codes "." ++ key))
 
-abbrev pub in_tear : ℕ → ℕ → List ℕ → List ℕ
-in_tear i j key = in_purchase i j (codes "tear." ++ key)
+abbrev pub in_purchase : LaneAt → ℕ → List ℕ → List ℕ
+in_purchase at j key = in_lane at (item_path (codes "purchase") j (codes "." ++ key))
+
+abbrev pub in_tear : LaneAt → ℕ → List ℕ → List ℕ
+in_tear at j key = in_purchase at j (codes "tear." ++ key)
 
 -- the path of a key of a table
 abbrev pub path : Place → List ℕ → List ℕ
@@ -50,10 +57,10 @@ path (Scripts i j) key = in_scripts i j key
 path (Card i) key = in_card i key
 path (App i j) key = in_app i j key
 path (Record i j k) key = in_record i j k key
-path (Lane i) key = in_lane i key
-path (Aid i j) key = in_aid i j key
-path (Purchase i j) key = in_purchase i j key
-path (Tear i j) key = in_tear i j key
+path (Lane at) key = in_lane at key
+path (Aid at j) key = in_aid at j key
+path (Purchase at j) key = in_purchase at j key
+path (Tear at j) key = in_tear at j key
 
 -- a key, or an item of the array at it
 abbrev pub spot_key : List ℕ → Option ℕ → List ℕ

@@ -9,7 +9,7 @@ pub mod spot;
 
 pub use fault::{Path, ScenarioFault};
 pub use fields::Fields;
-pub use place::Place;
+pub use place::{LaneAt, Place};
 pub use spot::{Characters, Spot};
 
 #[cfg(test)]

@@ -3,6 +3,15 @@ ghost use Rattle.scenario_fields.specs.Place.{path, spot_key, spot_path};
 
 use std::alloc::{AllocError, Global};
 
+/// Which lane of a document it is.
+#[derive(Clone, Copy, PartialEq, Eq, Debug)]
+pub enum LaneAt {
+    /// The lane of this index among the lanes of a scenario.
+    Numbered(usize),
+    /// The one lane of a document that has no other.
+    Only,
+}
+
 /// A table of a scenario. Each number is the index, from 0, of the table among its kind in the table
 /// around it.
 #[derive(Clone, Copy, PartialEq, Eq, Debug)]
@@ -22,13 +31,13 @@ pub enum Place {
     /// A record of an application of a card.
     Record(usize, usize, usize),
     /// A lane.
-    Lane(usize),
+    Lane(LaneAt),
     /// An application identifier of a lane.
-    Aid(usize, usize),
+    Aid(LaneAt, usize),
     /// A purchase of a lane.
-    Purchase(usize, usize),
+    Purchase(LaneAt, usize),
     /// The tear of a purchase.
-    Tear(usize, usize),
+    Tear(LaneAt, usize),
 }
 
 /// The path of a key of a table.
@@ -43,10 +52,18 @@ pub fn path_text(alloc: Global, place: Place, key: &str) -> Result<String, Alloc
         Place::Card(i) => format!(in alloc; "card[{i}].{key}"),
         Place::App(i, j) => format!(in alloc; "card[{i}].app[{j}].{key}"),
         Place::Record(i, j, k) => format!(in alloc; "card[{i}].app[{j}].record[{k}].{key}"),
-        Place::Lane(i) => format!(in alloc; "lane[{i}].{key}"),
-        Place::Aid(i, j) => format!(in alloc; "lane[{i}].aid[{j}].{key}"),
-        Place::Purchase(i, j) => format!(in alloc; "lane[{i}].purchase[{j}].{key}"),
-        Place::Tear(i, j) => format!(in alloc; "lane[{i}].purchase[{j}].tear.{key}"),
+        Place::Lane(LaneAt::Numbered(i)) => format!(in alloc; "lane[{i}].{key}"),
+        Place::Lane(LaneAt::Only) => format!(in alloc; "lane.{key}"),
+        Place::Aid(LaneAt::Numbered(i), j) => format!(in alloc; "lane[{i}].aid[{j}].{key}"),
+        Place::Aid(LaneAt::Only, j) => format!(in alloc; "lane.aid[{j}].{key}"),
+        Place::Purchase(LaneAt::Numbered(i), j) => {
+            format!(in alloc; "lane[{i}].purchase[{j}].{key}")
+        }
+        Place::Purchase(LaneAt::Only, j) => format!(in alloc; "lane.purchase[{j}].{key}"),
+        Place::Tear(LaneAt::Numbered(i), j) => {
+            format!(in alloc; "lane[{i}].purchase[{j}].tear.{key}")
+        }
+        Place::Tear(LaneAt::Only, j) => format!(in alloc; "lane.purchase[{j}].tear.{key}"),
     }
 }
 

@@ -1,10 +1,10 @@
 use crate::place::{item_text, path_text};
-use crate::{Characters, Fields, Path, Place, ScenarioFault};
+use crate::{Characters, Fields, LaneAt, Path, Place, ScenarioFault};
 use std::alloc::Global;
 use std::test::Fail;
 use toml::Table;
 
-const PLACES: [(Place, &str); 11] = [
+const PLACES: [(Place, &str); 13] = [
     (Place::Top, "copies"),
     (Place::Issuer, "issuer.copies"),
     (Place::Account(1), "account[1].copies"),
@@ -12,10 +12,12 @@ const PLACES: [(Place, &str); 11] = [
     (Place::Card(63), "card[63].copies"),
     (Place::App(1, 2), "card[1].app[2].copies"),
     (Place::Record(0, 1, 3), "card[0].app[1].record[3].copies"),
-    (Place::Lane(4), "lane[4].copies"),
-    (Place::Aid(1, 0), "lane[1].aid[0].copies"),
-    (Place::Purchase(0, 9999), "lane[0].purchase[9999].copies"),
-    (Place::Tear(2, 3), "lane[2].purchase[3].tear.copies"),
+    (Place::Lane(LaneAt::Numbered(4)), "lane[4].copies"),
+    (Place::Aid(LaneAt::Numbered(1), 0), "lane[1].aid[0].copies"),
+    (Place::Purchase(LaneAt::Numbered(0), 9999), "lane[0].purchase[9999].copies"),
+    (Place::Tear(LaneAt::Numbered(2), 3), "lane[2].purchase[3].tear.copies"),
+    (Place::Lane(LaneAt::Only), "lane.copies"),
+    (Place::Aid(LaneAt::Only, 15), "lane.aid[15].copies"),
 ];
 
 #[test]

@@ -2,6 +2,7 @@
 use Rattle.std.specs.Prelude.{ℕ, ◌+◌, List, [], ◌∷◌, codes, nat_lt, Result, Ok, Err, if◌then◌else◌}
 use Rattle.scenario_fields.specs.Fault.{◌>>=◌}
 use Rattle.scenario_fields.specs.Place.{in_purchase}
+use Rattle.scenario_fields.specs.declared.place.LaneAt.TheVariants.{Numbered}
 use Rattle.scenario_fields.specs.declared.fault.ScenarioFault.{ScenarioFault}
 use Rattle.scenario_fields.specs.declared.fault.ScenarioFault.TheVariants.{UnknownName}
 use Rattle.scenario_lanes.specs.Plan.{LaneData}
@@ -12,7 +13,7 @@ abbrev pub known_in_lane : ℕ → ℕ → ℕ → List Planned → Result (Unit
 known_in_lane cards i j [] = Ok tt
 known_in_lane cards i j (p ∷ ps) =
     if nat_lt p.card cards then known_in_lane cards i (j + 1) ps
-    else Err (UnknownName (in_purchase i j (codes "card")))
+    else Err (UnknownName (in_purchase (Numbered i) j (codes "card")))
 
 -- so for the lanes from number `i` on
 abbrev pub known_from : ℕ → ℕ → List LaneData → Result (Unit {0}) ScenarioFault

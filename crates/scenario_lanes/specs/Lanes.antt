@@ -1,14 +1,19 @@
 -- The tables of a lane and of its applications.
-use Rattle.std.specs.Prelude.{ℕ, ◌+◌, List, [], ◌∷◌, length, codes, false, Result, Ok}
+use Rattle.std.specs.Prelude.{ℕ, ◌+◌, ◌-◌, Bool, List, [], ◌∷◌, length, codes, true, false, Result, Ok, Err, if◌then◌else◌}
+use Rattle.std.specs.Str.{bytes_eq}
 use Rattle.emv_dict.specs.Pan.{least_pan, most_pan}
 use Rattle.emv_dict.specs.Settings.{most_amount}
 use Rattle.emv_dict.specs.Views.{SettingsData}
 use Rattle.emv_dict.specs.declared.purchase.AidRow.{AidRow}
-use Rattle.toml.specs.Data.{Data, Items, no_items, item, Members}
+use Rattle.toml.specs.Data.{Data, Items, no_items, item, Members, get_member}
 use Rattle.scenario_fields.specs.Fault.{◌>>=◌}
-use Rattle.scenario_fields.specs.Fields.{number_at, flag_or, text_at, code_at, bytes_at, array_at, digits_list, table_item, each, only}
+use Rattle.scenario_fields.specs.Fields.{number_at, flag_or, text_at, code_at, bytes_at, array_at, digits_list, table_item, or_default, each, only}
 use Rattle.scenario_fields.specs.Place.{in_lane, in_aid}
+use Rattle.scenario_fields.specs.Value.{str_of}
+use Rattle.scenario_fields.specs.declared.place.LaneAt.{LaneAt}
+use Rattle.scenario_fields.specs.declared.place.LaneAt.TheVariants.{Numbered, Only}
 use Rattle.scenario_fields.specs.declared.fault.ScenarioFault.{ScenarioFault}
+use Rattle.scenario_fields.specs.declared.fault.ScenarioFault.TheVariants.{BadValue}
 use Rattle.scenario_fields.specs.declared.spot.Characters.TheVariants.{LetterOrDigit}
 use Rattle.scenario_lanes.specs.Plan.{LaneData}
 use Rattle.scenario_lanes.specs.Purchases.{purchases_at}
@@ -44,38 +49,61 @@ aid_of path ms = do
     max_target = max_target;
   })
 
--- application `j` of lane `i`, whose keys have these paths
-unfoldable pub aid_item : (List ℕ → List ℕ) → ℕ → ℕ → Data → Result AidRow ScenarioFault
-aid_item path i j d = table_item path (codes "aid") j d >>= aid_of (in_aid i j)
+-- application `j` of a lane, whose keys have these paths
+unfoldable pub aid_item : (List ℕ → List ℕ) → LaneAt → ℕ → Data → Result AidRow ScenarioFault
+aid_item path at j d = table_item path (codes "aid") j d >>= aid_of (in_aid at j)
 
-unfoldable pub aids_at : (List ℕ → List ℕ) → ℕ → Members → Result (List AidRow) ScenarioFault
-aids_at path i ms = array_at path (codes "aid") 1 16 ms >>= each (aid_item path i) 0
+unfoldable pub aids_at : (List ℕ → List ℕ) → LaneAt → Members → Result (List AidRow) ScenarioFault
+aids_at path at ms = array_at path (codes "aid") 1 16 ms >>= each (aid_item path at) 0
 
 unfoldable pub lane_keys : List (List ℕ)
 lane_keys =
-    codes "kind" ∷ codes "country" ∷ codes "caps" ∷ codes "id" ∷ codes "exceptions" ∷ codes "aid" ∷ codes "purchase" ∷ []
+    codes "kind" ∷ codes "country" ∷ codes "caps" ∷ codes "id" ∷ codes "exceptions" ∷ codes "aid" ∷ codes "purchase"
+    ∷ codes "dialect" ∷ []
 
--- the settings of the terminal of lane `i`, with the key for PINs
-unfoldable pub settings_of : (List ℕ → List ℕ) → ℕ → List ℕ → Members → Result SettingsData ScenarioFault
-settings_of path i pin_key ms = do
+-- the settings of a lane's terminal, with the key for PINs
+unfoldable pub settings_of : (List ℕ → List ℕ) → LaneAt → List ℕ → Members → Result SettingsData ScenarioFault
+settings_of path at pin_key ms = do
   kind ← number_at path (codes "kind") 21 26 ms
   country ← code_at path (codes "country") ms
   caps ← bytes_at path (codes "caps") 3 3 ms
   id ← text_at path (codes "id") LetterOrDigit 8 8 ms
   exceptions ← digits_list path (codes "exceptions") 100 least_pan most_pan ms
-  aids ← aids_at path i ms
+  aids ← aids_at path at ms
   Ok (record { kind = kind; country = country; caps = caps; id = id; pin_key = pin_key; exceptions = exceptions; aids = aids })
 
--- lane `i`, where the lanes before it have `earlier` purchases
-unfoldable pub lane_of : (List ℕ → List ℕ) → ℕ → ℕ → List (List ℕ) → List ℕ → Members → Result LaneData ScenarioFault
-lane_of path i earlier names pin_key ms = do
-  settings ← settings_of path i pin_key ms
-  purchases ← purchases_at path i earlier names ms
-  _ ← only path lane_keys ms
-  Ok (record { settings = settings; purchases = purchases })
+-- whether messages go in the second dialect, by its word
+unfoldable pub dialect_named : List ℕ → List ℕ → Result Bool ScenarioFault
+dialect_named path word =
+    if bytes_eq word (codes "tlv") then Ok false
+    else if bytes_eq word (codes "iso") then Ok true
+    else Err (BadValue path)
 
+-- a trace's messages are in no dialect but the first
+abbrev pub dialect_in : LaneAt → List ℕ → Data → Result Bool ScenarioFault
+dialect_in (Numbered i) path d = str_of path d >>= dialect_named path
+dialect_in Only path d = Err (BadValue path)
+
+unfoldable pub dialect_or_tlv : LaneAt → (List ℕ → List ℕ) → Members → Result Bool ScenarioFault
+dialect_or_tlv at path ms = or_default false (dialect_in at (path (codes "dialect"))) (get_member (codes "dialect") ms)
+
+-- a lane of `least` to `most` purchases
+unfoldable pub lane_of : (List ℕ → List ℕ) → LaneAt → ℕ → ℕ → List (List ℕ) → List ℕ → Members → Result LaneData ScenarioFault
+lane_of path at least most names pin_key ms = do
+  settings ← settings_of path at pin_key ms
+  purchases ← purchases_at path at least most names ms
+  iso ← dialect_or_tlv at path ms
+  _ ← only path lane_keys ms
+  Ok (record { settings = settings; purchases = purchases; iso = iso })
+
+-- lane `i`, where the lanes before it have `earlier` purchases: at most 10,000 in all lanes
 unfoldable pub lane_item : (List ℕ → List ℕ) → ℕ → ℕ → List (List ℕ) → List ℕ → Data → Result LaneData ScenarioFault
-lane_item path i earlier names pin_key d = table_item path (codes "lane") i d >>= lane_of (in_lane i) i earlier names pin_key
+lane_item path i earlier names pin_key d =
+    table_item path (codes "lane") i d >>= lane_of (in_lane (Numbered i)) (Numbered i) 0 (10000 - earlier) names pin_key
+
+-- the lane of a trace: with one purchase, whose card has a name and no index
+abbrev pub traced_lane : List ℕ → Members → Result LaneData ScenarioFault
+traced_lane pin_key ms = lane_of (in_lane Only) Only 1 1 [] pin_key ms
 
 -- the lanes from number `i` on
 abbrev pub lanes_from : (List ℕ → List ℕ) → ℕ → ℕ → List (List ℕ) → List ℕ → Items → Result (List LaneData) ScenarioFault

@@ -1,5 +1,5 @@
 -- Lanes as a contract sees them, and what they keep, on which those who run them rest.
-use Rattle.std.specs.Prelude.{ℕ, ◌≤◌, ◌<◌, IsTrue, IfSome, List, length, sum_by}
+use Rattle.std.specs.Prelude.{ℕ, Bool, ◌≤◌, ◌<◌, IsTrue, IfSome, List, length, sum_by}
 use Rattle.std.specs.List.{All}
 use Rattle.emv_dict.specs.Settings.{IsSettings, IsPurchase}
 use Rattle.emv_dict.specs.Views.{SettingsData}
@@ -9,9 +9,11 @@ use Rattle.emv_ports.specs.declared.tear.TearAt.{TearAt}
 use Rattle.emv_ports.specs.declared.tear.TearAt.TheVariants.{Before, Within, Release}
 use Rattle.scenario_lanes.specs.declared.plan.Planned.{Planned}
 
+-- a terminal and its purchases; `iso` tells that its messages go to the host in the second dialect
 pub record LaneData : Type 0 where
   pub settings : SettingsData
   pub purchases : List Planned
+  pub iso : Bool
 
 -- the number of the write at which the power is cut, or 0
 abbrev pub write_number : TearAt → ℕ

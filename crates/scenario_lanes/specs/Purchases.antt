@@ -1,5 +1,5 @@
 -- The tables of a purchase and of its tear.
-use Rattle.std.specs.Prelude.{ℕ, ◌+◌, ◌-◌, List, [], ◌∷◌, codes, true, false, Option, Some, None, Result, Ok, Err, if◌then◌else◌}
+use Rattle.std.specs.Prelude.{ℕ, ◌+◌, List, [], ◌∷◌, codes, true, false, Option, Some, None, Result, Ok, Err, if◌then◌else◌}
 use Rattle.std.specs.Int.{to_be_bytes, w32}
 use Rattle.std.specs.Str.{bytes_eq}
 use Rattle.emv_dict.specs.Settings.{most_amount}
@@ -12,6 +12,8 @@ use Rattle.scenario_fields.specs.Fault.{◌>>=◌}
 use Rattle.scenario_fields.specs.Fields.{number_at, number_or, listed_or, flag_or, str_at, text_at, code_at, six_digits_or, day_at, array_at, optional_table, table_item, digits_list, or_default, each, only}
 use Rattle.scenario_fields.specs.Place.{in_purchase, in_tear}
 use Rattle.scenario_fields.specs.Value.{str_of}
+use Rattle.scenario_fields.specs.declared.place.LaneAt.{LaneAt}
+use Rattle.scenario_fields.specs.declared.place.LaneAt.TheVariants.{Numbered, Only}
 use Rattle.scenario_fields.specs.declared.fault.ScenarioFault.{ScenarioFault}
 use Rattle.scenario_fields.specs.declared.fault.ScenarioFault.TheVariants.{BadValue}
 use Rattle.scenario_fields.specs.declared.spot.Characters.TheVariants.{LowercaseOrDigit}
@@ -47,13 +49,18 @@ tear_of path ms = do
   _ ← only path tear_keys ms
   Ok (record { commit = commit; at = moment })
 
-abbrev pub tear_if : ℕ → ℕ → Option Members → Result (Option Tear) ScenarioFault
-tear_if i j None = Ok None
-tear_if i j (Some ms) = tear_of (in_tear i j) ms >>= (λ tear. Ok (Some tear))
+-- a trace's card is no image whose power could be cut
+abbrev pub tear_in : (List ℕ → List ℕ) → LaneAt → ℕ → Members → Result Tear ScenarioFault
+tear_in path (Numbered i) j ms = tear_of (in_tear (Numbered i) j) ms
+tear_in path Only j ms = Err (BadValue (path (codes "tear")))
 
--- the tear of purchase `j` of lane `i`, whose keys have these paths
-unfoldable pub tear_at : (List ℕ → List ℕ) → ℕ → ℕ → Members → Result (Option Tear) ScenarioFault
-tear_at path i j ms = optional_table path (codes "tear") ms >>= tear_if i j
+abbrev pub tear_if : (List ℕ → List ℕ) → LaneAt → ℕ → Option Members → Result (Option Tear) ScenarioFault
+tear_if path at j None = Ok None
+tear_if path at j (Some ms) = tear_in path at j ms >>= (λ tear. Ok (Some tear))
+
+-- the tear of purchase `j` of a lane, whose keys have these paths
+unfoldable pub tear_at : (List ℕ → List ℕ) → LaneAt → ℕ → Members → Result (Option Tear) ScenarioFault
+tear_at path at j ms = optional_table path (codes "tear") ms >>= tear_if path at j
 
 -- what becomes of the message to the host, by its word
 unfoldable pub link_named : List ℕ → List ℕ → Result Link ScenarioFault
@@ -67,8 +74,13 @@ link_named path word =
 unfoldable pub link_of : List ℕ → Data → Result Link ScenarioFault
 link_of path d = str_of path d >>= link_named path
 
-unfoldable pub link_or_sound : (List ℕ → List ℕ) → Members → Result Link ScenarioFault
-link_or_sound path ms = or_default Sound (link_of (path (codes "link"))) (get_member (codes "link") ms)
+-- a trace's replies came from a host of its own
+abbrev pub link_in : LaneAt → List ℕ → Data → Result Link ScenarioFault
+link_in (Numbered i) path d = link_of path d
+link_in Only path d = Err (BadValue path)
+
+unfoldable pub link_or_sound : LaneAt → (List ℕ → List ℕ) → Members → Result Link ScenarioFault
+link_or_sound at path ms = or_default Sound (link_in at (path (codes "link"))) (get_member (codes "link") ms)
 
 -- The index of the first card of this name. A card that isn't there is no fault before the whole document
 -- is walked: until then the number of cards stands for it, as 255 does for a number that is no lane.
@@ -117,21 +129,21 @@ planned_keys =
     codes "card" ∷ codes "amount" ∷ codes "other" ∷ codes "currency" ∷ codes "trade" ∷ codes "services" ∷ codes "date" ∷ codes "time"
     ∷ codes "number" ∷ codes "word" ∷ codes "pins" ∷ codes "forced" ∷ codes "confirm" ∷ codes "link" ∷ codes "tear" ∷ []
 
--- purchase `j` of lane `i`, with the names of the cards
-unfoldable pub planned_of : (List ℕ → List ℕ) → ℕ → ℕ → List (List ℕ) → Members → Result Planned ScenarioFault
-planned_of path i j names ms = do
+-- purchase `j` of a lane, with the names of the cards
+unfoldable pub planned_of : (List ℕ → List ℕ) → LaneAt → ℕ → List (List ℕ) → Members → Result Planned ScenarioFault
+planned_of path at j names ms = do
   card ← card_at path names ms
   purchase ← purchase_of path ms
-  link ← link_or_sound path ms
-  tear ← tear_at path i j ms
+  link ← link_or_sound at path ms
+  tear ← tear_at path at j ms
   _ ← only path planned_keys ms
   Ok (record { purchase = purchase; card = card; link = link; tear = tear })
 
-unfoldable pub planned_item : (List ℕ → List ℕ) → ℕ → List (List ℕ) → ℕ → Data → Result Planned ScenarioFault
-planned_item path i names j d = table_item path (codes "purchase") j d >>= planned_of (in_purchase i j) i j names
+unfoldable pub planned_item : (List ℕ → List ℕ) → LaneAt → List (List ℕ) → ℕ → Data → Result Planned ScenarioFault
+planned_item path at names j d = table_item path (codes "purchase") j d >>= planned_of (in_purchase at j) at j names
 
--- the purchases of lane `i`, where the lanes before it have `earlier`: at most 10,000 in all lanes
-unfoldable pub purchases_at : (List ℕ → List ℕ) → ℕ → ℕ → List (List ℕ) → Members → Result (List Planned) ScenarioFault
-purchases_at path i earlier names ms = do
-  items ← array_at path (codes "purchase") 0 (10000 - earlier) ms
-  each (planned_item path i names) 0 items
+-- `least` to `most` purchases of a lane
+unfoldable pub purchases_at : (List ℕ → List ℕ) → LaneAt → ℕ → ℕ → List (List ℕ) → Members → Result (List Planned) ScenarioFault
+purchases_at path at least most names ms = do
+  items ← array_at path (codes "purchase") least most ms
+  each (planned_item path at names) 0 items

@@ -4,20 +4,21 @@ ghost use Rattle.std.specs.List.{All};
 ghost use Rattle.scenario_fields.specs.Fault.{Gives, Tells};
 ghost use Rattle.scenario_fields.specs.Place.{in_purchase};
 ghost use Rattle.scenario_fields.specs.declared.fault.ScenarioFault.TheVariants.{UnknownName};
+ghost use Rattle.scenario_fields.specs.declared.place.LaneAt.TheVariants.{Numbered};
 ghost use Rattle.scenario_lanes.specs.Cards.{known_in_lane, known_from};
 ghost use Rattle.scenario_lanes.specs.Plan.{HasCards};
 
 use crate::plan::{Lane, Planned};
-use scenario_fields::{Place, ScenarioFault, Spot};
+use scenario_fields::{LaneAt, Place, ScenarioFault, Spot};
 use std::alloc::Global;
 
 /// The fault of a purchase whose card is none.
 fn unknown_card(alloc: Global, lane: usize, purchase: usize) -> ScenarioFault
-    ensures { Tells result (UnknownName (in_purchase lane purchase (codes "card"))) }
+    ensures { Tells result (UnknownName (in_purchase (Numbered lane) purchase (codes "card"))) }
 {
     let spot = Spot {
         alloc,
-        place: Place::Purchase(lane, purchase),
+        place: Place::Purchase(LaneAt::Numbered(lane), purchase),
         key: "card",
         index: None,
     };

@@ -5,15 +5,19 @@ ghost use Rattle.emv_dict.specs.Settings.{IsAidRow, IsSettings};
 ghost use Rattle.toml.specs.View.{view, table_view, items_view};
 ghost use Rattle.scenario_fields.specs.Fault.{Gives};
 ghost use Rattle.scenario_fields.specs.Fields.{only, each};
-ghost use Rattle.scenario_fields.specs.Place.{path};
-ghost use Rattle.scenario_lanes.specs.Lanes.{aid_keys, aid_of, aid_item, aids_at, lane_keys, settings_of, lane_of, lane_item, lanes_from, lanes_at};
+ghost use Rattle.scenario_fields.specs.Place.{path, spot_path};
+ghost use Rattle.scenario_lanes.specs.Lanes.{aid_keys, aid_of, aid_item, aids_at, lane_keys, settings_of, dialect_named, dialect_in, dialect_or_tlv, lane_of, traced_lane, lane_item, lanes_from, lanes_at};
 ghost use Rattle.scenario_lanes.specs.Plan.{IsLane, purchase_count};
 
 use crate::plan::Lane;
 use crate::purchase::purchases_at;
 use emv_dict::{AidRow, LEAST_PAN, MOST_AMOUNT, MOST_PAN, Name, Settings};
-use scenario_fields::{Characters, Fields, Place, ScenarioFault};
-use toml::Value;
+use scenario_fields::{Characters, Fields, LaneAt, Place, ScenarioFault, Spot};
+use std::alloc::Global;
+use toml::{Table, Value};
+
+/// All lanes together have at most so many purchases.
+const MOST_PURCHASES: usize = 10_000;
 
 #[tactic(auto, unfolding(crate::specs::Lanes::aid_keys))]
 fn only_aid_keys(fields: &Fields) -> Result<(), ScenarioFault>
@@ -68,7 +72,7 @@ fn read_aid(fields: &Fields) -> Result<AidRow, ScenarioFault>
 #[tactic(auto, unfolding(crate::specs::Lanes::aid_item))]
 fn aid_item(
     fields: &Fields,
-    lane: usize,
+    lane: LaneAt,
     index: usize,
     value: &Value,
 ) -> Result<AidRow, ScenarioFault>
@@ -79,7 +83,7 @@ fn aid_item(
 }
 
 /// Each application of a lane.
-fn read_aids(fields: &Fields, lane: usize, values: &[Value]) -> Result<Vec<AidRow>, ScenarioFault>
+fn read_aids(fields: &Fields, lane: LaneAt, values: &[Value]) -> Result<Vec<AidRow>, ScenarioFault>
     ensures exact { Gives (λ rows. rows.items) result (each (aid_item (path fields.now.place) lane) 0 (items_view values.now)) }
     ensures count { IfOk result (λ rows. vec_len rows ≡ length values.now) }
     ensures rules { IfOk result (λ rows. All IsAidRow rows.items) }
@@ -93,7 +97,7 @@ fn read_aids(fields: &Fields, lane: usize, values: &[Value]) -> Result<Vec<AidRo
 
 /// The applications of a lane.
 #[tactic(auto, unfolding(crate::specs::Lanes::aids_at))]
-fn aids_at(fields: &Fields, lane: usize) -> Result<Vec<AidRow>, ScenarioFault>
+fn aids_at(fields: &Fields, lane: LaneAt) -> Result<Vec<AidRow>, ScenarioFault>
     ensures exact { Gives (λ rows. rows.items) result (aids_at (path fields.now.place) lane (table_view fields.now.table.now)) }
     ensures some { IfOk result (λ rows. 1 ≤ vec_len rows) }
     ensures few { IfOk result (λ rows. vec_len rows ≤ 16) }
@@ -114,12 +118,17 @@ fn only_lane_keys(fields: &Fields) -> Result<(), ScenarioFault>
         "exceptions",
         "aid",
         "purchase",
+        "dialect",
     ])
 }
 
 /// The settings of a lane's terminal.
 #[tactic(auto, unfolding(crate::specs::Lanes::settings_of))]
-fn read_settings(fields: &Fields, lane: usize, pin_key: [u8; 16]) -> Result<Settings, ScenarioFault>
+fn read_settings(
+    fields: &Fields,
+    lane: LaneAt,
+    pin_key: [u8; 16],
+) -> Result<Settings, ScenarioFault>
     ensures exact { Gives (λ settings. settings) result (settings_of (path fields.now.place) lane pin_key (table_view fields.now.table.now)) }
     ensures rules { IfOk result IsSettings }
     ensures pin { IfOk result (λ settings. settings.pin_key ≡ pin_key) }
@@ -141,28 +150,85 @@ fn read_settings(fields: &Fields, lane: usize, pin_key: [u8; 16]) -> Result<Sett
     })
 }
 
-/// A lane, where the lanes before it have `earlier` purchases.
+/// Whether messages go in the form of ISO 8583, by the word for a dialect.
+#[tactic(auto, unfolding(crate::specs::Lanes::dialect_named))]
+fn dialect_named(spot: &Spot, word: &str) -> Result<bool, ScenarioFault>
+    ensures { Gives (λ iso. iso) result (dialect_named (spot_path spot.now.place spot.now.key.now spot.now.index) word.now) }
+{
+    if word == "tlv" {
+        Ok(false)
+    } else if word == "iso" {
+        Ok(true)
+    } else {
+        Err(spot.bad())
+    }
+}
+
+/// Whether messages go in the form of ISO 8583, by the value for a dialect. The messages of a trace
+/// don't.
+fn dialect_in(spot: &Spot, lane: LaneAt, value: &Value) -> Result<bool, ScenarioFault>
+    ensures { Gives (λ iso. iso) result (dialect_in lane (spot_path spot.now.place spot.now.key.now spot.now.index) (view value.now)) }
+{
+    match lane {
+        LaneAt::Numbered(_) => dialect_named(spot, spot.str_of(value)?),
+        LaneAt::Only => Err(spot.bad()),
+    }
+}
+
+/// Whether the messages of a lane go in the form of ISO 8583.
+#[tactic(auto, unfolding(crate::specs::Lanes::dialect_or_tlv))]
+fn dialect_or_tlv(fields: &Fields, lane: LaneAt) -> Result<bool, ScenarioFault>
+    ensures { Gives (λ iso. iso) result (dialect_or_tlv lane (path fields.now.place) (table_view fields.now.table.now)) }
+{
+    match fields.optional("dialect") {
+        Some(value) => dialect_in(&fields.spot("dialect"), lane, value),
+        None => Ok(false),
+    }
+}
+
+/// A lane of `least` to `most` purchases.
 #[tactic(auto, unfolding(crate::specs::Lanes::lane_of))]
-fn read_lane(
+fn lane_with(
     fields: &Fields,
-    lane: usize,
-    earlier: usize,
+    lane: LaneAt,
+    least: usize,
+    most: usize,
     cards: &[&[u8]],
     pin_key: [u8; 16],
 ) -> Result<Lane, ScenarioFault>
-    requires { earlier ≤ 10000 }
-    ensures exact { Gives (λ lane. lane) result (lane_of (path fields.now.place) lane earlier (map (λ name. name.now) cards.now) pin_key (table_view fields.now.table.now)) }
-    ensures count { IfOk result (λ lane. earlier + length lane.purchases ≤ 10000) }
+    ensures exact { Gives (λ lane. lane) result (lane_of (path fields.now.place) lane least most (map (λ name. name.now) cards.now) pin_key (table_view fields.now.table.now)) }
+    ensures some { IfOk result (λ lane. least ≤ length lane.purchases) }
+    ensures few { IfOk result (λ lane. length lane.purchases ≤ most) }
     ensures rules { IfOk result IsLane }
     ensures pin { IfOk result (λ lane. lane.settings.pin_key ≡ pin_key) }
 {
     let settings = read_settings(fields, lane, pin_key)?;
-    let purchases = purchases_at(fields, lane, earlier, cards)?;
+    let purchases = purchases_at(fields, lane, least, most, cards)?;
+    let iso = dialect_or_tlv(fields, lane)?;
     only_lane_keys(fields)?;
     Ok(Lane {
         settings,
         purchases,
+        iso,
     })
+}
+
+/// The lane of a captured trace, from the table at the key `lane`, the only one of its document: with
+/// one purchase, whose card has a name that no card is looked up by, so that its index is 0. `pin_key` is
+/// the key under which the terminal sends PINs to the issuer. A `link`, a `tear` or a `dialect`, which
+/// would act on the host's side, the card or the messages, is a `BadValue` where it stands.
+pub fn read_lane(alloc: Global, table: &Table, pin_key: [u8; 16]) -> Result<Lane, ScenarioFault>
+    ensures exact { Gives (λ lane. lane) result (traced_lane pin_key (table_view table.now)) }
+    ensures one { IfOk result (λ lane. length lane.purchases ≡ 1) }
+    ensures rules { IfOk result IsLane }
+    ensures pin { IfOk result (λ lane. lane.settings.pin_key ≡ pin_key) }
+{
+    let fields = Fields {
+        alloc,
+        place: Place::Lane(LaneAt::Only),
+        table,
+    };
+    lane_with(&fields, LaneAt::Only, 1, 1, &[], pin_key)
 }
 
 /// A lane among those of the document.
@@ -181,8 +247,9 @@ fn lane_item(
     ensures rules { IfOk result IsLane }
     ensures pin { IfOk result (λ lane. lane.settings.pin_key ≡ pin_key) }
 {
-    let fields = document.element("lane", lane, Place::Lane(lane), value)?;
-    read_lane(&fields, lane, earlier, cards, pin_key)
+    let at = LaneAt::Numbered(lane);
+    let fields = document.element("lane", lane, Place::Lane(at), value)?;
+    lane_with(&fields, at, 0, MOST_PURCHASES - earlier, cards, pin_key)
 }
 
 /// Each lane of the document.

@@ -32,6 +32,8 @@ pub struct Planned {
 pub struct Lane {
     pub settings: Settings,
     pub purchases: Vec<Planned>,
+    /// Whether its messages to the issuer's host go in the form of ISO 8583.
+    pub iso: bool,
 }
 
 impl Model for Lane {
@@ -39,5 +41,5 @@ impl Model for Lane {
 
     ghost Value = { LaneData };
 
-    ghost view = { λ lane. record { settings = lane.settings; purchases = lane.purchases.items } };
+    ghost view = { λ lane. record { settings = lane.settings; purchases = lane.purchases.items; iso = lane.iso } };
 }

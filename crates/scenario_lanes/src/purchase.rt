@@ -1,5 +1,5 @@
 //! The table of a purchase.
-ghost use Rattle.std.specs.Prelude.{◌≡◌, ◌≤◌, ◌+◌, ◌==◌, ◌||◌, [], ◌∷◌, length, map, IfOk, IsTrue, vec_len, codes};
+ghost use Rattle.std.specs.Prelude.{◌≡◌, ◌≤◌, ◌==◌, ◌||◌, [], ◌∷◌, length, map, IfOk, IsTrue, vec_len, codes};
 ghost use Rattle.std.specs.List.{All};
 ghost use Rattle.emv_dict.specs.Settings.{IsPurchase};
 ghost use Rattle.toml.specs.View.{view, table_view, items_view};
@@ -7,16 +7,13 @@ ghost use Rattle.scenario_fields.specs.Fault.{Gives};
 ghost use Rattle.scenario_fields.specs.Fields.{listed_or, only, each};
 ghost use Rattle.scenario_fields.specs.Place.{path, spot_path};
 ghost use Rattle.scenario_lanes.specs.Plan.{IsPlanned};
-ghost use Rattle.scenario_lanes.specs.Purchases.{link_named, link_of, link_or_sound, place_of, card_at, purchase_of, planned_keys, planned_of, planned_item, purchases_at};
+ghost use Rattle.scenario_lanes.specs.Purchases.{link_named, link_of, link_in, link_or_sound, place_of, card_at, purchase_of, planned_keys, planned_of, planned_item, purchases_at};
 
 use crate::plan::{Link, Planned};
 use crate::tear::tear_at;
 use emv_dict::{MOST_AMOUNT, Purchase};
-use scenario_fields::{Characters, Fields, Place, ScenarioFault, Spot};
+use scenario_fields::{Characters, Fields, LaneAt, Place, ScenarioFault, Spot};
 use toml::Value;
-
-/// All lanes together have at most so many purchases.
-pub const MOST_PURCHASES: usize = 10_000;
 
 /// What becomes of a message, by the word for it.
 #[tactic(auto, unfolding(crate::specs::Purchases::link_named))]
@@ -44,13 +41,23 @@ fn link_of(spot: &Spot, value: &Value) -> Result<Link, ScenarioFault>
     link_named(spot, spot.str_of(value)?)
 }
 
+/// What becomes of a message, by the value for it. The replies of a trace came from a host of its own.
+fn link_in(spot: &Spot, lane: LaneAt, value: &Value) -> Result<Link, ScenarioFault>
+    ensures { Gives (λ link. link) result (link_in lane (spot_path spot.now.place spot.now.key.now spot.now.index) (view value.now)) }
+{
+    match lane {
+        LaneAt::Numbered(_) => link_of(spot, value),
+        LaneAt::Only => Err(spot.bad()),
+    }
+}
+
 /// What becomes of a purchase's message to the host.
 #[tactic(auto, unfolding(crate::specs::Purchases::link_or_sound))]
-fn link_or_sound(fields: &Fields) -> Result<Link, ScenarioFault>
-    ensures { Gives (λ link. link) result (link_or_sound (path fields.now.place) (table_view fields.now.table.now)) }
+fn link_or_sound(fields: &Fields, lane: LaneAt) -> Result<Link, ScenarioFault>
+    ensures { Gives (λ link. link) result (link_or_sound lane (path fields.now.place) (table_view fields.now.table.now)) }
 {
     match fields.optional("link") {
-        Some(value) => link_of(&fields.spot("link"), value),
+        Some(value) => link_in(&fields.spot("link"), lane, value),
         None => Ok(Link::Sound),
     }
 }
@@ -139,7 +146,7 @@ fn only_planned_keys(fields: &Fields) -> Result<(), ScenarioFault>
 #[tactic(auto, unfolding(crate::specs::Purchases::planned_of))]
 fn read_planned(
     fields: &Fields,
-    lane: usize,
+    lane: LaneAt,
     index: usize,
     cards: &[&[u8]],
 ) -> Result<Planned, ScenarioFault>
@@ -148,7 +155,7 @@ fn read_planned(
 {
     let card = card_at(fields, cards)?;
     let purchase = read_purchase(fields)?;
-    let link = link_or_sound(fields)?;
+    let link = link_or_sound(fields, lane)?;
     let tear = tear_at(fields, lane, index)?;
     only_planned_keys(fields)?;
     Ok(Planned {
@@ -163,7 +170,7 @@ fn read_planned(
 #[tactic(auto, unfolding(crate::specs::Purchases::planned_item))]
 fn planned_item(
     fields: &Fields,
-    lane: usize,
+    lane: LaneAt,
     index: usize,
     cards: &[&[u8]],
     value: &Value,
@@ -178,7 +185,7 @@ fn planned_item(
 /// Each purchase of a lane.
 fn read_purchases(
     fields: &Fields,
-    lane: usize,
+    lane: LaneAt,
     cards: &[&[u8]],
     values: &[Value],
 ) -> Result<Vec<Planned>, ScenarioFault>
@@ -193,19 +200,20 @@ fn read_purchases(
     Ok(purchases)
 }
 
-/// The purchases of a lane, where the lanes before it have `earlier` of them.
+/// The purchases of a lane, `least` to `most` of them.
 #[tactic(auto, unfolding(crate::specs::Purchases::purchases_at))]
 pub fn purchases_at(
     fields: &Fields,
-    lane: usize,
-    earlier: usize,
+    lane: LaneAt,
+    least: usize,
+    most: usize,
     cards: &[&[u8]],
 ) -> Result<Vec<Planned>, ScenarioFault>
-    requires { earlier ≤ 10000 }
-    ensures exact { Gives (λ ps. ps.items) result (purchases_at (path fields.now.place) lane earlier (map (λ card. card.now) cards.now) (table_view fields.now.table.now)) }
-    ensures count { IfOk result (λ ps. earlier + vec_len ps ≤ 10000) }
+    ensures exact { Gives (λ ps. ps.items) result (purchases_at (path fields.now.place) lane least most (map (λ card. card.now) cards.now) (table_view fields.now.table.now)) }
+    ensures some { IfOk result (λ ps. least ≤ vec_len ps) }
+    ensures few { IfOk result (λ ps. vec_len ps ≤ most) }
     ensures rules { IfOk result (λ ps. All IsPlanned ps.items) }
 {
-    let values = fields.array("purchase", 0, MOST_PURCHASES - earlier)?;
+    let values = fields.array("purchase", least, most)?;
     read_purchases(fields, lane, cards, values)
 }

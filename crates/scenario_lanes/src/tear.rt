@@ -7,10 +7,11 @@ ghost use Rattle.scenario_fields.specs.Fault.{Gives};
 ghost use Rattle.scenario_fields.specs.Fields.{only};
 ghost use Rattle.scenario_fields.specs.Place.{path};
 ghost use Rattle.scenario_lanes.specs.Plan.{IsEarly, write_number};
-ghost use Rattle.scenario_lanes.specs.Purchases.{without_write, moment_of, tear_keys, tear_of, tear_at};
+ghost use Rattle.scenario_lanes.specs.Purchases.{without_write, moment_of, tear_keys, tear_of, tear_in, tear_at};
+ghost use Rattle.scenario_fields.specs.declared.place.Place.TheVariants.{Tear};
 
 use emv_ports::{Tear, TearAt};
-use scenario_fields::{Fields, Place, ScenarioFault};
+use scenario_fields::{Fields, LaneAt, Place, ScenarioFault};
 
 /// A cut at the release, beside which no write may stand.
 fn without_write(fields: &Fields) -> Result<TearAt, ScenarioFault>
@@ -62,15 +63,33 @@ fn read_tear(fields: &Fields) -> Result<Tear, ScenarioFault>
     Ok(Tear { commit, at })
 }
 
+/// The tear of a purchase. The card of a trace has none.
+fn tear_in(
+    fields: &Fields,
+    lane: LaneAt,
+    index: usize,
+    tear: &Fields,
+) -> Result<Tear, ScenarioFault>
+    requires { tear.now.place ≡ Tear lane index }
+    ensures exact { Gives (λ tear. tear) result (tear_in (path fields.now.place) lane index (table_view tear.now.table.now)) }
+    ensures plan { IfOk result (λ tear. IsTrue (is_place tear.at)) }
+    ensures early { IfOk result IsEarly }
+{
+    match lane {
+        LaneAt::Numbered(_) => read_tear(tear),
+        LaneAt::Only => Err(fields.spot("tear").bad()),
+    }
+}
+
 /// The tear of a purchase, where it has one.
 #[tactic(auto, unfolding(crate::specs::Purchases::tear_at))]
-pub fn tear_at(fields: &Fields, lane: usize, index: usize) -> Result<Option<Tear>, ScenarioFault>
+pub fn tear_at(fields: &Fields, lane: LaneAt, index: usize) -> Result<Option<Tear>, ScenarioFault>
     ensures exact { Gives (λ tear. tear) result (tear_at (path fields.now.place) lane index (table_view fields.now.table.now)) }
     ensures plan { IfOk result (λ tear. IsTrue (is_plan tear)) }
     ensures early { IfOk result (λ tear. IfSome tear IsEarly) }
 {
     match fields.optional_inner("tear", Place::Tear(lane, index))? {
-        Some(tear) => Ok(Some(read_tear(&tear)?)),
+        Some(tear) => Ok(Some(tear_in(fields, lane, index, &tear)?)),
         None => Ok(None),
     }
 }
