@@ -1,5 +1,5 @@
 ghost use Rattle.std.specs.Prelude.{◌≡◌, IfOk, string_bytes};
-ghost use Rattle.scenario_fields.specs.Place.{path, spot_key, spot_path};
+ghost use Rattle.scenario_fields.specs.Place.{in_purchase, in_tear, path, spot_key, spot_path};
 
 use std::alloc::{AllocError, Global};
 
@@ -56,14 +56,28 @@ pub fn path_text(alloc: Global, place: Place, key: &str) -> Result<String, Alloc
         Place::Lane(LaneAt::Only) => format!(in alloc; "lane.{key}"),
         Place::Aid(LaneAt::Numbered(i), j) => format!(in alloc; "lane[{i}].aid[{j}].{key}"),
         Place::Aid(LaneAt::Only, j) => format!(in alloc; "lane.aid[{j}].{key}"),
-        Place::Purchase(LaneAt::Numbered(i), j) => {
-            format!(in alloc; "lane[{i}].purchase[{j}].{key}")
-        }
-        Place::Purchase(LaneAt::Only, j) => format!(in alloc; "lane.purchase[{j}].{key}"),
-        Place::Tear(LaneAt::Numbered(i), j) => {
-            format!(in alloc; "lane[{i}].purchase[{j}].tear.{key}")
-        }
-        Place::Tear(LaneAt::Only, j) => format!(in alloc; "lane.purchase[{j}].tear.{key}"),
+        Place::Purchase(lane, j) => purchase_text(alloc, lane, j, key),
+        Place::Tear(lane, j) => tear_text(alloc, lane, j, key),
+    }
+}
+
+/// The path of a key of a purchase.
+fn purchase_text(alloc: Global, lane: LaneAt, j: usize, key: &str) -> Result<String, AllocError>
+    ensures { IfOk result (λ t. string_bytes t ≡ in_purchase lane j key.now) }
+{
+    match lane {
+        LaneAt::Numbered(i) => format!(in alloc; "lane[{i}].purchase[{j}].{key}"),
+        LaneAt::Only => format!(in alloc; "lane.purchase[{j}].{key}"),
+    }
+}
+
+/// The path of a key of a purchase's tear.
+fn tear_text(alloc: Global, lane: LaneAt, j: usize, key: &str) -> Result<String, AllocError>
+    ensures { IfOk result (λ t. string_bytes t ≡ in_tear lane j key.now) }
+{
+    match lane {
+        LaneAt::Numbered(i) => format!(in alloc; "lane[{i}].purchase[{j}].tear.{key}"),
+        LaneAt::Only => format!(in alloc; "lane.purchase[{j}].tear.{key}"),
     }
 }
 

@@ -14,8 +14,14 @@ const PLACES: [(Place, &str); 13] = [
     (Place::Record(0, 1, 3), "card[0].app[1].record[3].copies"),
     (Place::Lane(LaneAt::Numbered(4)), "lane[4].copies"),
     (Place::Aid(LaneAt::Numbered(1), 0), "lane[1].aid[0].copies"),
-    (Place::Purchase(LaneAt::Numbered(0), 9999), "lane[0].purchase[9999].copies"),
-    (Place::Tear(LaneAt::Numbered(2), 3), "lane[2].purchase[3].tear.copies"),
+    (
+        Place::Purchase(LaneAt::Numbered(0), 9999),
+        "lane[0].purchase[9999].copies",
+    ),
+    (
+        Place::Tear(LaneAt::Numbered(2), 3),
+        "lane[2].purchase[3].tear.copies",
+    ),
     (Place::Lane(LaneAt::Only), "lane.copies"),
     (Place::Aid(LaneAt::Only, 15), "lane.aid[15].copies"),
 ];
