@@ -8,7 +8,7 @@ ghost use Rattle.scenario_fields.specs.Fields.{only};
 ghost use Rattle.scenario_fields.specs.Place.{path};
 ghost use Rattle.scenario_lanes.specs.Plan.{IsEarly, write_number};
 ghost use Rattle.scenario_lanes.specs.Purchases.{without_write, moment_of, tear_keys, tear_of, tear_in, tear_at};
-ghost use Rattle.scenario_fields.specs.declared.place.Place.TheVariants.{Tear};
+ghost use Rattle.scenario_fields.specs.declared.place.Place.TheVariants as places;
 
 use emv_ports::{Tear, TearAt};
 use scenario_fields::{Fields, LaneAt, Place, ScenarioFault};
@@ -70,7 +70,7 @@ fn tear_in(
     index: usize,
     tear: &Fields,
 ) -> Result<Tear, ScenarioFault>
-    requires { tear.now.place ≡ Tear lane index }
+    requires { tear.now.place ≡ places.Tear lane index }
     ensures exact { Gives (λ tear. tear) result (tear_in (path fields.now.place) lane index (table_view tear.now.table.now)) }
     ensures plan { IfOk result (λ tear. IsTrue (is_place tear.at)) }
     ensures early { IfOk result IsEarly }
