@@ -7,7 +7,7 @@ use Rattle.kernel.specs.Course.{Standing}
 use Rattle.kernel.specs.Dialogue.{dialogue}
 use Rattle.kernel.specs.Fits.{OpeningFits}
 use Rattle.kernel.specs.Reply.{Reply, Deed, ToCard, ToHost, Over}
-use Rattle.kernel.specs.Stages.{OpeningStands, TradingStands, HasRoom, scripts_left}
+use Rattle.kernel.specs.Stages.{OpeningStands, TradingStands, HasRoom, HasMessage, scripts_left}
 use Rattle.kernel.specs.declared.kernel.Next.{Next}
 use Rattle.kernel.specs.declared.kernel.Next.TheVariants as next
 use Rattle.kernel.specs.declared.stage.AtTrading.{AtTrading}
@@ -89,6 +89,7 @@ pub record TradingFits (t : Table) (held : Option ReadCard) (at : AtTrading) : T
   pub row : IsAidRow at.row.now
   pub card : IsSome held
   pub room : HasRoom t (scripts_left t.reply.scripts at.trading)
+  pub asked : HasMessage t at.trading
 
 abbrev pub StageFits : Table → Entries → Option ReadCard → Stage → Type 0
 StageFits t objects held (stage.Opening s) = OpeningFits t objects s × (held ≡ None)

@@ -1,6 +1,7 @@
 -- What is left of a dialogue at each of its stages.
 use Rattle.std.specs.Prelude.{◌≡◌, ⊤, ℕ, ◌+◌, ◌-◌, ◌≤◌, Bool, true, false, if◌then◌else◌, List, [], ◌∷◌, length, drop, Some, None}
 use Rattle.app_select.specs.Leading.{rest_with}
+use Rattle.auth_message.specs.Whole.{IsMessage}
 use Rattle.cvm_list.specs.Waiting.{rest_of as verifying_rest}
 use Rattle.emv_dict.specs.Progress.{Progress, Wants}
 use Rattle.emv_dict.specs.Views.{AcData}
@@ -134,6 +135,11 @@ scripts_left scripts (trading.ScriptBefore s) = 1 + (length (templates 0x71 scri
 scripts_left scripts (trading.Second s) = length (behind_if s.online scripts)
 scripts_left scripts (trading.ScriptBehind s ending) = 1 + (length (templates 0x72 scripts) - s.next)
 scripts_left scripts (trading.Over ending) = 0
+
+-- a message that is asked of the host is one that it reads
+abbrev pub HasMessage : Table → Trading → Type 0
+HasMessage t trading.Online = IsMessage t.message.items
+HasMessage t other = ⊤
 
 -- there is room for so many results more
 abbrev pub HasRoom : Table → ℕ → Type 0

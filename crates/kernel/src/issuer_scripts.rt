@@ -8,7 +8,7 @@ ghost use Rattle.kernel.specs.Course.{Standing, card_step, cut_off};
 ghost use Rattle.kernel.specs.Dialogue.{Trade, scripts_before, scripts_behind, left_script, all_failed, kind_for as kind_of_code};
 ghost use Rattle.kernel.specs.Rank.{trading_rank, bytes_in};
 ghost use Rattle.kernel.specs.Reply.{Reply, CardSaid, CardGone};
-ghost use Rattle.kernel.specs.Stages.{TradingStands, Begins, HasRoom, scripts_left};
+ghost use Rattle.kernel.specs.Stages.{TradingStands, Begins, HasRoom, scripts_left, HasMessage};
 ghost use Rattle.kernel.specs.Trades.{trade_of};
 ghost use Rattle.kernel.specs.declared.stage.Trading.TheVariants as stage;
 ghost use Rattle.script_run.specs.Leading.{RunNextLeads, left_next};
@@ -70,6 +70,7 @@ pub(crate) fn run_before<'s>(
     ensures same { deal_of table.new ≡ deal_of table.old }
     ensures few { trading_rank table.new.reply.scripts result ≤ 1 + (bytes_in (drop index (templates 0x71 table.old.reply.scripts)) + bytes_in (templates 0x72 table.old.reply.scripts)) }
     ensures room { HasRoom table.new (scripts_left table.new.reply.scripts result) }
+    ensures asked { HasMessage table.new result }
 {
     match template_of(&table.reply, BEFORE, index) {
         Some(template) => {
@@ -104,6 +105,7 @@ fn before_next<'s>(
     ensures same { deal_of table.new ≡ deal_of table.old }
     ensures few { trading_rank table.new.reply.scripts result ≤ left_next next + 2 + (bytes_in (drop index (templates 0x71 table.old.reply.scripts)) + bytes_in (templates 0x72 table.old.reply.scripts)) }
     ensures room { HasRoom table.new (scripts_left table.new.reply.scripts result) }
+    ensures asked { HasMessage table.new result }
 {
     match next {
         RunNext::Ask(running) => {
@@ -137,6 +139,7 @@ pub(crate) fn on_script_before<'s>(
     ensures same { deal_of table.new ≡ deal_of table.old }
     ensures nearer { trading_rank table.new.reply.scripts result < length state.running.commands + 2 + (bytes_in (drop state.next (templates 0x71 table.old.reply.scripts)) + bytes_in (templates 0x72 table.old.reply.scripts)) }
     ensures room { HasRoom table.new (scripts_left table.new.reply.scripts result) }
+    ensures asked { HasMessage table.new result }
 {
     let AtScript { running, next } = state;
     let gone_on = running.take(reply);
@@ -153,6 +156,7 @@ pub(crate) fn run_behind<'s>(table: &mut Table<'s>, ending: Ending, index: usize
     ensures same { deal_of table.new ≡ deal_of table.old }
     ensures few { trading_rank table.new.reply.scripts result ≤ bytes_in (drop index (templates 0x72 table.old.reply.scripts)) }
     ensures room { HasRoom table.new (scripts_left table.new.reply.scripts result) }
+    ensures asked { HasMessage table.new result }
 {
     match template_of(&table.reply, BEHIND, index) {
         Some(template) => {
@@ -180,6 +184,7 @@ fn behind_next<'s>(
     ensures same { deal_of table.new ≡ deal_of table.old }
     ensures few { trading_rank table.new.reply.scripts result ≤ left_next next + 1 + bytes_in (drop index (templates 0x72 table.old.reply.scripts)) }
     ensures room { HasRoom table.new (scripts_left table.new.reply.scripts result) }
+    ensures asked { HasMessage table.new result }
 {
     match next {
         RunNext::Ask(running) => {
@@ -211,6 +216,7 @@ pub(crate) fn on_script_behind<'s>(
     ensures same { deal_of table.new ≡ deal_of table.old }
     ensures nearer { trading_rank table.new.reply.scripts result < length state.running.commands + 1 + bytes_in (drop state.next (templates 0x72 table.old.reply.scripts)) }
     ensures room { HasRoom table.new (scripts_left table.new.reply.scripts result) }
+    ensures asked { HasMessage table.new result }
 {
     let AtScript { running, next } = state;
     let gone_on = running.take(reply);
@@ -226,6 +232,7 @@ pub(crate) fn gone_behind<'s>(table: &mut Table<'s>, state: AtScript, ending: En
     ensures same { deal_of table.new ≡ deal_of table.old }
     ensures over { result ≡ stage.Over ending }
     ensures room { HasRoom table.new (scripts_left table.new.reply.scripts result) }
+    ensures asked { HasMessage table.new result }
 {
     let AtScript { running, next } = state;
     let found = running.gone();

@@ -1,6 +1,7 @@
 //! The dialogue of a terminal, a reply at a time.
 ghost use Rattle.std.specs.Prelude.{◌≡◌, ◌≤◌, ◌+◌, ◌∷◌, ◌++◌, [], ℕ, List, length, option_map, None};
 ghost use Rattle.std.specs.List.{All};
+ghost use Rattle.auth_message.specs.Whole.{IsMessage};
 ghost use Rattle.emv_dict.specs.Settings.{IsSettings, IsPurchase, most_amount};
 ghost use Rattle.emv_dict.specs.declared.purchase.Logged.{Logged as LoggedRow};
 ghost use Rattle.kernel.specs.BeginEnd.{HasBegun};
@@ -125,6 +126,8 @@ impl<'s> Kernel<'s> {
         ensures told { (replies : List Reply) → KernelStands self.now replies → result.now ≡ told_bytes (dialogue (deal_in self.now) replies) }
         ensures command { next_of self.now ≡ Next.ToCard → length result.now ≤ 261 }
         ensures short { length result.now ≤ 2048 }
+        // The host reads it.
+        ensures read { next_of self.now ≡ Next.ToHost → IsMessage result.now }
     {
         bytes_by(&self.table, stage_next(&self.stage))
     }

@@ -1,6 +1,7 @@
 //! The steps from the first cryptogram to the second one (EMV 4.3 Book 3 sections 10.8, 10.9 and 10.11).
 ghost use Rattle.std.specs.Prelude.{◌≡◌, ◌∷◌, ◌≤◌, ◌<◌, ◌+◌, List, ℕ, Some, None, IsSome, length, option_map};
 ghost use Rattle.action_analysis.specs.Analysed as spec;
+ghost use Rattle.auth_message.specs.Whole.{IsMessage};
 ghost use Rattle.emv_dict.specs.Settings.{IsSettings, IsPurchase};
 ghost use Rattle.emv_dict.specs.Views.{AcData};
 ghost use Rattle.emv_dict.specs.declared.purchase.Logged.{Logged};
@@ -8,7 +9,7 @@ ghost use Rattle.kernel.specs.Course.{Standing};
 ghost use Rattle.kernel.specs.Dialogue.{first_answered, online, unable_online, second, authentication, decision as decision_of, kind_for as kind_of_code, is_offline_only as offline_test, has_authentication as authentication_test};
 ghost use Rattle.kernel.specs.Rank.{trading_rank, bytes_in, most_scripts};
 ghost use Rattle.kernel.specs.Reply.{Reply, CardSaid, HostSaid, HostSilent};
-ghost use Rattle.kernel.specs.Stages.{TradingStands, Begins, HasRoom, scripts_left, behind_if};
+ghost use Rattle.kernel.specs.Stages.{TradingStands, Begins, HasRoom, scripts_left, behind_if, HasMessage};
 ghost use Rattle.kernel.specs.Trades.{trade_of};
 ghost use Rattle.kernel.specs.declared.stage.Trading.TheVariants as stage;
 ghost use Rattle.online_step.specs.Request.{request_of};
@@ -49,6 +50,7 @@ pub(crate) fn on_first<'s>(
     ensures same { deal_of table.new ≡ deal_of table.old }
     ensures nearer { trading_rank table.new.reply.scripts result < 4 + most_scripts }
     ensures room { HasRoom table.new (scripts_left table.new.reply.scripts result) }
+    ensures asked { HasMessage table.new result }
 {
     match read_ac(reply, asked, false) {
         Ok(ac) => decide(table, terminal, card, row, ac),
@@ -72,6 +74,7 @@ fn decide<'s>(
     ensures same { deal_of table.new ≡ deal_of table.old }
     ensures few { trading_rank table.new.reply.scripts result ≤ 3 + most_scripts }
     ensures room { HasRoom table.new (scripts_left table.new.reply.scripts result) }
+    ensures asked { HasMessage table.new result }
 {
     let kind = ac.kind;
     table.moment.has_first(ac);
@@ -99,6 +102,7 @@ fn go_online<'s>(
     ensures same { deal_of table.new ≡ deal_of table.old }
     ensures few { trading_rank table.new.reply.scripts result ≤ 3 + most_scripts }
     ensures room { HasRoom table.new (scripts_left table.new.reply.scripts result) }
+    ensures asked { HasMessage table.new result }
 {
     if is_offline_only(table.settings) {
         return be_unable(table, terminal, card, row, false);
@@ -159,7 +163,8 @@ fn write_online(
 )
     requires last { IsSome moment.now.last }
     requires terminal { HasTerminalData terminal.now }
-    ensures { (ac : AcData) → moment.now.last ≡ Some ac → out.new.items ≡ request_of card.now terminal.now settings.now ac moment.now.pin }
+    ensures exact { (ac : AcData) → moment.now.last ≡ Some ac → out.new.items ≡ request_of card.now terminal.now settings.now ac moment.now.pin }
+    ensures read { IsMessage out.new.items }
 {
     let Some(ac) = moment.last() else {
         unreachable!();
@@ -184,6 +189,7 @@ pub(crate) fn be_unable<'s>(
     ensures same { deal_of table.new ≡ deal_of table.old }
     ensures few { trading_rank table.new.reply.scripts result ≤ 1 }
     ensures room { HasRoom table.new (scripts_left table.new.reply.scripts result) }
+    ensures asked { HasMessage table.new result }
 {
     let asked = kind_unable(&table.moment, card, row, table.settings);
     table.moment.was_unable(sent, asked);
@@ -225,6 +231,7 @@ pub(crate) fn begin_second<'s>(
     ensures same { deal_of table.new ≡ deal_of table.old }
     ensures few { trading_rank table.new.reply.scripts result ≤ 1 + bytes_in (behind_if state.online table.old.reply.scripts) }
     ensures room { HasRoom table.new (scripts_left table.new.reply.scripts result) }
+    ensures asked { HasMessage table.new result }
 {
     put_terminal(terminal, table.settings, table.purchase, row, &table.moment);
     let mut filled = ArrayVec::new();

@@ -9,7 +9,7 @@ ghost use Rattle.kernel.specs.Dialogue.{Trade, authentication, scripts_behind, d
 ghost use Rattle.kernel.specs.Rank.{trading_rank, bytes_in, most_scripts};
 ghost use Rattle.kernel.specs.Reply.{Reply, CardSaid, HostSaid, HostSilent};
 ghost use Rattle.kernel.specs.Sound.{IsSound, IsIssuerData};
-ghost use Rattle.kernel.specs.Stages.{TradingStands, Begins, HasRoom, scripts_left, behind_if};
+ghost use Rattle.kernel.specs.Stages.{TradingStands, Begins, HasRoom, scripts_left, behind_if, HasMessage};
 ghost use Rattle.kernel.specs.Trades.{trade_of};
 ghost use Rattle.kernel.specs.declared.stage.Trading.TheVariants as stage;
 ghost use Rattle.terminal_state.specs.Marks.{Mark, HasReply, HasSecond};
@@ -46,6 +46,7 @@ pub(crate) fn on_silence<'s>(
     ensures same { deal_of table.new ≡ deal_of table.old }
     ensures nearer { trading_rank table.new.reply.scripts result < 3 + most_scripts }
     ensures room { HasRoom table.new (scripts_left table.new.reply.scripts result) }
+    ensures asked { HasMessage table.new result }
 {
     be_unable(table, terminal, card, row, true)
 }
@@ -66,6 +67,7 @@ pub(crate) fn on_reply<'s>(
     ensures same { deal_of table.new ≡ deal_of table.old }
     ensures nearer { trading_rank table.new.reply.scripts result < 3 + most_scripts }
     ensures room { HasRoom table.new (scripts_left table.new.reply.scripts result) }
+    ensures asked { HasMessage table.new result }
 {
     match read_reply(reply) {
         Ok(said) => take_reply(table, terminal, card, row, said),
@@ -90,6 +92,7 @@ fn take_reply<'s>(
     ensures same { deal_of table.new ≡ deal_of table.old }
     ensures few { trading_rank table.new.reply.scripts result ≤ 2 + most_scripts }
     ensures room { HasRoom table.new (scripts_left table.new.reply.scripts result) }
+    ensures asked { HasMessage table.new result }
 {
     table.moment.has_reply(&said);
     keep(&mut table.reply, &said);
@@ -145,6 +148,7 @@ fn authenticate<'s>(
     ensures same { deal_of table.new ≡ deal_of table.old }
     ensures few { trading_rank table.new.reply.scripts result ≤ 2 + (bytes_in (templates 0x71 table.old.reply.scripts) + bytes_in (templates 0x72 table.old.reply.scripts)) }
     ensures room { HasRoom table.new (scripts_left table.new.reply.scripts result) }
+    ensures asked { HasMessage table.new result }
 {
     match auth {
         Some(value) => {
@@ -182,6 +186,7 @@ pub(crate) fn on_authenticate<'s>(
     ensures same { deal_of table.new ≡ deal_of table.old }
     ensures nearer { trading_rank table.new.reply.scripts result < 2 + (bytes_in (templates 0x71 table.old.reply.scripts) + bytes_in (templates 0x72 table.old.reply.scripts)) }
     ensures room { HasRoom table.new (scripts_left table.new.reply.scripts result) }
+    ensures asked { HasMessage table.new result }
 {
     match read_verdict(reply) {
         Ok(good) => {
@@ -201,6 +206,7 @@ pub(crate) fn on_second<'s>(table: &mut Table<'s>, state: AtSecond, reply: &[u8]
     ensures same { deal_of table.new ≡ deal_of table.old }
     ensures nearer { trading_rank table.new.reply.scripts result < 1 + bytes_in (behind_if state.online table.old.reply.scripts) }
     ensures room { HasRoom table.new (scripts_left table.new.reply.scripts result) }
+    ensures asked { HasMessage table.new result }
 {
     match read_ac(reply, state.asked, true) {
         Ok(ac) => finish(table, state.online, ac),
@@ -217,6 +223,7 @@ fn finish<'s>(table: &mut Table<'s>, online: bool, ac: Ac) -> Trading<'s>
     ensures same { deal_of table.new ≡ deal_of table.old }
     ensures few { trading_rank table.new.reply.scripts result ≤ bytes_in (behind_if online table.old.reply.scripts) }
     ensures room { HasRoom table.new (scripts_left table.new.reply.scripts result) }
+    ensures asked { HasMessage table.new result }
 {
     let ending = ending_of(online, &ac);
     table.moment.has_second(ac);

@@ -14,7 +14,7 @@ ghost use Rattle.kernel.specs.Course.{Standing, card_step, cut_off};
 ghost use Rattle.kernel.specs.Dialogue.{Trade, restrictions, verification, risk, analysis, first, first_answered, unable_online, online};
 ghost use Rattle.kernel.specs.Rank.{trading_rank, rank_behind, most_scripts};
 ghost use Rattle.kernel.specs.Reply.{Reply, CardSaid};
-ghost use Rattle.kernel.specs.Stages.{TradingStands, Begins, HasRoom, scripts_left};
+ghost use Rattle.kernel.specs.Stages.{TradingStands, Begins, HasRoom, scripts_left, HasMessage};
 ghost use Rattle.kernel.specs.declared.stage.Trading.TheVariants as stage;
 ghost use Rattle.risk_mgmt.specs.Asked.{counters_by};
 ghost use Rattle.risk_mgmt.specs.Judging.{NextLeads as JudgeLeads, counters_left};
@@ -56,6 +56,7 @@ pub(crate) fn begin_trading<'s>(
     ensures same { deal_of table.new ≡ deal_of table.old }
     ensures few { trading_rank table.new.reply.scripts result ≤ rank_behind table.old }
     ensures room { HasRoom table.new (scripts_left table.new.reply.scripts result) }
+    ensures asked { HasMessage table.new result }
 {
     let bits = restrict(card, table.settings, row, table.purchase);
     table.moment.has_read();
@@ -82,6 +83,7 @@ fn begin_verify<'s>(
     ensures same { deal_of table.new ≡ deal_of table.old }
     ensures few { trading_rank table.new.reply.scripts result ≤ rank_behind table.old }
     ensures room { HasRoom table.new (scripts_left table.new.reply.scripts result) }
+    ensures asked { HasMessage table.new result }
 {
     let next = Verifying::begin(card, table.settings, table.purchase);
     verify_next(table, terminal, card, row, log, next)
@@ -108,6 +110,7 @@ fn verify_next<'s>(
     ensures same { deal_of table.new ≡ deal_of table.old }
     ensures few { trading_rank table.new.reply.scripts result ≤ 6 + most_scripts + entries_left next.entry }
     ensures room { HasRoom table.new (scripts_left table.new.reply.scripts result) }
+    ensures asked { HasMessage table.new result }
 {
     match next {
         VerifyNext::Ask(verifying) => {
@@ -142,6 +145,7 @@ pub(crate) fn on_verify<'s>(
     ensures same { deal_of table.new ≡ deal_of table.old }
     ensures nearer { trading_rank table.new.reply.scripts result < length verifying.entry.pins + 6 + most_scripts }
     ensures room { HasRoom table.new (scripts_left table.new.reply.scripts result) }
+    ensures asked { HasMessage table.new result }
 {
     let next = verifying.take(reply);
     verify_next(table, terminal, card, row, log, next)
@@ -166,6 +170,7 @@ fn begin_risk<'s>(
     ensures same { deal_of table.new ≡ deal_of table.old }
     ensures few { trading_rank table.new.reply.scripts result ≤ 6 + most_scripts }
     ensures room { HasRoom table.new (scripts_left table.new.reply.scripts result) }
+    ensures asked { HasMessage table.new result }
 {
     let next = Judging::begin(card, table.settings, row, table.purchase, log);
     judge_next(table, terminal, card, row, next)
@@ -189,6 +194,7 @@ fn judge_next<'s>(
     ensures same { deal_of table.new ≡ deal_of table.old }
     ensures few { trading_rank table.new.reply.scripts result ≤ 4 + most_scripts + counters_left next }
     ensures room { HasRoom table.new (scripts_left table.new.reply.scripts result) }
+    ensures asked { HasMessage table.new result }
 {
     match next {
         JudgeNext::Ask(judging) => {
@@ -220,6 +226,7 @@ pub(crate) fn on_judge<'s>(
     ensures same { deal_of table.new ≡ deal_of table.old }
     ensures nearer { trading_rank table.new.reply.scripts result < counters_by judging.asking + 4 + most_scripts }
     ensures room { HasRoom table.new (scripts_left table.new.reply.scripts result) }
+    ensures asked { HasMessage table.new result }
 {
     let next = judging.take(reply);
     judge_next(table, terminal, card, row, next)
@@ -241,6 +248,7 @@ fn analyse<'s>(
     ensures same { deal_of table.new ≡ deal_of table.old }
     ensures few { trading_rank table.new.reply.scripts result ≤ 4 + most_scripts }
     ensures room { HasRoom table.new (scripts_left table.new.reply.scripts result) }
+    ensures asked { HasMessage table.new result }
 {
     let asked = kind_wanted(&table.moment, card, row, table.settings);
     table.moment.has_analysed(asked);
@@ -273,6 +281,7 @@ fn begin_first<'s>(
     ensures same { deal_of table.new ≡ deal_of table.old }
     ensures few { trading_rank table.new.reply.scripts result ≤ 4 + most_scripts }
     ensures room { HasRoom table.new (scripts_left table.new.reply.scripts result) }
+    ensures asked { HasMessage table.new result }
 {
     put_terminal(terminal, table.settings, table.purchase, row, &table.moment);
     let mut filled = ArrayVec::new();

@@ -8,7 +8,7 @@ ghost use Rattle.kernel.specs.Dialogue.{Trade};
 ghost use Rattle.kernel.specs.Kernel.{trading_next};
 ghost use Rattle.kernel.specs.Rank.{trading_rank};
 ghost use Rattle.kernel.specs.Reply.{Reply, CardSaid, CardGone, from_host};
-ghost use Rattle.kernel.specs.Stages.{TradingStands, HasRoom, scripts_left};
+ghost use Rattle.kernel.specs.Stages.{TradingStands, HasRoom, scripts_left, HasMessage};
 ghost use Rattle.kernel.specs.Trades.{trade_of};
 ghost use Rattle.kernel.specs.declared.kernel.Next.TheVariants as next;
 ghost use Rattle.terminal_state.specs.Marks.{Mark};
@@ -45,6 +45,7 @@ pub(crate) fn on_card<'s>(
     ensures same { deal_of table.new ≡ deal_of table.old }
     ensures nearer { trading_rank table.new.reply.scripts result < trading_rank table.old.reply.scripts trading.entry }
     ensures room { HasRoom table.new (scripts_left table.new.reply.scripts result) }
+    ensures asked { HasMessage table.new result }
 {
     match trading {
         Trading::Verify(state) => on_verify(table, terminal, card, row, log, state, reply),
@@ -69,6 +70,7 @@ pub(crate) fn on_gone<'s>(table: &mut Table<'s>, trading: Trading<'s>) -> Tradin
     ensures same { deal_of table.new ≡ deal_of table.old }
     ensures nearer { trading_rank table.new.reply.scripts result < trading_rank table.old.reply.scripts trading.entry }
     ensures room { HasRoom table.new (scripts_left table.new.reply.scripts result) }
+    ensures asked { HasMessage table.new result }
 {
     match trading {
         Trading::Verify(_) => Trading::Over(Ending::CutOff(Step::Verify)),
@@ -100,6 +102,7 @@ pub(crate) fn on_host<'s>(
     ensures same { deal_of table.new ≡ deal_of table.old }
     ensures nearer { trading_rank table.new.reply.scripts result < trading_rank table.old.reply.scripts trading.entry }
     ensures room { HasRoom table.new (scripts_left table.new.reply.scripts result) }
+    ensures asked { HasMessage table.new result }
 {
     match trading {
         Trading::Online => match reply {

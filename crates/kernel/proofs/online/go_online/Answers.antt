@@ -14,4 +14,4 @@ returns-clause-stands c = λ marks log ac rest last begins.
     let trade = trade_of c.args.table.now c.args.row.now c.args.card.now in
     let there = ap (λ (m : MomentData). m.last) begins.tied ∙ last in
     asked_online c.args.table.now _ trade marks log rest ac begins (sym c.is_offline_only.ensures ∙ c.if-is_offline_only.false)
-    (c.write_online.ensures ac there ∙ rw (c.put_objects.ensures.objects, begins.tied) refl) refl
+    (c.write_online.ensures.exact ac there ∙ rw (c.put_objects.ensures.objects, begins.tied) refl) refl
