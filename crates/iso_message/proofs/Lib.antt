@@ -1,0 +1,12 @@
+pub mod Calls
+pub mod FrontAgain
+pub mod FrontSpelled
+pub mod Fronts
+pub mod ItemsAgain
+pub mod ItemsSpelled
+pub mod Joined
+pub mod Numerals
+pub mod Parts
+pub mod Replies
+pub mod Rewritten
+pub mod Steps

@@ -1,0 +1,10 @@
+pub mod Dialect
+pub mod Front
+pub mod Items
+pub mod Layout
+pub mod Left
+pub mod Pairs
+pub mod Reading
+pub mod Reply
+pub mod Spelling
+pub mod Text

@@ -1,0 +1,184 @@
+//! The items of field 55.
+ghost use Rattle.std.specs.Prelude.{◌≡◌, Ok, Err, MatchResult};
+ghost use Rattle.iso_message.specs.Items.{chip_at, request_in as request_items, present_in as present_items, reversal_in as reversal_items, reply_in as reply_items};
+
+use crate::front::{Acceptor, PresentFront, RequestFront, ReversalFront};
+use auth_message::{Fields, MessageFault, PresentFields, Reply, RequestFields, ReversalFields};
+
+/// What the items of a request and of a presentment share, but 9F10: the other amount, where and when it is
+/// paid, and the card's cryptogram.
+#[derive(Drop)]
+pub struct ChipData {
+    pub t9f03: [u8; 6],
+    pub t9f1a: [u8; 2],
+    pub t95: [u8; 5],
+    pub t9a: [u8; 3],
+    pub t9f37: [u8; 4],
+    pub t82: [u8; 2],
+    pub t9f36: [u8; 2],
+    pub t9f26: [u8; 8],
+}
+
+/// Reads these items.
+#[tactic(auto, unfolding(crate::specs::Items::chip_at))]
+fn read_chip(fields: &mut Fields) -> Result<ChipData, MessageFault>
+    ensures { MatchResult result (λ chip. chip_at fields.old.left ≡ Ok (chip, fields.new.left)) (λ fault. chip_at fields.old.left ≡ Err fault) }
+{
+    let t9f03 = fields.fixed(0x9F03, true)?;
+    let t9f1a = fields.fixed(0x9F1A, false)?;
+    let t95 = fields.fixed(0x95, false)?;
+    let t9a = fields.fixed(0x9A, true)?;
+    let t9f37 = fields.fixed(0x9F37, false)?;
+    let t82 = fields.fixed(0x82, false)?;
+    let t9f36 = fields.fixed(0x9F36, false)?;
+    let t9f26 = fields.fixed(0x9F26, false)?;
+    Ok(ChipData {
+        t9f03,
+        t9f1a,
+        t95,
+        t9a,
+        t9f37,
+        t82,
+        t9f36,
+        t9f26,
+    })
+}
+
+/// The request whose other fields are these.
+#[tactic(auto, unfolding(crate::specs::Items::request_in))]
+pub fn request_in<'a>(
+    front: RequestFront,
+    fields: &mut Fields<'a>,
+) -> Result<RequestFields<'a>, MessageFault>
+    ensures { MatchResult result (λ found. request_items front fields.old.left ≡ Ok found) (λ fault. request_items front fields.old.left ≡ Err fault) }
+{
+    let RequestFront {
+        pan,
+        t9c,
+        numbers,
+        acceptor,
+        tdf11,
+    } = front;
+    let Acceptor { t9f1c, t5f2a } = acceptor;
+    let t9f02 = numbers.t9f02;
+    let t5f34 = fields.fixed_if_there(0x5F34, true)?;
+    let t5f24 = fields.fixed(0x5F24, true)?;
+    let ChipData {
+        t9f03,
+        t9f1a,
+        t95,
+        t9a,
+        t9f37,
+        t82,
+        t9f36,
+        t9f26,
+    } = read_chip(fields)?;
+    let t9f10 = fields.some(0x9F10, 0, 32)?;
+    fields.end()?;
+    Ok(RequestFields {
+        t9f1c,
+        pan,
+        t5f34,
+        t5f24,
+        t9f02,
+        t9f03,
+        t9f1a,
+        t95,
+        t5f2a,
+        t9a,
+        t9c,
+        t9f37,
+        t82,
+        t9f36,
+        t9f26,
+        t9f10,
+        tdf11,
+    })
+}
+
+/// The presentment whose other fields are these.
+#[tactic(auto, unfolding(crate::specs::Items::present_in))]
+pub fn present_in<'a>(
+    front: PresentFront,
+    fields: &mut Fields<'a>,
+) -> Result<PresentFields<'a>, MessageFault>
+    ensures { MatchResult result (λ found. present_items front fields.old.left ≡ Ok found) (λ fault. present_items front fields.old.left ≡ Err fault) }
+{
+    let PresentFront {
+        pan,
+        t9c,
+        numbers,
+        t8a,
+        acceptor,
+    } = front;
+    let Acceptor { t9f1c, t5f2a } = acceptor;
+    let t9f02 = numbers.t9f02;
+    let t5f34 = fields.fixed_if_there(0x5F34, true)?;
+    let ChipData {
+        t9f03,
+        t9f1a,
+        t95,
+        t9a,
+        t9f37,
+        t82,
+        t9f36,
+        t9f26,
+    } = read_chip(fields)?;
+    let t9f10 = fields.some(0x9F10, 0, 32)?;
+    fields.end()?;
+    Ok(PresentFields {
+        t9f1c,
+        pan,
+        t5f34,
+        t9f02,
+        t9f03,
+        t9f1a,
+        t95,
+        t5f2a,
+        t9a,
+        t9c,
+        t9f37,
+        t82,
+        t9f36,
+        t9f26,
+        t9f10,
+        t8a,
+    })
+}
+
+/// The reversal whose other fields are these.
+#[tactic(auto, unfolding(crate::specs::Items::reversal_in))]
+pub fn reversal_in(
+    front: &ReversalFront,
+    fields: &mut Fields,
+) -> Result<ReversalFields, MessageFault>
+    ensures { MatchResult result (λ found. reversal_items front.now fields.old.left ≡ Ok found) (λ fault. reversal_items front.now fields.old.left ≡ Err fault) }
+{
+    let t5f34 = fields.fixed_if_there(0x5F34, true)?;
+    let t9f36 = fields.fixed(0x9F36, false)?;
+    fields.end()?;
+    Ok(ReversalFields {
+        t9f1c: front.acceptor.t9f1c,
+        pan: front.pan.copy(),
+        t5f34,
+        t9f36,
+        t9f02: front.numbers.t9f02,
+        t5f2a: front.acceptor.t5f2a,
+        t8a: front.t8a,
+    })
+}
+
+/// The reply whose code is this one.
+#[tactic(auto, unfolding(crate::specs::Items::reply_in))]
+pub fn reply_in<'a>(code: [u8; 2], fields: &mut Fields<'a>) -> Result<Reply<'a>, MessageFault>
+    ensures { MatchResult result (λ found. reply_items code fields.old.bytes fields.old.left ≡ Ok found) (λ fault. reply_items code fields.old.bytes fields.old.left ≡ Err fault) }
+{
+    let auth = fields.auth()?;
+    let scripts = fields.scripts()?;
+    fields.end()?;
+    Ok(Reply {
+        code,
+        auth,
+        scripts,
+    })
+}
