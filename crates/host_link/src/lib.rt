@@ -7,3 +7,5 @@ mod link;
 pub use dialect::{Wire, write_call, write_reply};
 pub use link::deliver;
 
+#[cfg(test)]
+mod tests;

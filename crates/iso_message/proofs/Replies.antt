@@ -31,7 +31,7 @@ use Rattle.iso_message.proofs.Fronts.{bitmap_size}
 use Rattle.iso_message.proofs.ItemsSpelled.{some_by, took, took_none, took_some, none_taken, not_taken, none_left}
 use Rattle.iso_message.proofs.Numerals.{at_most}
 use Rattle.iso_message.proofs.Parts.{left, part_again, part_spelled, bits_again, bits_spelled, fields_of, items_again, items_spelled, nothing_spelled}
-use Rattle.iso_message.proofs.Steps.{made_of, read_of, same_read, from_55}
+use Rattle.iso_message.proofs.Steps.{made_of, read_of, same_read, same_made, from_55}
 
 abbrev pub IsAuth : List ℕ → Type 0
 IsAuth value = (8 ≤ length value) × (length value ≤ 16)
@@ -343,3 +343,11 @@ read_auth bytes (Err fault) is = tt
 pub read_scripts : (bytes : List ℕ) (result : Result (CallKind × ReplyData) IsoFault) → Reads bytes result → IfOk result (λ found. AreSpelledScripts found.1.scripts)
 read_scripts bytes (Ok found) is = (reply_spelled bytes found.0 found.1 is).scripts
 read_scripts bytes (Err fault) is = tt
+
+-- two replies that are read back have different bytes
+pub apart :
+    (one other : CallKind) (first second : ReplyData) → reply_of (reply_bytes one first) ≡ Ok (one, first) → reply_of (reply_bytes other second) ≡ Ok (other, second) → reply_bytes one first ≡ reply_bytes other second
+    → (one ≡ other) × (first ≡ second)
+apart one other first second read again same =
+    let both_are : (one, first) ≡ (other, second) = same_made (one, first) (other, second) (sym read ∙ ap reply_of same ∙ again) in
+    (ap (λ (p : CallKind × ReplyData). p.0) both_are, ap (λ (p : CallKind × ReplyData). p.1) both_are)

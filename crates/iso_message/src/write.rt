@@ -8,7 +8,10 @@ ghost use Rattle.ber_tlv.specs.Tag.{is_readable};
 ghost use Rattle.ber_tlv.specs.Written.{written};
 ghost use Rattle.auth_message.specs.Accepted.{IsRequest, IsPresent, IsReversal};
 ghost use Rattle.auth_message.specs.Spelling.{optional, spelled};
+ghost use Rattle.auth_message.specs.declared.message.Incoming.{Incoming};
 ghost use Rattle.auth_message.specs.declared.message.Incoming.TheVariants.{Request, Present, Reverse};
+ghost use Rattle.auth_message.specs.Reply.{ReplyData};
+ghost use Rattle.iso_message.specs.declared.kind.CallKind.{CallKind};
 ghost use Rattle.auth_message.specs.Whole.{IsAccepted, HasCodes, IsCoded, AreSpelledScripts};
 ghost use Rattle.iso_message.specs.Items.{chip_items, reply_items};
 ghost use Rattle.iso_message.specs.Layout.{reply_type as type_of_reply};
@@ -33,6 +36,8 @@ pub fn write_iso_call(call: &Incoming<'_>, out: &mut Message)
     requires codes { HasCodes call.now }
     ensures exact { out.new.items ≡ call_bytes call.now }
     ensures read_again { call_of (call_bytes call.now) ≡ Ok call.now }
+    // Another call that is read back has other bytes.
+    ensures apart { (other : Incoming) → call_of (call_bytes other) ≡ Ok other → call_bytes other ≡ call_bytes call.now → other ≡ call.now }
 {
     match call {
         Incoming::Request(fields) => write_request(fields, out),
@@ -49,6 +54,9 @@ pub fn write_iso_reply(kind: CallKind, reply: &Reply<'_>, out: &mut Message)
     requires scripts { AreSpelledScripts reply.now.scripts }
     ensures exact { out.new.items ≡ reply_bytes kind reply.now }
     ensures read_again { reply_of (reply_bytes kind reply.now) ≡ Ok (kind, reply.now) }
+    // Another reply that is read back has other bytes, as has the same one to another kind of call.
+    ensures apart { (of : CallKind) (other : ReplyData) → reply_of (reply_bytes of other) ≡ Ok (of, other) → reply_bytes of other ≡ reply_bytes kind reply.now
+        → (of ≡ kind) × (other ≡ reply.now) }
 {
     out.clear();
     append(out, &reply_type(kind));

@@ -7,7 +7,7 @@ use Rattle.iso_message.specs.Layout.{bitmap, reply_numbers, reply_type}
 use Rattle.iso_message.specs.Spelling.{reply_bytes}
 use Rattle.iso_message.specs.Text.{counted}
 use Rattle.iso_message.proofs.Joined.{reply_joined}
-use Rattle.iso_message.proofs.Replies.{reply_rest, reply_split, reply_again}
+use Rattle.iso_message.proofs.Replies.{reply_rest, reply_split, reply_again, apart}
 use Rattle.iso_message.proofs.write.write_iso_reply.Goals as goal
 
 pub returns-clause-exact : goal.returns-clause-exact
@@ -40,3 +40,6 @@ returns-clause-read_again c =
     let small : length (spelled (reply_items r.auth) ++ r.scripts) < 10000 =
     omega (arith, length-append (spelled (reply_items r.auth)) r.scripts, ap length auth, c.put_auth.ensures.short, ap length c.new-items.ensures, c.requires.scripts.short) in
     reply_again c.args.kind r two c.requires.auth c.requires.scripts small
+
+pub returns-clause-apart : goal.returns-clause-apart
+returns-clause-apart c = λ of other again same. apart of c.args.kind other c.args.reply.now again (returns-clause-read_again c) same
