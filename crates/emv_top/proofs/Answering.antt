@@ -4,8 +4,8 @@ use Rattle.std.specs.Io.KnownBytes.{Appends}
 use Rattle.emv_ports.specs.Causes.{Rose}
 use Rattle.emv_ports.specs.Memory.{Memory}
 use Rattle.emv_ports.specs.Reading.{ReadsUpTo}
-use Rattle.emv_top.specs.Answers.{Answers, AnswersRead, AnswersWords, AreSettled, Completes, IsAccepted, IsCut, IsCutShort, IsRefused, IsStarved, IsWhole, Leaves, Plays, Refuses, SinkCount, SourceCount, Unbegun}
-use Rattle.emv_top.specs.Courses.{Replays, Reads, Stopped}
+use Rattle.emv_top.specs.Answers.{Answers, AnswersRead, AnswersWords, AreSettled, Completes, IsAccepted, IsCut, IsCutShort, IsRefused, IsStarved, IsWhole, Leaves, Plays, Refuses, SinkCount, SourceCount, ToldReplays, Unbegun}
+use Rattle.emv_top.specs.Courses.{Replays, Reads, Stopped, all_lines, shown_lines}
 use Rattle.emv_top.specs.Decided.{DecidedRun, RunsAreDecided}
 use Rattle.emv_top.specs.Input.{IsInput}
 use Rattle.emv_top.specs.StatusCode.{code_of}
@@ -24,19 +24,28 @@ use Rattle.scenario_fields.specs.Line.{refused_line}
 use Rattle.scenario_fields.specs.declared.fault.ScenarioFault.{ScenarioFault}
 use Rattle.txn_replay.specs.Laws.{RunsAreFair, WholeRunsAreFair, IsFair}
 use Rattle.txn_replay.specs.Reading.{ReadRun, to_read}
+use Rattle.txn_replay.specs.Respelled.{WholeDialectsShow}
 use Rattle.txn_replay.specs.Run.{Finished, Run}
+use Rattle.txn_replay.specs.Told.{RunsTellLosses, WholeRunsTellLosses}
 use Rattle.txn_replay.specs.World.{World}
 use Rattle.txn_replay.specs.Seen.{WorldSeen, WorldStands}
 
--- in a whole run purchases are decided, the laws are kept, and no decision is open
-pub decided_whole : (s : ScenarioData) (v : WorldSeen) (old new : Option (List ℕ)) → WholeRunsAreFair → RunsAreDecided → IsScenario s → Completes (Run s) (WorldStands v) old new
+-- in a whole run purchases are decided, losses told, and dialects spelled; the laws are kept, and no decision is open
+pub decided_whole : (s : ScenarioData) (v : WorldSeen) (old new : Option (List ℕ)) → WholeRunsAreFair → RunsAreDecided → WholeRunsTellLosses → WholeDialectsShow
+    → IsScenario s → Completes (Run s) (WorldStands v) old new
     → Completes (DecidedRun s) (λ w. WorldStands v w × IsFair s w × AreSettled s w) old new
-decided_whole s v old new law decides fits whole =
+decided_whole s v old new law decides losses dialects fits whole =
     let run : Run s whole.lines whole.world = whole.run in
     record {
       lines = whole.lines;
       world = whole.world;
-      run = (run, decides s Finished run.count run.choices run.reported whole.world run.reached fits);
+      run = record {
+        run = run;
+        decided = decides s Finished run.count run.choices run.reported whole.world run.reached fits;
+        losses = losses s whole.lines whole.world fits run;
+        dialects = λ iso.
+            (let other = dialects s iso whole.lines whole.world run in record { others = other.0; run = other.1; respelled = other.2 });
+      };
       stands = (whole.stands, law s whole.lines whole.world run, run_settled s run.count run.choices run.reported whole.world run.reached);
       written = whole.written;
     }
@@ -52,9 +61,11 @@ module _ (s : ScenarioData) (v : WorldSeen) (told : v.scenario ≡ s) (old new :
       completes_with (DecidedRun s) (λ w. WorldStands v w × IsFair s w × AreSettled s w) (λ w. Leaves s bank tally w × AreSettled s w) old new
       (λ ls w run stands. (left w stands.0 stands.1, stands.2)) whole
 
-  pub cut_replay : RunsAreFair → Stopped (Replays s) (WorldStands v) old new → IsCut Replay s old new bank tally
-  cut_replay law stopped =
-      stopped_with (Replays s) (WorldStands v) (Leaves s bank tally) old new (λ n cs ls w tail ends stands. left w stands (law s ends.0 n cs ls w ends.1)) stopped
+  pub cut_replay : RunsAreFair → RunsTellLosses → IsScenario s → Stopped s all_lines (Replays s) (WorldStands v) old new → IsCut Replay s old new bank tally
+  cut_replay law losses fits stopped =
+      stopped_with s all_lines (Replays s) (ToldReplays s) (WorldStands v) (Leaves s bank tally) old new
+      (λ n cs ls w tail ends. (ends, losses s ends.0 n cs ls w fits ends.1))
+      (λ n cs ls w tail ends stands. left w stands (law s ends.0 n cs ls w ends.1)) stopped
 
   pub whole_reading : (whole : ScenarioData) → s ≡ to_read whole → RunsAreFair → Completes (ReadRun whole) (WorldStands v) old new → IsWhole Read whole old new bank tally
   whole_reading whole same law completes =
@@ -65,10 +76,11 @@ module _ (s : ScenarioData) (v : WorldSeen) (told : v.scenario ≡ s) (old new :
         read_settled whole run.count run.choices run.reported w run.reached,
       )) completes
 
-  pub cut_reading : (whole : ScenarioData) → s ≡ to_read whole → RunsAreFair → Stopped (Reads s) (WorldStands v) old new → IsCut Read whole old new bank tally
+  pub cut_reading : (whole : ScenarioData) → s ≡ to_read whole → RunsAreFair → Stopped s shown_lines (Reads s) (WorldStands v) old new → IsCut Read whole old new bank tally
   cut_reading whole same law stopped =
-      subst (λ (t : ScenarioData). Stopped (Reads t) (Leaves t bank tally) old new) same
-      (stopped_with (Reads s) (WorldStands v) (Leaves s bank tally) old new (λ n cs ls w tail ends stands. left w stands (read_fair law s n cs ls w ends.0)) stopped)
+      subst (λ (t : ScenarioData). Stopped t shown_lines (Reads t) (Leaves t bank tally) old new) same
+      (stopped_with s shown_lines (Reads s) (Reads s) (WorldStands v) (Leaves s bank tally) old new (λ n cs ls w tail ends. ends)
+      (λ n cs ls w tail ends stands. left w stands (read_fair law s n cs ls w ends.0)) stopped)
 
 -- the bytes are a scenario's
 module _ (order : Order) (bytes : List ℕ) (old new : Option (List ℕ)) (bank : List Memory) (tally : Counts) where

@@ -6,7 +6,7 @@ use Rattle.std.specs.Io.KnownBytes.{Appends}
 use Rattle.emv_ports.specs.Growth.{AppendsFront}
 use Rattle.emv_ports.proofs.Growth.{Appends-none, Appends-more}
 use Rattle.emv_top.specs.Answers.{Completes}
-use Rattle.emv_top.specs.Courses.{Course, Ends, SoFar, Stopped, Makes, IsThere, Breaks, Fails}
+use Rattle.emv_top.specs.Courses.{Course, Ends, SoFar, IsOneLess, Stopped, Makes, IsThere, Breaks, Fails}
 use Rattle.emv_top.specs.Texts.{text_of}
 use Rattle.emv_top.proofs.Writing.{text_of-append}
 use Rattle.report_text.specs.declared.line.Line.{Line}
@@ -75,7 +75,7 @@ module _ (s : ScenarioData) (e : Event) (shown : List Line → List Line) (v aft
     now : (tail : List Line) × ends far.count far.choices far.lines far.world tail
     now = stays far.count far.choices far.lines far.world far.reached
 
-    breaks : Breaks s after far.world e shown old new → Stopped ends (WorldStands after) first new
+    breaks : Breaks s after far.world e shown old new → Stopped s shown ends (WorldStands after) first new
     breaks made =
         let next : (tail : List Line) × ends (far.count + 1) (far.choices ++ made.goes.choices) (far.lines ++ shown made.lines) made.goes.after tail =
         grows far.count far.choices made.goes.choices far.lines made.lines far.world made.goes.after far.reached far.stands
@@ -89,7 +89,20 @@ module _ (s : ScenarioData) (e : Event) (shown : List Line → List Line) (v aft
           world = made.goes.after;
           reached = next.1;
           stands = made.goes.stands;
-          one_less = inr (record { number = far.count; choices = far.choices; world = far.world; tail = now.0; reached = now.1; next = refl });
+          one_less = inr (record {
+            number = far.count;
+            earlier = far.choices;
+            world = far.world;
+            tail = now.0;
+            reached = now.1;
+            event = e;
+            taken = made.goes.choices;
+            made = made.lines;
+            step = step_of far.world made.lines made.goes;
+            next = refl;
+            joined = refl;
+            told = refl;
+          });
           front = made.front.so_far.done;
           rest = made.front.rest ++ text_of next.0;
           splits = sym (append_assoc made.front.so_far.done made.front.rest (text_of next.0))
@@ -97,7 +110,7 @@ module _ (s : ScenarioData) (e : Event) (shown : List Line → List Line) (v aft
           written = Appends-more first old new (text_of far.lines) made.front.so_far.done far.written made.front.so_far.written;
         }
 
-    keeps : WorldStands after far.world × (new ≡ old) → Stopped ends (WorldStands after) first new
+    keeps : WorldStands after far.world × (new ≡ old) → Stopped s shown ends (WorldStands after) first new
     keeps kept = record {
       count = far.count;
       choices = far.choices;
@@ -115,11 +128,11 @@ module _ (s : ScenarioData) (e : Event) (shown : List Line → List Line) (v aft
           (subst (λ (o : Option (List ℕ)). Appends first o (text_of far.lines)) (sym kept.1) far.written);
     }
 
-    fails_by : Fails s after far.world e shown old new → Stopped ends (WorldStands after) first new
+    fails_by : Fails s after far.world e shown old new → Stopped s shown ends (WorldStands after) first new
     fails_by (inl made) = breaks made
     fails_by (inr kept) = keeps kept
 
-    pub halts : ((w : World) → WorldStands v w → Fails s after w e shown old new) → Stopped ends (WorldStands after) first new
+    pub halts : ((w : World) → WorldStands v w → Fails s after w e shown old new) → Stopped s shown ends (WorldStands after) first new
     halts fails = fails_by (fails far.world far.stands)
 
 -- the lines behind the events
@@ -136,10 +149,10 @@ module _ (here : Course) (tail : World → List Line) (holds : World → Type 0)
         (Appends-more first old new (text_of far.lines) (text_of (tail far.world)) far.written (behind far.world far.stands));
   }
 
-  pub stops_behind : (ends : Ends)
+  pub stops_behind : (s : ScenarioData) (shown : List Line → List Line) (ends : Ends)
       → ((n : ℕ) (cs : List Bool) (ls : List Line) (w : World) → here n cs ls w → holds w → ends n cs ls w (tail w))
-      → ((w : World) → holds w → AppendsFront old new (text_of (tail w))) → Stopped ends holds first new
-  stops_behind ends all behind =
+      → ((w : World) → holds w → AppendsFront old new (text_of (tail w))) → Stopped s shown ends holds first new
+  stops_behind s shown ends all behind =
       let front : AppendsFront old new (text_of (tail far.world)) = behind far.world far.stands in
       record {
         count = far.count;
@@ -158,20 +171,44 @@ module _ (here : Course) (tail : World → List Line) (holds : World → Type 0)
         written = Appends-more first old new (text_of far.lines) front.so_far.done far.written front.so_far.written;
       }
 
--- what holds of the world in other words
-pub stopped_with : (ends : Ends) (P Q : World → Type 0) (first held : Option (List ℕ))
+-- the run without its last event, told in other words
+one_less_with : (s : ScenarioData) (shown : List Line → List Line) (ends others : Ends) (count : ℕ) (choices : List Bool) (before last : List Line) (w : World)
+    → ((n : ℕ) (cs : List Bool) (ls : List Line) (v : World) (tail : List Line) → ends n cs ls v tail → others n cs ls v tail)
+    → IsOneLess s shown ends count choices before last w → IsOneLess s shown others count choices before last w
+one_less_with s shown ends others count choices before last w tells one = record {
+  number = one.number;
+  earlier = one.earlier;
+  world = one.world;
+  tail = one.tail;
+  reached = tells one.number one.earlier before one.world one.tail one.reached;
+  event = one.event;
+  taken = one.taken;
+  made = one.made;
+  step = one.step;
+  next = one.next;
+  joined = one.joined;
+  told = one.told;
+}
+
+-- what holds of the world, and how it was reached, in other words
+pub stopped_with : (s : ScenarioData) (shown : List Line → List Line) (ends others : Ends) (P Q : World → Type 0) (first held : Option (List ℕ))
+    → ((n : ℕ) (cs : List Bool) (ls : List Line) (w : World) (tail : List Line) → ends n cs ls w tail → others n cs ls w tail)
     → ((n : ℕ) (cs : List Bool) (ls : List Line) (w : World) (tail : List Line) → ends n cs ls w tail → P w → Q w)
-    → Stopped ends P first held → Stopped ends Q first held
-stopped_with ends P Q first held gives stopped = record {
+    → Stopped s shown ends P first held → Stopped s shown others Q first held
+stopped_with s shown ends others P Q first held tells gives stopped = record {
   count = stopped.count;
   choices = stopped.choices;
   before = stopped.before;
   last = stopped.last;
   tail = stopped.tail;
   world = stopped.world;
-  reached = stopped.reached;
+  reached = tells stopped.count stopped.choices (stopped.before ++ stopped.last) stopped.world stopped.tail stopped.reached;
   stands = gives stopped.count stopped.choices (stopped.before ++ stopped.last) stopped.world stopped.tail stopped.reached stopped.stands;
-  one_less = stopped.one_less;
+  one_less = elim stopped.one_less [
+    | inl none ↦ inl none
+    | inr one ↦
+        inr (one_less_with s shown ends others stopped.count stopped.choices stopped.before stopped.last stopped.world tells one)
+  ];
   front = stopped.front;
   rest = stopped.rest;
   splits = stopped.splits;

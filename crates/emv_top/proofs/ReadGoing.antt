@@ -31,7 +31,7 @@ module _ (s : ScenarioData) (v after : WorldSeen) (told : v.scenario ≡ s) (sam
       more s (Turn 0) shown_lines v after (same ∙ told) (ReadReached s) (ReadReached s) first old new
       (λ n cs c ls made w next reached stands there step. turned reached (still_unread w stands) step) (λ w stands. tt) makes far
 
-  pub read_cut : ((w : World) → WorldStands v w → Fails v.scenario after w (Turn 0) shown_lines old new) → Stopped (Reads s) (WorldStands after) first new
+  pub read_cut : ((w : World) → WorldStands v w → Fails v.scenario after w (Turn 0) shown_lines old new) → Stopped s shown_lines (Reads s) (WorldStands after) first new
   read_cut fails =
       halts s (Turn 0) shown_lines v after (same ∙ told) (ReadReached s) (Reads s) first old new (λ n cs ls w reached. (read_tail s w, (reached, refl)))
       (λ n cs c ls made w next reached stands there step. (read_tail s next, (turned reached (still_unread w stands) step, refl))) far
@@ -81,8 +81,8 @@ module _ (s : ScenarioData) (v : WorldSeen) (told : v.scenario ≡ s) (first old
         (subst (λ (t : ScenarioData). (w : World) → WorldStands v w → Appends old new (text_of (read_lines (data_at t w 0) (ending_at w 0)))) told behind)
 
     pub read_stops : ((w : World) → WorldStands v w → AppendsFront old new (text_of (read_lines (data_at v.scenario w 0) (ending_at w 0))))
-        → Stopped (Reads s) (WorldStands v) first new
+        → Stopped s shown_lines (Reads s) (WorldStands v) first new
     read_stops behind =
-        stops_behind (ReadReached s) (λ w. read_lines (data_at s w 0) (ending_at w 0)) (WorldStands v) first old new far (Reads s)
+        stops_behind (ReadReached s) (λ w. read_lines (data_at s w 0) (ending_at w 0)) (WorldStands v) first old new far s shown_lines (Reads s)
         (λ n cs ls w reached stands. (reached, tail_now w stands))
         (subst (λ (t : ScenarioData). (w : World) → WorldStands v w → AppendsFront old new (text_of (read_lines (data_at t w 0) (ending_at w 0)))) told behind)

@@ -16,7 +16,7 @@ use Rattle.txn_replay.specs.Reading.{ReadReached, start, turned, is_read, is_rea
 use Rattle.txn_replay.specs.Run.{Reached, Scheduled}
 use Rattle.txn_replay.specs.Run as run
 use Rattle.txn_replay.specs.Sound.{IsSound, IsIdle, IsHeld, HeldBy}
-use Rattle.txn_replay.specs.Steps.{Step, first_of}
+use Rattle.txn_replay.specs.Steps.{Step}
 use Rattle.txn_replay.specs.World.{Holder, Past, World, LaneRow, new_lane, lane_at, card_at}
 use Rattle.txn_replay.specs.declared.event.Event.TheVariants.{Turn}
 use Rattle.txn_replay.proofs.Apart.{lanes_apart}
@@ -60,7 +60,7 @@ OthersRest w = (l : ℕ) → l ≢ 0 → lane_at w l ≡ new_lane
 pub others_rest : (s : ScenarioData) (n : ℕ) (cs : List Bool) (ls : List Line) (w : World) → ReadReached s n cs ls w → OthersRest w
 others_rest s _ _ _ _ start l other = get_or-map_const s.lanes l new_lane
 others_rest s _ _ _ _ (turned {n} {cs} {c} {ls} {new} {w} {w' = after} before unread step) l other =
-    ap (λ (v : World). lane_at v l) step.leads ∙ (lanes_apart s w 0 (first_of c)).lanes l other ∙ others_rest s n cs ls w before l other
+    ap (λ (v : World). lane_at v l) step.leads ∙ (lanes_apart s w 0 c).lanes l other ∙ others_rest s n cs ls w before l other
 
 -- no purchase has ended that has no ending
 some_past : (past : Past) (pasts : List Past) → option_map (λ (p : Past). p.end.ending) (last_past (past ∷ pasts)) ≡ None → ⊥

@@ -12,7 +12,7 @@ use Rattle.scenario_lanes.specs.declared.plan.Planned.{Planned}
 use Rattle.txn_replay.specs.Part.{piece}
 use Rattle.txn_replay.specs.Payment.{Payment, payment_with, payment_of, payment_on, payment_in, next_of}
 use Rattle.txn_replay.specs.Reading.{ReadReached, start, turned, data_at, ending_at, to_read, untorn, first_untorn, lane_untorn}
-use Rattle.txn_replay.specs.Steps.{part_of, turned_by, first_of}
+use Rattle.txn_replay.specs.Steps.{part_of, choice_in, turned_by}
 use Rattle.txn_replay.specs.World.{Past, CardRow, World, new_card, card_at, lane_at}
 use Rattle.txn_replay.proofs.Lists.{at_set, get_or-map_const}
 
@@ -41,18 +41,18 @@ abbrev pub AllSettled : World → Type 0
 AllSettled w = (i : ℕ) → IsSettled (card_at w i)
 
 module _ (whole : ScenarioData) where
-  turn_settled : (w : World) (choice : Bool) (o : Option Payment) → ((p : Payment) → o ≡ Some p → p.planned.tear ≡ None) → AllSettled w
-      → AllSettled (turned_by w 0 choice o).world
-  turn_settled w choice None none all = all
-  turn_settled w choice (Some p) none all =
-      at_set (λ (i : ℕ) (row : CardRow). IsSettled row) w.cards p.planned.card (piece p (part_of w 0 p.planned.card) choice).part.card new_card
-      (piece_card p (part_of w 0 p.planned.card) (λ apps. none p refl) (all p.planned.card) choice) all
+  turn_settled : (w : World) (choices : List Bool) (o : Option Payment) → ((p : Payment) → o ≡ Some p → p.planned.tear ≡ None) → AllSettled w
+      → AllSettled (turned_by w 0 choices o).world
+  turn_settled w choices None none all = all
+  turn_settled w choices (Some p) none all =
+      at_set (λ (i : ℕ) (row : CardRow). IsSettled row) w.cards p.planned.card (piece p (part_of w 0 p.planned.card) (choice_in choices 0)).part.card new_card
+      (piece_card p (part_of w 0 p.planned.card) (λ apps. none p refl) (all p.planned.card) (choice_in choices 0)) all
 
   pub all_settled : (n : ℕ) (cs : List Bool) (ls : List Line) (w : World) → ReadReached (to_read whole) n cs ls w → AllSettled w
   all_settled _ _ _ _ start i = subst IsSettled (sym (get_or-map_const whole.cards i new_card)) refl
   all_settled _ _ _ _ (turned {n} {cs} {c} {ls} {new} {w} {w' = after} before unread step) i =
       subst (λ (v : World). IsSettled (card_at v i)) (sym step.leads)
-      (turn_settled w (first_of c) (next_of (to_read whole) w 0)
+      (turn_settled w c (next_of (to_read whole) w 0)
       (λ p is. no_tear_in whole p (sym (ap (λ (pasts : List Past). payment_in (to_read whole) 0 (length pasts)) ended) ∙ is))
       (all_settled n cs ls w before) i)
     where

@@ -1,29 +1,23 @@
 -- What a reading gives has no value longer than an answer.
-use Rattle.std.proofs.Common.{◌≡◌, ℕ, Bool, true, false, List, [], ◌∷◌, ◌++◌, slice_get, Option, Some, None, refl, subst, sym}
+use Rattle.std.proofs.Common.{◌≡◌, ℕ, Bool, List, [], ◌∷◌, ◌++◌, Option, Some, None, subst, sym}
 use Rattle.std.specs.Prelude.{IfSome, option_and_then}
 use Rattle.std.specs.List.{AllByRecursion}
-use Rattle.card_app.specs.Answering.{card_answer}
-use Rattle.card_pages.specs.Cuts.{Cut, cut_of}
-use Rattle.card_pages.specs.Pages.{found_of}
-use Rattle.card_pages.specs.Replies.{CardAnswer}
-use Rattle.emv_ports.specs.Cut.{is_named}
 use Rattle.emv_top.proofs.DialogueShort.{latest_short, dialogue_short}
 use Rattle.emv_top.specs.Short.{IsShort}
 use Rattle.kernel.specs.Dialogue.{dialogue}
 use Rattle.kernel.specs.Ended.{EndData, end_by, end_with}
-use Rattle.kernel.specs.Reply.{Reply, CardSaid, CardGone, Deed, ToCard, ToHost, Over}
+use Rattle.kernel.specs.Reply.{Reply, Deed, ToCard, ToHost, Over}
 use Rattle.report_text.specs.declared.line.Line.{Line}
 use Rattle.scenario.specs.Plan.{ScenarioData}
 use Rattle.terminal_state.specs.Marks.{moment, latest, card_of}
 use Rattle.txn_replay.proofs.Lists.{at_set, get_or-map_const}
-use Rattle.txn_replay.proofs.Moves.{this_one}
-use Rattle.txn_replay.specs.Changes.{powered, exchanged, told_once, torn, lost}
-use Rattle.txn_replay.specs.Lines.{answer_lines, torn_lines, gone_lines, power_torn_line}
-use Rattle.txn_replay.specs.Part.{Part, lane_ended, settled_by, cut_ends, answered, canned_by, asked_by, asked, begun, begun_by, begun_with, piece_by, piece}
+use Rattle.txn_replay.specs.Part.{Part, piece}
 use Rattle.txn_replay.specs.Payment.{Payment, deal_for, end_at, next_of}
 use Rattle.txn_replay.specs.Reading.{ReadReached, start, turned, data_at, data_by, last_past, past_card}
-use Rattle.txn_replay.specs.Steps.{part_of, turned_by, first_of}
-use Rattle.txn_replay.specs.World.{Holder, Past, CardRow, LaneRow, World, new_lane, lane_at}
+use Rattle.txn_replay.specs.Steps.{part_of, choice_in, turned_by}
+use Rattle.txn_replay.specs.World.{Past, CardRow, LaneRow, World, new_lane, lane_at}
+use Rattle.txn_replay.proofs.Exchanging.{Tells, piece_tells}
+use Rattle.txn_replay.proofs.Sending.{Later, later_ended}
 
 abbrev pub IsShortPast : Past → Type 0
 IsShortPast past = IfSome past.end.card IsShort
@@ -51,79 +45,46 @@ end_short p replies end is = go (dialogue (deal_for p) replies).deed is
         subst (λ (e : EndData). IfSome e.card IsShort) same (latest_short (dialogue (deal_for p) replies).marks (dialogue_short (deal_for p) replies))
 
 module _ (p : Payment) (part : Part) (before : LaneShort part.lane) where
-  ends_short : (replies : List Reply) (end : EndData) → end_at p replies ≡ Some end → LaneShort (lane_ended p replies end part.lane)
-  ends_short replies end is = push_short part.lane.ended (record { replies = replies; end = end }) before (end_short p replies end is)
+  abbrev Came : LaneRow → List Reply → CardRow → List (List ℕ) → List Line → Type 0
+  Came lane replies card messages lines = Unit {0}
 
-  settled_lane : (replies : List Reply) (card : CardRow) (messages : List (List ℕ)) (lines : List Line) (e : Option EndData) → end_at p replies ≡ e
-      → LaneShort (settled_by p replies (record { lane = part.lane; card = card; messages = messages }) lines e).part.lane
-  settled_lane replies card messages lines None is = before
-  settled_lane replies card messages lines (Some end) is = ends_short replies end is
+  abbrev Behind : Part → List Line → Type 0
+  Behind after lines = LaneShort after.lane
 
-  cut_lane : (replies : List Reply) (card : CardRow) (lines : List Line) (e : Option EndData) → end_at p replies ≡ e
-      → LaneShort (cut_ends p replies part (record part { card = card }) lines e).part.lane
-  cut_lane replies card lines None is = before
-  cut_lane replies card lines (Some end) is = ends_short replies end is
+  later_short : (lane : LaneRow) → Later part.lane lane → LaneShort lane
+  later_short lane later = subst (λ (pasts : List Past). AllByRecursion IsShortPast pasts) (sym (later_ended part.lane lane later)) before
 
-  answer_lane : (replies : List Reply) (command : List ℕ) (said : CardAnswer) (cut : Option Cut) → LaneShort (answered p replies command part said cut).part.lane
-  answer_lane replies command said None =
-      settled_lane (replies ++ CardSaid said.answer part.lane.log ∷ []) (exchanged p.card.image part.card command said) part.messages
-      (answer_lines p.lane command said.answer) (end_at p (replies ++ CardSaid said.answer part.lane.log ∷ [])) refl
-  answer_lane replies command said (Some cut) =
-      cut_lane (replies ++ CardGone ∷ []) (torn part.card p.planned.tear cut) (torn_lines p.lane command) (end_at p (replies ++ CardGone ∷ [])) refl
-
-  tell_lane : (replies : List Reply) (command : List ℕ) (o : Option (List ℕ)) → LaneShort (canned_by p replies command part o).part.lane
-  tell_lane replies command (Some answer) =
-      settled_lane (replies ++ CardSaid answer part.lane.log ∷ []) (told_once part.card) part.messages (answer_lines p.lane command answer)
-      (end_at p (replies ++ CardSaid answer part.lane.log ∷ [])) refl
-  tell_lane replies command None =
-      cut_lane (replies ++ CardGone ∷ []) part.card (gone_lines p.lane command) (end_at p (replies ++ CardGone ∷ [])) refl
-
-  kind_lane : (replies : List Reply) (command : List ℕ) (o : Option (List (List ℕ))) → LaneShort (asked_by p replies command part o).part.lane
-  kind_lane replies command None =
-      answer_lane replies command (card_answer p.card.image part.card.kept part.card.session command)
-      (cut_of p.planned.tear part.card.made (card_answer p.card.image part.card.kept part.card.session command).new)
-  kind_lane replies command (Some answers) = tell_lane replies command (slice_get answers part.card.told)
-
-  ask_lane : (replies : List Reply) (deed : Deed) → LaneShort (asked p replies part deed).part.lane
-  ask_lane replies (ToCard command) = kind_lane replies command p.card.canned
-  ask_lane replies (ToHost message) = settled_lane _ part.card _ _ _ refl
-  ask_lane replies (Over ending) = before
-
-  begin_lane : (choice torn_there : Bool) → LaneShort (begun_by p part choice torn_there).part.lane
-  begin_lane choice true = cut_lane (CardGone ∷ []) (lost part.card) (power_torn_line p.lane p.card ∷ []) (end_at p (CardGone ∷ [])) refl
-  begin_lane choice false =
-      settled_lane [] (powered part.card (found_of part.card.kept part.card.pending choice) (Some (this_one p part))) part.messages _ (end_at p []) refl
-
-  kind_begins : (choice : Bool) (o : Option (List (List ℕ))) → LaneShort (begun_with p part choice o).part.lane
-  kind_begins choice None = begin_lane choice (is_named p.planned.tear 0)
-  kind_begins choice (Some answers) =
-      settled_lane [] (powered part.card (found_of part.card.kept part.card.pending false) (Some (this_one p part))) part.messages _ (end_at p []) refl
-
-  piece_lane : (choice : Bool) → LaneShort (piece p part choice).part.lane
-  piece_lane choice = by_lane part.lane.running
-    where
-      begins : (o : Option Holder) → LaneShort (begun p part choice o).part.lane
-      begins None = kind_begins choice p.card.canned
-      begins (Some h) = before
-
-      by_lane : (o : Option (List Reply)) → LaneShort (piece_by p part choice o).part.lane
-      by_lane None = begins part.card.holder
-      by_lane (Some replies) = ask_lane replies (dialogue (deal_for p) replies).deed
+  tells_short : Tells p part Came Behind
+  tells_short = record {
+    still = before;
+    goes = λ lane later replies card messages lines came. later_short lane later;
+    ends = λ lane later replies card messages lines came end is.
+        push_short lane.ended (record { began = lane.began; replies = replies; end = end }) (later_short lane later) (end_short p replies end is);
+    powers = λ rests free apps choice. tt;
+    power_cut = λ rests free apps is. tt;
+    powers_canned = λ rests free answers canned. tt;
+    answers = λ replies runs apps command asks. tt;
+    cuts = λ replies runs command cut at. tt;
+    tells = λ replies runs answers canned command answer. tt;
+    gone = λ replies runs answers canned command. tt;
+    hosts = λ replies runs message asks reply is. tt;
+  }
 
 abbrev pub AllLanesShort : World → Type 0
 AllLanesShort w = (l : ℕ) → LaneShort (lane_at w l)
 
-turn_short : (s : ScenarioData) (w : World) (choice : Bool) (o : Option Payment) → AllLanesShort w → AllLanesShort (turned_by w 0 choice o).world
-turn_short s w choice None all = all
-turn_short s w choice (Some p) all =
-    at_set (λ (l : ℕ) (row : LaneRow). LaneShort row) w.lanes 0 (piece p (part_of w 0 p.planned.card) choice).part.lane new_lane
-    (piece_lane p (part_of w 0 p.planned.card) (all 0) choice) all
+turn_short : (s : ScenarioData) (w : World) (choices : List Bool) (o : Option Payment) → AllLanesShort w → AllLanesShort (turned_by w 0 choices o).world
+turn_short s w choices None all = all
+turn_short s w choices (Some p) all =
+    let part : Part = part_of w 0 p.planned.card in
+    at_set (λ (l : ℕ) (row : LaneRow). LaneShort row) w.lanes 0 (piece p part (choice_in choices 0)).part.lane new_lane
+    (piece_tells p part (Came p part (all 0)) (Behind p part (all 0)) (tells_short p part (all 0)) (choice_in choices 0)) all
 
 lanes_short : (s : ScenarioData) (n : ℕ) (cs : List Bool) (ls : List Line) (w : World) → ReadReached s n cs ls w → AllLanesShort w
 lanes_short s _ _ _ _ start l = subst LaneShort (sym (get_or-map_const s.lanes l new_lane)) tt
 lanes_short s _ _ _ _ (turned {n} {cs} {c} {ls} {new} {w} {w' = after} before unread step) l =
     subst (λ (v : World). LaneShort (lane_at v l)) (sym step.leads)
-    (turn_short s w (first_of c) (next_of s w 0) (lanes_short s n cs ls w before) l)
+    (turn_short s w c (next_of s w 0) (lanes_short s n cs ls w before) l)
 
 data_short : (s : ScenarioData) (w : World) (running : Option (List Reply)) → AllLanesShort w → IfSome (data_by s w 0 running) IsShort
 data_short s w None all = last_short (lane_at w 0).ended (all 0)

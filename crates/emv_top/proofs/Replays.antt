@@ -37,7 +37,7 @@ module _ (s : ScenarioData) (e : Event) (v after : WorldSeen) (told : v.scenario
       (subst (λ (t : ScenarioData). (w : World) → WorldStands v w → IsThere t w e) told is_there) makes far
 
   pub cut_off : ((w : World) → tail_at s here w ≡ []) → ((w : World) → tail_at s there w ≡ []) → ((w : World) → WorldStands v w → Fails v.scenario after w e all_lines old new)
-      → SoFar (Reached s here) (WorldStands v) first old → Stopped (Replays s) (WorldStands after) first new
+      → SoFar (Reached s here) (WorldStands v) first old → Stopped s all_lines (Replays s) (WorldStands after) first new
   cut_off none_here none_there fails far =
       halts s e all_lines v after (same ∙ told) (Reached s here) (Replays s) first old new
       (λ n cs ls w reached. ([], (here, reached, sym (none_here w))))

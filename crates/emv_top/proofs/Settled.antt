@@ -13,7 +13,7 @@ use Rattle.txn_replay.specs.Changes.{powered, exchanged}
 use Rattle.txn_replay.specs.Part.{piece}
 use Rattle.txn_replay.specs.Payment.{Payment, next_of}
 use Rattle.txn_replay.specs.Run.{Place, Scheduled, Round, Settling, Auditing, Finished, Reached, start, scheduled, rounds, round, again, settlement, settling, audit, auditing, finished}
-use Rattle.txn_replay.specs.Steps.{Settlement, settlements, settles, Check, PowersUp, Asks, card_checks, checks_from, checks, audits, part_of, turned_by, happens, first_of}
+use Rattle.txn_replay.specs.Steps.{Settlement, settlements, settles, Check, PowersUp, Asks, card_checks, checks_from, checks, audits, part_of, choice_in, turned_by, happens}
 use Rattle.txn_replay.specs.World.{CardRow, World, new_card, first_world, card_at, lane_at}
 use Rattle.txn_replay.specs.declared.event.Event.{Event}
 use Rattle.txn_replay.specs.declared.event.Event.TheVariants.{Turn, Settle, Audit}
@@ -42,19 +42,19 @@ stays_settled w i k row here settled =
     at_set (λ (j : ℕ) (r : CardRow). j ≡ i → IsSettled r) w.cards k row new_card here
     (λ j same. subst (λ (n : ℕ). IsSettled (card_at w n)) (sym same) settled) i refl
 
-check_keeps : (w : World) (choice : Bool) (o : Option Check) (i : ℕ) → IsSettled (card_at w i) → IsSettled (card_at (audits w choice o).world i)
-check_keeps w choice None i settled = settled
-check_keeps w choice (Some (PowersUp k card)) i settled =
-    stays_settled w i k (powered (card_at w k) (found_of (card_at w k).kept (card_at w k).pending choice) (card_at w k).holder) (λ same. refl) settled
-check_keeps w choice (Some (Asks k card command)) i settled =
+check_keeps : (w : World) (choices : List Bool) (o : Option Check) (i : ℕ) → IsSettled (card_at w i) → IsSettled (card_at (audits w choices o).world i)
+check_keeps w choices None i settled = settled
+check_keeps w choices (Some (PowersUp k card)) i settled =
+    stays_settled w i k (powered (card_at w k) (found_of (card_at w k).kept (card_at w k).pending (choice_in choices 0)) (card_at w k).holder) (λ same. refl) settled
+check_keeps w choices (Some (Asks k card command)) i settled =
     stays_settled w i k
     (exchanged card.image (card_at w k) command (card_answer card.image (card_at w k).kept (card_at w k).session command))
     (λ same. subst (λ (n : ℕ). IsSettled (card_at w n)) (sym same) settled) settled
 
-check_settles : (w : World) (choice : Bool) (i : ℕ) (card : CardData) (o : Option Check) → o ≡ Some (PowersUp i card) → IsSettled (card_at (audits w choice o).world i)
-check_settles w choice i card o is =
-    subst (λ (x : Option Check). IsSettled (card_at (audits w choice x).world i)) (sym is)
-    (settles_here w i (powered (card_at w i) (found_of (card_at w i).kept (card_at w i).pending choice) (card_at w i).holder) refl)
+check_settles : (w : World) (choices : List Bool) (i : ℕ) (card : CardData) (o : Option Check) → o ≡ Some (PowersUp i card) → IsSettled (card_at (audits w choices o).world i)
+check_settles w choices i card o is =
+    subst (λ (x : Option Check). IsSettled (card_at (audits w choices x).world i)) (sym is)
+    (settles_here w i (powered (card_at w i) (found_of (card_at w i).kept (card_at w i).pending (choice_in choices 0)) (card_at w i).holder) refl)
 
 -- the cards that were powered up so far
 abbrev pub AuditedTo : ScenarioData → ℕ → World → Type 0
@@ -93,11 +93,11 @@ audited s _ _ _ _ _ (auditing {k} {n} {cs} {c} {ls} {new} {w} {w' = after} befor
     subst (λ (v : World). IsSettled (card_at v i)) (sym step.leads) (by (audited s (Auditing k) n cs ls w before) i card j (split_below j k below) is)
   where
     by : AuditedTo s k w → (i : ℕ) (card : CardData) (j : ℕ) → (j < k) ⊎ (k ≡ j) → slice_get (checks s) j ≡ Some (PowersUp i card)
-        → IsSettled (card_at (audits w (first_of c) (slice_get (checks s) k)).world i)
+        → IsSettled (card_at (audits w c (slice_get (checks s) k)).world i)
     by earlier i card j (inl less) is =
-        check_keeps w (first_of c) (slice_get (checks s) k) i (earlier i card j less is)
+        check_keeps w c (slice_get (checks s) k) i (earlier i card j less is)
     by earlier i card j (inr same) is =
-        check_settles w (first_of c) i card (slice_get (checks s) k) (subst (λ (m : ℕ). slice_get (checks s) m ≡ Some (PowersUp i card)) (sym same) is)
+        check_settles w c i card (slice_get (checks s) k) (subst (λ (m : ℕ). slice_get (checks s) m ≡ Some (PowersUp i card)) (sym same) is)
 audited s _ _ _ _ _ (finished {k} {n} {cs} {ls} {w} before past) = λ i card j is.
     audited s (Auditing k) n cs ls w before i card j (below_end (checks s) j k (PowersUp i card) is past) is
 
@@ -129,12 +129,16 @@ CannedSettled s w =
     (i : ℕ) (card : CardData) (answers : List (List ℕ)) → slice_get s.cards i ≡ Some card → card.canned ≡ Some answers → IsSettled (card_at w i)
 
 module _ (s : ScenarioData) where
-  turn_canned : (w : World) (l : ℕ) (choice : Bool) (o : Option Payment) → next_of s w l ≡ o → CannedSettled s w → CannedSettled s (turned_by w l choice o).world
-  turn_canned w l choice None is before = before
-  turn_canned w l choice (Some p) is before =
+  turn_canned : (w : World) (l : ℕ) (choices : List Bool) (o : Option Payment) → next_of s w l ≡ o → CannedSettled s w
+      → CannedSettled s (turned_by w l choices o).world
+  turn_canned w l choices None is before = before
+  turn_canned w l choices (Some p) is before =
       at_set (λ (i : ℕ) (row : CardRow). (card : CardData) (answers : List (List ℕ)) → slice_get s.cards i ≡ Some card → card.canned ≡ Some answers → IsSettled row)
       w.cards p.planned.card (piece p (part_of w l p.planned.card) choice).part.card new_card here before
     where
+      choice : Bool
+      choice = choice_in choices 0
+
       here : (card : CardData) (answers : List (List ℕ)) → slice_get s.cards p.planned.card ≡ Some card → card.canned ≡ Some answers
           → IsSettled (piece p (part_of w l p.planned.card) choice).part.card
       here card answers there canned =
@@ -149,11 +153,11 @@ module _ (s : ScenarioData) where
   settle_canned w None before = before
   settle_canned w (Some at) before = before
 
-  event_canned : (w : World) (e : Event) (choice : Bool) → CannedSettled s w → CannedSettled s (happens s w e choice).world
-  event_canned w (Turn l) choice before = turn_canned w l choice (next_of s w l) refl before
-  event_canned w (Settle k) choice before = settle_canned w (slice_get (settlements s w) k) before
-  event_canned w (Audit k) choice before =
-      λ i card answers there canned. check_keeps w choice (slice_get (checks s) k) i (before i card answers there canned)
+  event_canned : (w : World) (e : Event) (choices : List Bool) → CannedSettled s w → CannedSettled s (happens s w e choices).world
+  event_canned w (Turn l) choices before = turn_canned w l choices (next_of s w l) refl before
+  event_canned w (Settle k) choices before = settle_canned w (slice_get (settlements s w) k) before
+  event_canned w (Audit k) choices before =
+      λ i card answers there canned. check_keeps w choices (slice_get (checks s) k) i (before i card answers there canned)
 
   first_canned : CannedSettled s (first_world s)
   first_canned i card answers there canned = subst IsSettled (sym (get_or-map_const s.cards i new_card)) refl

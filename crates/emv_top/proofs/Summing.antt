@@ -2,8 +2,8 @@
 use Rattle.std.proofs.Common.{◌≡◌, ◌≢◌, ◌⊎◌, ℕ, ◌≤◌, ℤ, List, ◌++◌, Option, Some, None, refl, ap, ◌∙◌, subst, inl, inr, arith}
 use Rattle.emv_ports.specs.Causes.{Rose}
 use Rattle.emv_ports.specs.Memory.{Memory}
-use Rattle.emv_top.specs.Answers.{AnswersWords, AreSettled, Completes, Leaves, Plays, SinkCount}
-use Rattle.emv_top.specs.Courses.{Replays, Stopped}
+use Rattle.emv_top.specs.Answers.{AnswersWords, AreSettled, Completes, Leaves, Plays, SinkCount, ToldReplays}
+use Rattle.emv_top.specs.Courses.{Stopped, all_lines}
 use Rattle.emv_top.specs.Decided.{DecidedRun}
 use Rattle.emv_top.specs.Generating.{AnswersAsked, Generates, IsSummed, IsSummedShort, IsUnsummed, SumsUp, booked, capped, summary_of, summary_text}
 use Rattle.emv_top.specs.StatusCode.{code_of}
@@ -31,15 +31,15 @@ unsummed n s is bank tally ReadFault held other count plays = plays
 unsummed n s is bank tally WriteFault held other count plays = absurd (omega (arith, count))
 unsummed n s is bank tally OutOfMemory held other count (inl unmade) = inl (refl, unmade.1)
 unsummed n s is bank tally OutOfMemory held other count (inr cut) =
-    let at : Stopped (Replays (generated_of n)) (Leaves (generated_of n) bank tally) None None =
-    subst (λ (t : ScenarioData). Stopped (Replays t) (Leaves t bank tally) None None) is cut in
+    let at : Stopped (generated_of n) all_lines (ToldReplays (generated_of n)) (Leaves (generated_of n) bank tally) None None =
+    subst (λ (t : ScenarioData). Stopped t all_lines (ToldReplays t) (Leaves t bank tally) None None) is cut in
     inr (record {
-      place = at.reached.0;
+      place = at.reached.0.0;
       count = at.count;
       choices = at.choices;
       lines = at.before ++ at.last;
       world = at.world;
-      reached = at.reached.1;
+      reached = at.reached.0.1;
       leaves = at.stands;
       unwritten = refl;
     })

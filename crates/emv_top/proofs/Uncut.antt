@@ -15,7 +15,7 @@ use Rattle.txn_replay.specs.Changes.{powered, exchanged, told_once}
 use Rattle.txn_replay.specs.Lines.{answer_lines, gone_lines}
 use Rattle.txn_replay.specs.Part.{Part, settled_by, cut_ends, answered, canned_by, asked_by, asked, begun, begun_by, begun_with, piece_by, piece}
 use Rattle.txn_replay.specs.Payment.{Payment, deal_for, end_at}
-use Rattle.txn_replay.specs.World.{Holder, CardRow}
+use Rattle.txn_replay.specs.World.{Holder, CardRow, LaneRow, with_sent}
 use Rattle.txn_replay.proofs.Moves.{this_one}
 
 abbrev pub IsSettled : CardRow → Type 0
@@ -27,14 +27,14 @@ none_cut made [] = refl
 none_cut made (d ∷ ds) = ap (λ (o : Option Cut). option_map (behind_one d) o) (none_cut (made + 1) ds)
 
 module _ (p : Payment) (part : Part) (spared : p.card.canned ≡ None → p.planned.tear ≡ None) (before : IsSettled part.card) where
-  settled_card : (replies : List Reply) (card : CardRow) (messages : List (List ℕ)) (lines : List Line) (e : Option EndData) → IsSettled card
-      → IsSettled (settled_by p replies (record { lane = part.lane; card = card; messages = messages }) lines e).part.card
-  settled_card replies card messages lines None here = here
-  settled_card replies card messages lines (Some end) here = here
+  settled_card : (replies : List Reply) (lane : LaneRow) (card : CardRow) (messages : List (List ℕ)) (lines : List Line) (e : Option EndData)
+      → IsSettled card → IsSettled (settled_by p replies (record { lane = lane; card = card; messages = messages }) lines e).part.card
+  settled_card replies lane card messages lines None here = here
+  settled_card replies lane card messages lines (Some end) here = here
 
   answer_card : (replies : List Reply) (command : List ℕ) (said : CardAnswer) (cut : Option Cut) → cut ≡ None → IsSettled (answered p replies command part said cut).part.card
   answer_card replies command said None none =
-      settled_card (replies ++ CardSaid said.answer part.lane.log ∷ []) (exchanged p.card.image part.card command said) part.messages
+      settled_card (replies ++ CardSaid said.answer part.lane.log ∷ []) part.lane (exchanged p.card.image part.card command said) part.messages
       (answer_lines p.lane command said.answer) (end_at p (replies ++ CardSaid said.answer part.lane.log ∷ [])) before
   answer_card replies command said (Some cut) none = absurd (cc)
 
@@ -45,7 +45,7 @@ module _ (p : Payment) (part : Part) (spared : p.card.canned ≡ None → p.plan
 
   tell_card : (replies : List Reply) (command : List ℕ) (o : Option (List ℕ)) → IsSettled (canned_by p replies command part o).part.card
   tell_card replies command (Some answer) =
-      settled_card (replies ++ CardSaid answer part.lane.log ∷ []) (told_once part.card) part.messages (answer_lines p.lane command answer)
+      settled_card (replies ++ CardSaid answer part.lane.log ∷ []) part.lane (told_once part.card) part.messages (answer_lines p.lane command answer)
       (end_at p (replies ++ CardSaid answer part.lane.log ∷ [])) before
   tell_card replies command None = gone_card (replies ++ CardGone ∷ []) (gone_lines p.lane command) (end_at p (replies ++ CardGone ∷ []))
 
@@ -59,18 +59,20 @@ module _ (p : Payment) (part : Part) (spared : p.card.canned ≡ None → p.plan
 
   ask_card : (replies : List Reply) (deed : Deed) → IsSettled (asked p replies part deed).part.card
   ask_card replies (ToCard command) = kind_card replies command p.card.canned refl
-  ask_card replies (ToHost message) = settled_card _ part.card _ _ _ before
+  ask_card replies (ToHost message) = settled_card _ (with_sent message part.lane) part.card _ _ _ before
   ask_card replies (Over ending) = before
 
   begin_card : (choice torn_there : Bool) → torn_there ≡ false → IsSettled (begun_by p part choice torn_there).part.card
   begin_card choice true none = absurd (cc)
   begin_card choice false none =
-      settled_card [] (powered part.card (found_of part.card.kept part.card.pending choice) (Some (this_one p part))) part.messages _ (end_at p []) refl
+      settled_card [] (record part.lane { began = Some (found_of part.card.kept part.card.pending choice) })
+      (powered part.card (found_of part.card.kept part.card.pending choice) (Some (this_one p part))) part.messages _ (end_at p []) refl
 
   kind_begins : (choice : Bool) (o : Option (List (List ℕ))) → p.card.canned ≡ o → IsSettled (begun_with p part choice o).part.card
   kind_begins choice None is = begin_card choice (is_named p.planned.tear 0) (ap (λ (tear : Option Tear). is_named tear 0) (spared is))
   kind_begins choice (Some answers) is =
-      settled_card [] (powered part.card (found_of part.card.kept part.card.pending false) (Some (this_one p part))) part.messages _ (end_at p []) refl
+      settled_card [] (record part.lane { began = None })
+      (powered part.card (found_of part.card.kept part.card.pending false) (Some (this_one p part))) part.messages _ (end_at p []) refl
 
   pub piece_card : (choice : Bool) → IsSettled (piece p part choice).part.card
   piece_card choice = by_lane part.lane.running

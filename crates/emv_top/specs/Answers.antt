@@ -6,7 +6,7 @@ use Rattle.emv_ports.specs.Causes.{Rose}
 use Rattle.emv_ports.specs.Growth.{AppendsFront}
 use Rattle.emv_ports.specs.Memory.{Memory, IsBlank}
 use Rattle.emv_ports.specs.Reading.{ReadsUpTo}
-use Rattle.emv_top.specs.Courses.{Ends, Replays, Reads, Stopped}
+use Rattle.emv_top.specs.Courses.{Ends, Replays, Reads, Stopped, all_lines, shown_lines}
 use Rattle.emv_top.specs.Decided.{DecidedRun}
 use Rattle.emv_top.specs.Input.{IsInput}
 use Rattle.emv_top.specs.Texts.{text_of}
@@ -24,6 +24,7 @@ use Rattle.scenario_fields.specs.declared.fault.ScenarioFault.{ScenarioFault}
 use Rattle.txn_replay.specs.Counting.{counts}
 use Rattle.txn_replay.specs.Laws.{IsFair}
 use Rattle.txn_replay.specs.Reading.{ReadRun, to_read}
+use Rattle.txn_replay.specs.Told.{HasLosses}
 use Rattle.txn_replay.specs.World.{World, card_at}
 use Rattle.txn_replay.specs.Seen.{BankStands}
 
@@ -64,6 +65,10 @@ pub record Completes (runs : List Line → World → Type 0) (holds : World → 
   pub stands : holds world
   pub written : Appends old new (text_of lines)
 
+-- a run that was cut: its lines tell how often each card lost its power
+abbrev pub ToldReplays : ScenarioData → Ends
+ToldReplays s n choices lines w tail = Replays s n choices lines w tail × HasLosses s lines w
+
 -- the runs that an order asks for, and the scenario whose cards, lanes and host they are of: in a whole run each purchase
 -- with a well-formed card is decided, and a card is read without its purchase's tear
 abbrev pub runs_of : Order → ScenarioData → List Line → World → Type 0
@@ -76,13 +81,17 @@ played Replay s = s
 
 abbrev pub ends_of : Order → ScenarioData → Ends
 ends_of Read s = Reads (to_read s)
-ends_of Replay s = Replays s
+ends_of Replay s = ToldReplays s
+
+abbrev pub shown_of : Order → List Line → List Line
+shown_of Read = shown_lines
+shown_of Replay = all_lines
 
 abbrev pub IsWhole : Order → ScenarioData → Option (List ℕ) → Option (List ℕ) → List Memory → Counts → Type 0
 IsWhole order s old new bank tally = Completes (runs_of order s) (λ w. Leaves (played order s) bank tally w × AreSettled s w) old new
 
 abbrev pub IsCut : Order → ScenarioData → Option (List ℕ) → Option (List ℕ) → List Memory → Counts → Type 0
-IsCut order s old new bank tally = Stopped (ends_of order s) (Leaves (played order s) bank tally) old new
+IsCut order s old new bank tally = Stopped (played order s) (shown_of order) (ends_of order s) (Leaves (played order s) bank tally) old new
 
 -- nothing was written, and nothing begun
 abbrev pub IsUnmade : Option (List ℕ) → Option (List ℕ) → List Memory → Counts → Type 0

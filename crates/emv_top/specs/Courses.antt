@@ -9,7 +9,7 @@ use Rattle.report_text.specs.declared.line.Line.{Line}
 use Rattle.scenario.specs.Plan.{ScenarioData}
 use Rattle.txn_replay.specs.Reading.{ReadReached, is_read, data_at, ending_at, read_lines, without_end}
 use Rattle.txn_replay.specs.Run.{Place, Scheduled, Round, Settling, Auditing, Finished, Reached, closing}
-use Rattle.txn_replay.specs.Steps.{Settlement, Check, settlements, checks}
+use Rattle.txn_replay.specs.Steps.{Settlement, Check, settlements, checks, Step}
 use Rattle.txn_replay.specs.World.{World}
 use Rattle.txn_replay.specs.declared.event.Event.{Event}
 use Rattle.txn_replay.specs.declared.event.Event.TheVariants.{Turn, Settle, Audit}
@@ -41,6 +41,13 @@ read_tail s w = (if is_read s w then read_lines (data_at s w 0) (ending_at w 0) 
 abbrev pub Reads : ScenarioData → Ends
 Reads s n choices lines w tail = ReadReached s n choices lines w × (tail ≡ read_tail s w)
 
+-- what is shown of an event's lines: in a reading no end line
+abbrev pub all_lines : List Line → List Line
+all_lines lines = lines
+
+abbrev pub shown_lines : List Line → List Line
+shown_lines lines = flat_map without_end lines
+
 -- some events were made, and their lines were appended to what the sink held first
 pub record SoFar (course : Course) (holds : World → Type 0) (first held : Option (List ℕ)) : Type 0 where
   pub count : ℕ
@@ -51,18 +58,27 @@ pub record SoFar (course : Course) (holds : World → Type 0) (first held : Opti
   pub stands : holds world
   pub written : Appends first held (text_of lines)
 
--- these lines are those of all events but the last
-pub record IsOneLess (ends : Ends) (count : ℕ) (before : List Line) : Type 0 where
+-- the run without its last event, which leads from there to its world: these lines are those of the earlier events, and of
+-- the last one the others are shown
+pub record IsOneLess (s : ScenarioData) (shown : List Line → List Line) (ends : Ends) (count : ℕ) (choices : List Bool) (before last : List Line)
+    (w : World) : Type 0 where
   pub number : ℕ
-  pub choices : List Bool
+  pub earlier : List Bool
   pub world : World
   pub tail : List Line
-  pub reached : ends number choices before world tail
+  pub reached : ends number earlier before world tail
+  pub event : Event
+  pub taken : List Bool
+  pub made : List Line
+  pub step : Step s world event taken made w
   pub next : number + 1 ≡ count
+  pub joined : earlier ++ taken ≡ choices
+  pub told : shown made ≡ last
 
 -- some events were made, and a front of the text of their lines and of those behind them was appended, which lacks at
 -- most the lines of the last event and those behind all events
-pub record Stopped (ends : Ends) (holds : World → Type 0) (first held : Option (List ℕ)) : Type 0 where
+pub record Stopped (s : ScenarioData) (shown : List Line → List Line) (ends : Ends) (holds : World → Type 0) (first held : Option (List ℕ))
+    : Type 0 where
   pub count : ℕ
   pub choices : List Bool
   pub before : List Line
@@ -71,7 +87,7 @@ pub record Stopped (ends : Ends) (holds : World → Type 0) (first held : Option
   pub world : World
   pub reached : ends count choices (before ++ last) world tail
   pub stands : holds world
-  pub one_less : (last ≡ []) ⊎ IsOneLess ends count before
+  pub one_less : (last ≡ []) ⊎ IsOneLess s shown ends count choices before last world
   pub front : List ℕ
   pub rest : List ℕ
   pub splits : front ++ rest ≡ text_of last ++ text_of tail
@@ -83,9 +99,9 @@ Carries v after old new here there =
     (first : Option (List ℕ)) → SoFar here (WorldStands v) first old → SoFar there (WorldStands after) first new
 
 -- or has stopped
-abbrev pub Halts : WorldSeen → WorldSeen → Option (List ℕ) → Option (List ℕ) → Course → Ends → Type 0
-Halts v after old new here ends =
-    (first : Option (List ℕ)) → SoFar here (WorldStands v) first old → Stopped ends (WorldStands after) first new
+abbrev pub Halts : WorldSeen → WorldSeen → Option (List ℕ) → Option (List ℕ) → Course → ScenarioData → Type 0
+Halts v after old new here s =
+    (first : Option (List ℕ)) → SoFar here (WorldStands v) first old → Stopped s all_lines (Replays s) (WorldStands after) first new
 
 -- a run has come here
 abbrev pub IsAt : WorldSeen → Option (List ℕ) → Course → Type 0
@@ -113,9 +129,3 @@ pub record Breaks (s : ScenarioData) (v : WorldSeen) (w : World) (e : Event) (sh
 -- or nothing was made
 abbrev pub Fails : ScenarioData → WorldSeen → World → Event → (List Line → List Line) → Option (List ℕ) → Option (List ℕ) → Type 0
 Fails s v w e shown old new = Breaks s v w e shown old new ⊎ (WorldStands v w × (new ≡ old))
-
-abbrev pub all_lines : List Line → List Line
-all_lines lines = lines
-
-abbrev pub shown_lines : List Line → List Line
-shown_lines lines = flat_map without_end lines

@@ -3,7 +3,7 @@ ghost use Rattle.std.specs.Prelude.{◌≡◌, ◌≤◌, ◌<◌, ℕ, List, �
 ghost use Rattle.std.specs.Io.KnownBytes.{Appends};
 ghost use Rattle.emv_ports.specs.Growth.{AppendsFront};
 ghost use Rattle.emv_top.specs.Answers.{Completes};
-ghost use Rattle.emv_top.specs.Courses.{Reads, Stopped};
+ghost use Rattle.emv_top.specs.Courses.{Reads, Stopped, shown_lines};
 ghost use Rattle.emv_top.specs.Input.{first_purchases};
 ghost use Rattle.emv_top.specs.Short.{AllShort, IsShort};
 ghost use Rattle.emv_top.specs.Stops.{HasStop};
@@ -131,7 +131,7 @@ pub fn read_through<P: Pages, K: Sink>(
     requires start { WorldStands world.old (first_world scenario.now) }
     ensures ok { OnOk result ((s : ScenarioData) → scenario.now ≡ to_read s
         → Completes (ReadRun s) (WorldStands world.new) (K.held sink.old) (K.held sink.new)) }
-    ensures err { OnErr result (Stopped (Reads scenario.now) (WorldStands world.new) (K.held sink.old) (K.held sink.new)) }
+    ensures err { OnErr result (Stopped scenario.now shown_lines (Reads scenario.now) (WorldStands world.new) (K.held sink.old) (K.held sink.new)) }
     ensures told { world.new.scenario ≡ scenario.now }
     ensures spare { world.new.spare ≡ world.old.spare }
     ensures stop { HasStop (K.faults sink.old) (K.faults sink.new) result }

@@ -4,7 +4,7 @@ ghost use Rattle.std.specs.List.{All};
 ghost use Rattle.emv_ports.specs.Memory.{IsBlank};
 ghost use Rattle.emv_top.specs.Answers.{AreSettled, AreSpare, Completes, Plays, SinkCount};
 ghost use Rattle.emv_top.specs.Decided.{DecidedRun};
-ghost use Rattle.emv_top.specs.Courses.{Carries, Halts, IsAt, Replays, Stopped};
+ghost use Rattle.emv_top.specs.Courses.{Carries, Halts, IsAt, Replays, Stopped, all_lines};
 ghost use Rattle.emv_top.specs.Stops.{HasStop};
 ghost use Rattle.emv_top.specs.declared.status.Status.{Status};
 ghost use Rattle.emv_top.specs.declared.words.Order.{Order};
@@ -24,7 +24,7 @@ use crate::stop::Stop;
 use emv_ports::{Pages, Sink};
 use scenario::Scenario;
 use std::alloc::Global;
-use txn_replay::{NoWorld, World, runs_are_fair};
+use txn_replay::{NoWorld, World, dialects_show, losses_are_told, runs_are_fair};
 
 /// The turns of the schedule.
 pub fn schedule<P: Pages, K: Sink>(
@@ -36,7 +36,7 @@ pub fn schedule<P: Pages, K: Sink>(
     requires rules { IsScenario scenario.now }
     requires told { world.old.scenario ≡ scenario.now }
     ensures ok { OnOk result (Carries world.old world.new (K.held sink.old) (K.held sink.new) (Reached scenario.now (Scheduled 0)) (Reached scenario.now (Round 0))) }
-    ensures err { OnErr result (Halts world.old world.new (K.held sink.old) (K.held sink.new) (Reached scenario.now (Scheduled 0)) (Replays scenario.now)) }
+    ensures err { OnErr result (Halts world.old world.new (K.held sink.old) (K.held sink.new) (Reached scenario.now (Scheduled 0)) scenario.now) }
     ensures told { world.new.scenario ≡ scenario.now }
     ensures spare { world.new.spare ≡ world.old.spare }
     ensures stop { HasStop (K.faults sink.old) (K.faults sink.new) result }
@@ -61,7 +61,7 @@ fn round<P: Pages, K: Sink>(
     requires here { IsAt world.old (K.held sink.old) (Reached scenario.now (Round 0)) }
     requires busy { (w : Told) → WorldStands world.old w → all_over scenario.now w ≡ false }
     ensures ok { OnOk result (Carries world.old world.new (K.held sink.old) (K.held sink.new) (Reached scenario.now (Round 0)) (Reached scenario.now (Round 0))) }
-    ensures err { OnErr result (Halts world.old world.new (K.held sink.old) (K.held sink.new) (Reached scenario.now (Round 0)) (Replays scenario.now)) }
+    ensures err { OnErr result (Halts world.old world.new (K.held sink.old) (K.held sink.new) (Reached scenario.now (Round 0)) scenario.now) }
     ensures nearer { OnOk result (turns_left world.new < turns_left world.old) }
     ensures told { world.new.scenario ≡ scenario.now }
     ensures spare { world.new.spare ≡ world.old.spare }
@@ -88,7 +88,7 @@ pub fn rounds<P: Pages, K: Sink>(
     requires told { world.old.scenario ≡ scenario.now }
     requires here { IsAt world.old (K.held sink.old) (Reached scenario.now (Round 0)) }
     ensures ok { OnOk result (Carries world.old world.new (K.held sink.old) (K.held sink.new) (Reached scenario.now (Round 0)) (Reached scenario.now (Settling 0))) }
-    ensures err { OnErr result (Halts world.old world.new (K.held sink.old) (K.held sink.new) (Reached scenario.now (Round 0)) (Replays scenario.now)) }
+    ensures err { OnErr result (Halts world.old world.new (K.held sink.old) (K.held sink.new) (Reached scenario.now (Round 0)) scenario.now) }
     ensures done { OnOk result (is_done world.new ≡ true) }
     ensures told { world.new.scenario ≡ scenario.now }
     ensures spare { world.new.spare ≡ world.old.spare }
@@ -112,7 +112,7 @@ pub fn settlement<P: Pages, K: Sink>(
 ) -> Result<(), Stop>
     requires told { world.old.scenario ≡ scenario.now }
     ensures ok { OnOk result (Carries world.old world.new (K.held sink.old) (K.held sink.new) (Reached scenario.now (Settling 0)) (Reached scenario.now (Auditing 0))) }
-    ensures err { OnErr result (Halts world.old world.new (K.held sink.old) (K.held sink.new) (Reached scenario.now (Settling 0)) (Replays scenario.now)) }
+    ensures err { OnErr result (Halts world.old world.new (K.held sink.old) (K.held sink.new) (Reached scenario.now (Settling 0)) scenario.now) }
     ensures done { is_done world.new ≡ is_done world.old }
     ensures told { world.new.scenario ≡ scenario.now }
     ensures spare { world.new.spare ≡ world.old.spare }
@@ -138,7 +138,7 @@ pub fn audits<P: Pages, K: Sink>(
     requires told { world.old.scenario ≡ scenario.now }
     requires done { is_done world.old ≡ true }
     ensures ok { OnOk result (Carries world.old world.new (K.held sink.old) (K.held sink.new) (Reached scenario.now (Auditing 0)) (Reached scenario.now Finished)) }
-    ensures err { OnErr result (Halts world.old world.new (K.held sink.old) (K.held sink.new) (Reached scenario.now (Auditing 0)) (Replays scenario.now)) }
+    ensures err { OnErr result (Halts world.old world.new (K.held sink.old) (K.held sink.new) (Reached scenario.now (Auditing 0)) scenario.now) }
     ensures told { world.new.scenario ≡ scenario.now }
     ensures spare { world.new.spare ≡ world.old.spare }
     ensures stop { HasStop (K.faults sink.old) (K.faults sink.new) result }
@@ -164,7 +164,7 @@ fn events<P: Pages, K: Sink>(
     requires told { world.old.scenario ≡ scenario.now }
     requires here { IsAt world.old (K.held sink.old) (Reached scenario.now (Scheduled 0)) }
     ensures ok { OnOk result (Carries world.old world.new (K.held sink.old) (K.held sink.new) (Reached scenario.now (Scheduled 0)) (Reached scenario.now Finished)) }
-    ensures err { OnErr result (Halts world.old world.new (K.held sink.old) (K.held sink.new) (Reached scenario.now (Scheduled 0)) (Replays scenario.now)) }
+    ensures err { OnErr result (Halts world.old world.new (K.held sink.old) (K.held sink.new) (Reached scenario.now (Scheduled 0)) scenario.now) }
     ensures told { world.new.scenario ≡ scenario.now }
     ensures spare { world.new.spare ≡ world.old.spare }
     ensures stop { HasStop (K.faults sink.old) (K.faults sink.new) result }
@@ -185,7 +185,7 @@ pub fn replay_through<P: Pages, K: Sink>(
     requires told { world.old.scenario ≡ scenario.now }
     requires start { WorldStands world.old (first_world scenario.now) }
     ensures ok { OnOk result (Completes (Run scenario.now) (WorldStands world.new) (K.held sink.old) (K.held sink.new)) }
-    ensures err { OnErr result (Stopped (Replays scenario.now) (WorldStands world.new) (K.held sink.old) (K.held sink.new)) }
+    ensures err { OnErr result (Stopped scenario.now all_lines (Replays scenario.now) (WorldStands world.new) (K.held sink.old) (K.held sink.new)) }
     ensures told { world.new.scenario ≡ scenario.now }
     ensures spare { world.new.spare ≡ world.old.spare }
     ensures stop { HasStop (K.faults sink.old) (K.faults sink.new) result }
@@ -218,6 +218,8 @@ pub fn replay_whole<'s, P: Pages, K: Sink>(
 {
     runs_are_fair();
     runs_are_decided();
+    losses_are_told();
+    dialects_show();
     match World::new(alloc, scenario, bank) {
         Ok(world) => {
             let mut world = world;

@@ -3,21 +3,34 @@ use Rattle.std.proofs.Common.{◌≡◌, ◌+◌, Bool, ℕ, List, [], ◌∷◌
 use Rattle.std.specs.Global.{Box}
 use Rattle.std.specs.Prelude.{IsSomeAnd}
 use Rattle.card_pages.specs.Pages.{found_of}
+use Rattle.card_state.specs.Decisions.{Decided}
 use Rattle.kernel.specs.Ended.{EndData}
 use Rattle.kernel.specs.Kernel.{KernelData}
 use Rattle.kernel.specs.Reply.{Reply, CardGone}
 use Rattle.kernel.specs.Tally.{Counts, raised}
 use Rattle.report_text.specs.declared.line.Line.{Line}
 use Rattle.txn_replay.specs.Called.{IsSpared, IsPowered, IsLost, powered_line}
-use Rattle.txn_replay.specs.Changes.{powered, lost}
+use Rattle.txn_replay.specs.Changes.{lost}
 use Rattle.txn_replay.specs.Lines.{power_torn_line, end_line}
-use Rattle.txn_replay.specs.Part.{Part, lane_ended, settled, cut_ends, begun_by, begun_with}
+use Rattle.txn_replay.specs.Part.{Part, lane_ended, settled, on_for, cut_ends, begun_by, begun_with}
 use Rattle.txn_replay.specs.Payment.{Payment, end_at}
 use Rattle.txn_replay.specs.Slot.{SlotSeen, IsSlotOf, HasLost}
 use Rattle.txn_replay.specs.Standing.{RunStands, LaneKeeps, LaneStands, PartRests, PartRuns, MovedTo, IsCounted, Led}
 use Rattle.txn_replay.specs.World.{LaneRow}
 use Rattle.txn_replay.specs.declared.lane.Lane.{Lane}
 use Rattle.txn_replay.proofs.Moves.{this_one}
+
+-- what a purchase began with isn't kept
+keeps_began : (lane : Lane) (row : LaneRow) (found : Option (List Decided)) → LaneKeeps lane row → LaneKeeps lane (record row { began = found })
+keeps_began lane row found keeps = record {
+  ended = keeps.ended;
+  log = keeps.log;
+  amounts = keeps.amounts;
+  captures = keeps.captures;
+  messages = keeps.messages;
+  card = keeps.card;
+  ending = keeps.ending;
+}
 
 -- a lane with another terminal in it
 pub kept_on : (lane later : Lane) (row : LaneRow) → IsSomeAnd later.running (λ kernel. later ≡ record lane { running = Some kernel; place = later.place }) → LaneKeeps lane row
@@ -30,6 +43,7 @@ kept_on lane later row same keeps replies = by later.running same
       log = keeps.log;
       amounts = keeps.amounts;
       captures = keeps.captures;
+      messages = keeps.messages;
       card = λ none. cc;
       ending = keeps.ending;
     }
@@ -39,15 +53,27 @@ kept_on lane later row same keeps replies = by later.running same
     by (Some kernel) is = subst (λ (x : Lane). LaneKeeps x (record row { running = Some replies })) (sym is) (with_it kernel)
 
 module _ (p : Payment) (lane : Lane) (slot next : SlotSeen) (part : Part) (rests : PartRests p lane slot part) (is : IsSlotOf next p.card) where
+  -- a card of canned answers decides nothing
+  abbrev pub began_in : Option (List (List ℕ)) → List Decided → Option (List Decided)
+  began_in None found = Some found
+  began_in (Some answers) found = None
+
   -- powered up
+  abbrev pub begun_as : Option (List (List ℕ)) → Bool → Part
+  begun_as canned choice =
+      on_for p (began_in canned (found_of part.card.kept part.card.pending choice)) (found_of part.card.kept part.card.pending choice) part
+
   abbrev pub begun_part : Bool → Part
-  begun_part choice = record part { card = powered part.card (found_of part.card.kept part.card.pending choice) (Some (this_one p part)) }
+  begun_part choice = begun_as p.card.canned choice
 
   pub powered_runs : (later : Lane) (choice : Bool) → IsPowered next p.card part.card p.planned.tear choice → HasLost next part.card.losses
       → IsSomeAnd later.running (λ kernel. later ≡ record lane { running = Some kernel; place = later.place }) → RunStands later.running p (Some [])
       → PartRuns p later next [] (begun_part choice)
   powered_runs later choice up losses same told = record {
-    lane_is = record { keeps = kept_on lane later part.lane same rests.keeps []; running = told };
+    lane_is = record {
+      keeps = kept_on lane later (begun_part choice).lane same (keeps_began lane part.lane (begun_part choice).lane.began rests.keeps) [];
+      running = told;
+    };
     holder = this_one p part;
     has = refl;
     on = up.on (Some (this_one p part));
@@ -65,16 +91,16 @@ module _ (p : Payment) (lane : Lane) (slot next : SlotSeen) (part : Part) (rests
   powered_led later after before tally lines choice spared = by p.card.canned spared
     where
       by : (canned : Option (List (List ℕ))) → IsSpared p.planned.tear choice canned
-          → MovedTo p later after lines (settled p [] (begun_part choice) (begun_lines choice canned))
-          → IsCounted before tally part.lane.ended (settled p [] (begun_part choice) (begun_lines choice canned)).part.lane.ended
+          → MovedTo p later after lines (settled p [] (begun_as canned choice) (begun_lines choice canned))
+          → IsCounted before tally part.lane.ended (settled p [] (begun_as canned choice) (begun_lines choice canned)).part.lane.ended
           → Led p later after before tally lines part (begun_with p part choice canned)
       by None spared moved counted =
           subst (λ b. Led p later after before tally lines part (begun_by p part choice b)) (sym spared)
           (record { moved = record { lane_is = moved.lane_is; card = moved.card; lines_are = moved.lines_are }; counted = counted })
       by (Some answers) none moved counted =
           record {
-            moved = subst (λ b. MovedTo p later after lines (settled p [] (begun_part b) (begun_lines b (Some answers)))) none moved;
-            counted = subst (λ b. IsCounted before tally part.lane.ended (settled p [] (begun_part b) (begun_lines b (Some answers))).part.lane.ended) none counted;
+            moved = subst (λ b. MovedTo p later after lines (settled p [] (begun_as (Some answers) b) (begun_lines b (Some answers)))) none moved;
+            counted = subst (λ b. IsCounted before tally part.lane.ended (settled p [] (begun_as (Some answers) b) (begun_lines b (Some answers))).part.lane.ended) none counted;
           }
 
   -- and cut off
@@ -93,5 +119,5 @@ module _ (p : Payment) (lane : Lane) (slot next : SlotSeen) (part : Part) (rests
           card = record { is = is; losses = cut.losses; stands = cut.off };
           lines_are = made;
         };
-        counted = (record { replies = CardGone ∷ []; end = end } ∷ [], refl, counted);
+        counted = (record { began = part.lane.began; replies = CardGone ∷ []; end = end } ∷ [], refl, counted);
       })))

@@ -24,6 +24,7 @@ use Rattle.txn_replay.proofs.Lists.{set_other, set_here}
 use Rattle.txn_replay.proofs.Payments.{payment_facts}
 use Rattle.txn_replay.proofs.Sounding.{card_sound}
 use Rattle.txn_replay.proofs.Turning.{below_over, over_next}
+use Rattle.txn_replay.proofs.Sending.{LanesLike}
 use Rattle.txn_replay.proofs.Waiting.{stays_over}
 
 index_is : (i : ℕ) (card : CardData) (question : Option Question) → index_of (check_by i card question) ≡ i
@@ -64,7 +65,7 @@ module _ (v : WorldSeen) (w : World) (stands : WorldStands v w) (over : all_over
   -- no event where none is left
   pub none_checks : (k : ℕ) → slice_get (checks v.scenario) k ≡ None → Goes v w (Audit k) []
   none_checks k none =
-      let is : happens v.scenario w (Audit k) false ≡ nothing w = ap (λ (o : Option Check). audits w false o) none in
+      let is : happens v.scenario w (Audit k) [] ≡ nothing w = ap (λ (o : Option Check). audits w [] o) none in
       record {
         choices = [];
         after = w;
@@ -81,6 +82,9 @@ module _ (v : WorldSeen) (w : World) (stands : WorldStands v w) (over : all_over
         (on : SlotOn next row None) where
       abbrev after : World
       after = with_card w i row
+
+      same_lanes : LanesLike after w
+      same_lanes = record { count = refl; each = λ l. refl }
 
       here : card_at after i ≡ row
       here =
@@ -102,7 +106,7 @@ module _ (v : WorldSeen) (w : World) (stands : WorldStands v w) (over : all_over
                 (subst (λ (c : CardData). SlotStands v.scenario after other c row) card_is
                 (subst (λ (x : SlotSeen). SlotStands v.scenario after x card row) slot_is
                 (inr (record {
-                  over = stays_over v.scenario w after refl over;
+                  over = stays_over v.scenario w after same_lanes over;
                   is = is_of;
                   losses = subst (λ n. HasLost next n) (sym count) losses;
                   free = holder ∙ rests.free;
@@ -114,7 +118,7 @@ module _ (v : WorldSeen) (w : World) (stands : WorldStands v w) (over : all_over
                 (elim (stands.slots j other its (sym (set_other v.slots i j next differs) ∙ at) its_is) [
                   | inl stood ↦ inl stood
                   | inr audited ↦ inr (record {
-                    over = stays_over v.scenario w after refl audited.over;
+                    over = stays_over v.scenario w after same_lanes audited.over;
                     is = audited.is;
                     losses = audited.losses;
                     free = audited.free;
@@ -137,10 +141,11 @@ module _ (v : WorldSeen) (w : World) (stands : WorldStands v w) (over : all_over
       pub one_checks : (question : Option Question) (choice : Bool) → slice_get (checks v.scenario) k ≡ Some (check_by i card question)
           → IsChecked next card (card_at w i) question choice lines → Goes value w (Audit k) lines
       one_checks None choice at checked =
-          let is_so : happens v.scenario w (Audit k) choice ≡ audits w choice (Some (PowersUp i card)) = ap (λ (o : Option Check). audits w choice o) at in
+          let is_so : happens v.scenario w (Audit k) (choice ∷ []) ≡ audits w (choice ∷ []) (Some (PowersUp i card)) =
+          ap (λ (o : Option Check). audits w (choice ∷ []) o) at in
           record {
             choices = choice ∷ [];
-            after = (audits w choice (Some (PowersUp i card))).world;
+            after = (audits w (choice ∷ []) (Some (PowersUp i card))).world;
             step = record {
               taken = ap (λ (x : After). x.choices) (sym is_so);
               made = checked.lines_are ∙ ap (λ (x : After). x.lines) (sym is_so);
@@ -149,10 +154,10 @@ module _ (v : WorldSeen) (w : World) (stands : WorldStands v w) (over : all_over
             stands = checked_stands (checked_row card (card_at w i) None choice) refl refl checked.on;
           }
       one_checks (Some question) choice at checked =
-          let is_so : happens v.scenario w (Audit k) false ≡ audits w false (Some (check_by i card (Some question))) = ap (λ (o : Option Check). audits w false o) at in
+          let is_so : happens v.scenario w (Audit k) [] ≡ audits w [] (Some (check_by i card (Some question))) = ap (λ (o : Option Check). audits w [] o) at in
           record {
             choices = [];
-            after = (audits w false (Some (check_by i card (Some question)))).world;
+            after = (audits w [] (Some (check_by i card (Some question)))).world;
             step = record {
               taken = ap (λ (x : After). x.choices) (sym is_so);
               made = checked.lines_are ∙ ap (λ (x : After). x.lines) (sym is_so);

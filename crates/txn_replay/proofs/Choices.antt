@@ -5,23 +5,24 @@ use Rattle.card_pages.specs.Cuts.{Cut, cut_of}
 use Rattle.card_pages.specs.Pages.{found_of}
 use Rattle.card_pages.specs.Replies.{CardAnswer}
 use Rattle.emv_ports.specs.Cut.{is_named}
+use Rattle.host_link.specs.Delivery.{heard}
 use Rattle.issuer_host.specs.History.{host_reply}
 use Rattle.kernel.specs.Dialogue.{dialogue}
 use Rattle.kernel.specs.Ended.{EndData}
 use Rattle.kernel.specs.Reply.{Reply, CardSaid, CardGone, from_host, Deed, ToCard, ToHost, Over}
 use Rattle.report_text.specs.declared.line.Line.{Line}
-use Rattle.txn_replay.specs.Changes.{powered, exchanged, told_once, torn, lost}
+use Rattle.txn_replay.specs.Changes.{exchanged, told_once, torn, lost}
 use Rattle.txn_replay.specs.Lines.{answer_lines, torn_lines, gone_lines, host_lines, power_canned_line, power_torn_line}
-use Rattle.txn_replay.specs.Part.{Part, Moved, delivered, heard, settled_by, cut_ends, answered, canned_by, asked_by, asked, begun, begun_by, begun_with, piece_by, piece}
+use Rattle.txn_replay.specs.Part.{Part, Moved, settled_by, sending, on_for, cut_ends, answered, canned_by, asked_by, asked, begun, begun_by, begun_with, piece_by, piece}
 use Rattle.txn_replay.specs.Payment.{Payment, deal_for, end_at}
-use Rattle.txn_replay.specs.Steps.{first_of}
+use Rattle.txn_replay.specs.Steps.{choice_in}
 use Rattle.txn_replay.specs.World.{Holder}
 
 -- these truth values are taken
 pub record Taken (f : Bool → Moved) (choice : Bool) : Type 0 where
   pub choices : List Bool
-  pub count : length choices ≡ (f (first_of choices)).choices
-  pub same : f (first_of choices) ≡ f choice
+  pub count : length choices ≡ (f (choice_in choices 0)).choices
+  pub same : f (choice_in choices 0) ≡ f choice
 
 -- none is
 none_taken : (m : Moved) (choice : Bool) → m.choices ≡ 0 → Taken (λ b. m) choice
@@ -60,8 +61,8 @@ none_by p replies command part (Some answers) = none_told p replies command part
 none_asked : (p : Payment) (replies : List Reply) (part : Part) (deed : Deed) → (asked p replies part deed).choices ≡ 0
 none_asked p replies part (ToCard command) = none_by p replies command part p.card.canned
 none_asked p replies part (ToHost message) =
-    none_settled p (replies ++ from_host (reply_to message) ∷ []) (record part { messages = part.messages ++ delivered p.planned.link message })
-    (host_lines p.lane message (reply_to message)) (end_at p (replies ++ from_host (reply_to message) ∷ []))
+    none_settled p (replies ++ from_host (reply_to message) ∷ []) (sending p message part)
+    (host_lines p.iso p.lane message (reply_to message)) (end_at p (replies ++ from_host (reply_to message) ∷ []))
   where
     reply_to : List ℕ → Option (List ℕ)
     reply_to m = heard p.planned.link (host_reply p.issuer p.accounts part.messages m)
@@ -78,9 +79,7 @@ choice_taken p part choice = by_lane part.lane.running
     by_kind : (o : Option (List (List ℕ))) → Taken (λ b. begun_with p part b o) choice
     by_kind None = by_tear (is_named p.planned.tear 0)
     by_kind (Some answers) = none_taken (begun_with p part choice (Some answers)) choice
-        (none_settled p []
-        (record part { card = powered part.card (found_of part.card.kept part.card.pending false) (Some (record { lane = p.lane; number = length part.lane.ended })) })
-        (power_canned_line p.lane p.card ∷ []) (end_at p []))
+        (none_settled p [] (on_for p None (found_of part.card.kept part.card.pending false) part) (power_canned_line p.lane p.card ∷ []) (end_at p []))
 
     by_holder : (o : Option Holder) → Taken (λ b. begun p part b o) choice
     by_holder None = by_kind p.card.canned

@@ -4,6 +4,7 @@ use Rattle.card_app.specs.Answering.{card_answer}
 use Rattle.card_files.specs.Views.{AppData}
 use Rattle.card_pages.specs.Cuts.{Cut, cut_of}
 use Rattle.card_pages.specs.Pages.{found_of}
+use Rattle.card_state.specs.Decisions.{Decided}
 use Rattle.emv_ports.specs.Cut.{is_named}
 use Rattle.emv_ports.specs.declared.tear.Tear.{Tear}
 use Rattle.kernel.specs.Dialogue.{dialogue}
@@ -12,7 +13,7 @@ use Rattle.kernel.specs.Reply.{Reply, CardSaid, CardGone, Deed, ToCard, ToHost, 
 use Rattle.report_text.specs.declared.line.Line.{Line}
 use Rattle.txn_replay.specs.Changes.{powered, exchanged, told_once, torn, lost, freed}
 use Rattle.txn_replay.specs.Lines.{torn_lines, gone_lines, power_torn_line}
-use Rattle.txn_replay.specs.Part.{Part, settled_by, cut_ends, answered, canned_by, asked_by, asked, begun, begun_by, begun_with, piece_by, piece}
+use Rattle.txn_replay.specs.Part.{Part, settled_by, sending, on_for, cut_ends, answered, canned_by, asked_by, asked, begun, begun_by, begun_with, piece_by, piece}
 use Rattle.txn_replay.specs.Payment.{Payment, deal_for, end_at}
 use Rattle.txn_replay.specs.World.{Holder, CardRow, new_card}
 
@@ -76,7 +77,7 @@ module _ (P : List AppData → CardRow → Type 0) (closed : Closed P) (p : Paym
   ask_keeps : (replies : List Reply) (part : Part) (deed : Deed) (h : Holder) → part.card.holder ≡ Some h → P p.card.image part.card
       → P p.card.image (asked p replies part deed).part.card
   ask_keeps replies part (ToCard command) h has holds = kind_keeps replies command part p.card.canned h has holds
-  ask_keeps replies part (ToHost message) h has holds = settled_keeps _ (record part { messages = _ }) _ _ holds
+  ask_keeps replies part (ToHost message) h has holds = settled_keeps _ (sending p message part) _ _ holds
   ask_keeps replies part (Over ending) h has holds = holds
 
   begin_keeps : (part : Part) (choice torn_there : Bool) → P p.card.image part.card → P p.card.image (begun_by p part choice torn_there).part.card
@@ -84,16 +85,16 @@ module _ (P : List AppData → CardRow → Type 0) (closed : Closed P) (p : Paym
       cut_keeps (CardGone ∷ []) part (record part { card = lost part.card }) (power_torn_line p.lane p.card ∷ []) (end_at p (CardGone ∷ [])) holds
       (closed.frees p.card.image (lost part.card) (closed.loses p.card.image part.card holds))
   begin_keeps part choice false holds =
-      let has : Option Holder = Some (record { lane = p.lane; number = length part.lane.ended }) in
-      settled_keeps [] (record part { card = powered part.card (found_of part.card.kept part.card.pending choice) has }) _ (end_at p [])
-      (closed.powers p.card.image part.card choice has holds)
+      let found : List Decided = found_of part.card.kept part.card.pending choice in
+      settled_keeps [] (on_for p (Some found) found part) _ (end_at p [])
+      (closed.powers p.card.image part.card choice (Some (record { lane = p.lane; number = length part.lane.ended })) holds)
 
   kind_begins : (part : Part) (choice : Bool) (o : Option (List (List ℕ))) → P p.card.image part.card → P p.card.image (begun_with p part choice o).part.card
   kind_begins part choice None holds = begin_keeps part choice (is_named p.planned.tear 0) holds
   kind_begins part choice (Some answers) holds =
-      let has : Option Holder = Some (record { lane = p.lane; number = length part.lane.ended }) in
-      settled_keeps [] (record part { card = powered part.card (found_of part.card.kept part.card.pending false) has }) _ (end_at p [])
-      (closed.powers p.card.image part.card false has holds)
+      let found : List Decided = found_of part.card.kept part.card.pending false in
+      settled_keeps [] (on_for p None found part) _ (end_at p [])
+      (closed.powers p.card.image part.card false (Some (record { lane = p.lane; number = length part.lane.ended })) holds)
 
   pub piece_keeps : (part : Part) (choice : Bool) (h : Holder) → ((replies : List Reply) → part.lane.running ≡ Some replies → part.card.holder ≡ Some h)
       → P p.card.image part.card → P p.card.image (piece p part choice).part.card

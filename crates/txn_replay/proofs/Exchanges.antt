@@ -29,6 +29,7 @@ lane_on p lane row replies more kernel stands told deal = record {
     log = stands.keeps.log;
     amounts = stands.keeps.amounts;
     captures = stands.keeps.captures;
+    messages = stands.keeps.messages;
     card = λ none. cc;
     ending = stands.keeps.ending;
   };
@@ -135,4 +136,4 @@ module _ (p : Payment) (lane : Lane) (slot next : SlotSeen) (replies : List Repl
         → IsCounted before after part.lane.ended (asked_card p replies command part).part.lane.ended
     gone_counted before after one =
         subst (λ (m : Moved). IsCounted before after part.lane.ended m.part.lane.ended) (sym ended.same)
-        (record { replies = replies ++ CardGone ∷ []; end = end } ∷ [], refl, one)
+        (record { began = part.lane.began; replies = replies ++ CardGone ∷ []; end = end } ∷ [], refl, one)

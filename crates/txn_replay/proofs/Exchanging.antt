@@ -5,6 +5,7 @@ use Rattle.card_app.specs.Answering.{card_answer}
 use Rattle.card_pages.specs.Cuts.{Cut, cut_of}
 use Rattle.card_pages.specs.Pages.{found_of}
 use Rattle.emv_ports.specs.Cut.{is_named}
+use Rattle.host_link.specs.Delivery.{delivered, heard}
 use Rattle.issuer_host.specs.History.{host_reply}
 use Rattle.kernel.specs.Dialogue.{dialogue}
 use Rattle.kernel.specs.Ended.{EndData}
@@ -12,99 +13,115 @@ use Rattle.kernel.specs.Reply.{Reply, CardSaid, CardGone, from_host, Deed, ToCar
 use Rattle.report_text.specs.declared.line.Line.{Line}
 use Rattle.txn_replay.specs.Changes.{powered, exchanged, told_once, torn, lost, freed}
 use Rattle.txn_replay.specs.Lines.{power_line, power_canned_line, power_torn_line, answer_lines, torn_lines, gone_lines, host_lines, end_line}
-use Rattle.txn_replay.specs.Part.{Part, Moved, lane_ended, delivered, heard, settled_by, cut_ends, answered, canned_by, asked_by, asked, begun, begun_by, begun_with, piece_by, piece}
+use Rattle.txn_replay.specs.Part.{Part, Moved, lane_ended, settled_by, cut_ends, answered, canned_by, asked_by, asked, begun, begun_by, begun_with, piece_by, piece}
 use Rattle.txn_replay.specs.Payment.{Payment, deal_for, end_at}
-use Rattle.txn_replay.specs.World.{Holder, CardRow}
+use Rattle.txn_replay.specs.World.{Holder, CardRow, LaneRow, with_sent}
 use Rattle.txn_replay.proofs.Moves.{this_one}
+use Rattle.txn_replay.proofs.Sending.{Later, as_is, beginning, messaging}
 
 -- what came of the replies, the card, the messages and the lines leads to what holds behind the exchange
-pub record Tells (p : Payment) (part : Part) (Came : List Reply → CardRow → List (List ℕ) → List Line → Type 0) (R : Part → List Line → Type 0) : Type 0 where
+pub record Tells (p : Payment) (part : Part) (Came : LaneRow → List Reply → CardRow → List (List ℕ) → List Line → Type 0) (R : Part → List Line → Type 0) : Type 0 where
   pub still : R part []
-  pub goes : (replies : List Reply) (card : CardRow) (messages : List (List ℕ)) (lines : List Line) → Came replies card messages lines
-      → R (record { lane = record part.lane { running = Some replies }; card = card; messages = messages }) lines
-  pub ends : (replies : List Reply) (card : CardRow) (messages : List (List ℕ)) (lines : List Line) → Came replies card messages lines
-      → (end : EndData) → end_at p replies ≡ Some end
-      → R (record { lane = lane_ended p replies end part.lane; card = freed card; messages = messages })
-      (lines ++ end_line p.lane (length part.lane.ended + 1) end ∷ [])
-  pub powers : part.card.holder ≡ None → p.card.canned ≡ None → (choice : Bool)
-      → Came [] (powered part.card (found_of part.card.kept part.card.pending choice) (Some (this_one p part))) part.messages
+  pub goes : (lane : LaneRow) → Later part.lane lane → (replies : List Reply) (card : CardRow) (messages : List (List ℕ)) (lines : List Line)
+      → Came lane replies card messages lines
+      → R (record { lane = record lane { running = Some replies }; card = card; messages = messages }) lines
+  pub ends : (lane : LaneRow) → Later part.lane lane → (replies : List Reply) (card : CardRow) (messages : List (List ℕ)) (lines : List Line)
+      → Came lane replies card messages lines → (end : EndData) → end_at p replies ≡ Some end
+      → R (record { lane = lane_ended p replies end lane; card = freed card; messages = messages })
+      (lines ++ end_line p.lane (length lane.ended + 1) end ∷ [])
+  pub powers : part.lane.running ≡ None → part.card.holder ≡ None → p.card.canned ≡ None → (choice : Bool)
+      → Came (record part.lane { began = Some (found_of part.card.kept part.card.pending choice) }) [] (powered part.card (found_of part.card.kept part.card.pending choice) (Some (this_one p part))) part.messages
       (power_line p.lane p.card (found_of part.card.kept part.card.pending choice) ∷ [])
-  pub power_cut : part.card.holder ≡ None → Came (CardGone ∷ []) (lost part.card) part.messages (power_torn_line p.lane p.card ∷ [])
-  pub powers_canned : part.card.holder ≡ None
-      → Came [] (powered part.card (found_of part.card.kept part.card.pending false) (Some (this_one p part))) part.messages
+  pub power_cut : part.lane.running ≡ None → part.card.holder ≡ None → p.card.canned ≡ None → is_named p.planned.tear 0 ≡ true
+      → Came part.lane (CardGone ∷ []) (lost part.card) part.messages (power_torn_line p.lane p.card ∷ [])
+  pub powers_canned : part.lane.running ≡ None → part.card.holder ≡ None → (answers : List (List ℕ)) → p.card.canned ≡ Some answers
+      → Came (record part.lane { began = None }) [] (powered part.card (found_of part.card.kept part.card.pending false) (Some (this_one p part))) part.messages
       (power_canned_line p.lane p.card ∷ [])
   pub answers : (replies : List Reply) → part.lane.running ≡ Some replies → p.card.canned ≡ None → (command : List ℕ)
-      → Came (replies ++ CardSaid (card_answer p.card.image part.card.kept part.card.session command).answer part.lane.log ∷ [])
+      → (dialogue (deal_for p) replies).deed ≡ ToCard command
+      → Came part.lane (replies ++ CardSaid (card_answer p.card.image part.card.kept part.card.session command).answer part.lane.log ∷ [])
       (exchanged p.card.image part.card command (card_answer p.card.image part.card.kept part.card.session command)) part.messages
       (answer_lines p.lane command (card_answer p.card.image part.card.kept part.card.session command).answer)
   pub cuts : (replies : List Reply) → part.lane.running ≡ Some replies → (command : List ℕ) (cut : Cut)
       → cut_of p.planned.tear part.card.made (card_answer p.card.image part.card.kept part.card.session command).new ≡ Some cut
-      → Came (replies ++ CardGone ∷ []) (torn part.card p.planned.tear cut) part.messages (torn_lines p.lane command)
+      → Came part.lane (replies ++ CardGone ∷ []) (torn part.card p.planned.tear cut) part.messages (torn_lines p.lane command)
   pub tells : (replies : List Reply) → part.lane.running ≡ Some replies → (answers : List (List ℕ)) → p.card.canned ≡ Some answers
       → (command answer : List ℕ)
-      → Came (replies ++ CardSaid answer part.lane.log ∷ []) (told_once part.card) part.messages (answer_lines p.lane command answer)
-  pub gone : (replies : List Reply) → part.lane.running ≡ Some replies → (command : List ℕ)
-      → Came (replies ++ CardGone ∷ []) part.card part.messages (gone_lines p.lane command)
-  pub hosts : (replies : List Reply) → part.lane.running ≡ Some replies → (message : List ℕ) (reply : Option (List ℕ))
-      → Came (replies ++ from_host reply ∷ []) part.card (part.messages ++ delivered p.planned.link message) (host_lines p.lane message reply)
+      → Came part.lane (replies ++ CardSaid answer part.lane.log ∷ []) (told_once part.card) part.messages (answer_lines p.lane command answer)
+  pub gone : (replies : List Reply) → part.lane.running ≡ Some replies → (answers : List (List ℕ)) → p.card.canned ≡ Some answers
+      → (command : List ℕ)
+      → Came part.lane (replies ++ CardGone ∷ []) part.card part.messages (gone_lines p.lane command)
+  pub hosts : (replies : List Reply) → part.lane.running ≡ Some replies → (message : List ℕ)
+      → (dialogue (deal_for p) replies).deed ≡ ToHost message → (reply : Option (List ℕ))
+      → reply ≡ heard p.planned.link (host_reply p.issuer p.accounts part.messages message)
+      → Came (with_sent message part.lane) (replies ++ from_host reply ∷ []) part.card (part.messages ++ delivered p.planned.link message)
+      (host_lines p.iso p.lane message reply)
 
-module _ (p : Payment) (part : Part) (Came : List Reply → CardRow → List (List ℕ) → List Line → Type 0) (R : Part → List Line → Type 0)
+module _ (p : Payment) (part : Part) (Came : LaneRow → List Reply → CardRow → List (List ℕ) → List Line → Type 0) (R : Part → List Line → Type 0)
     (tells : Tells p part Came R) where
   abbrev Holds : Moved → Type 0
   Holds m = R m.part m.lines
 
-  settled_tells : (replies : List Reply) (card : CardRow) (messages : List (List ℕ)) (lines : List Line) → Came replies card messages lines
-      → (e : Option EndData) → end_at p replies ≡ e
-      → Holds (settled_by p replies (record { lane = part.lane; card = card; messages = messages }) lines e)
-  settled_tells replies card messages lines came None is = tells.goes replies card messages lines came
-  settled_tells replies card messages lines came (Some end) is = tells.ends replies card messages lines came end is
+  settled_tells : (lane : LaneRow) → Later part.lane lane → (replies : List Reply) (card : CardRow) (messages : List (List ℕ)) (lines : List Line)
+      → Came lane replies card messages lines → (e : Option EndData) → end_at p replies ≡ e
+      → Holds (settled_by p replies (record { lane = lane; card = card; messages = messages }) lines e)
+  settled_tells lane later replies card messages lines came None is = tells.goes lane later replies card messages lines came
+  settled_tells lane later replies card messages lines came (Some end) is = tells.ends lane later replies card messages lines came end is
 
-  cut_tells : (replies : List Reply) (card : CardRow) (lines : List Line) → Came replies card part.messages lines
+  cut_tells : (replies : List Reply) (card : CardRow) (lines : List Line) → Came part.lane replies card part.messages lines
       → (e : Option EndData) → end_at p replies ≡ e → Holds (cut_ends p replies part (record part { card = card }) lines e)
   cut_tells replies card lines came None is = tells.still
-  cut_tells replies card lines came (Some end) is = tells.ends replies card part.messages lines came end is
+  cut_tells replies card lines came (Some end) is = tells.ends part.lane as_is replies card part.messages lines came end is
 
-  answer_tells : (replies : List Reply) → part.lane.running ≡ Some replies → p.card.canned ≡ None → (command : List ℕ) (cut : Option Cut)
+  answer_tells : (replies : List Reply) → part.lane.running ≡ Some replies → p.card.canned ≡ None → (command : List ℕ)
+      → (dialogue (deal_for p) replies).deed ≡ ToCard command → (cut : Option Cut)
       → cut_of p.planned.tear part.card.made (card_answer p.card.image part.card.kept part.card.session command).new ≡ cut
       → Holds (answered p replies command part (card_answer p.card.image part.card.kept part.card.session command) cut)
-  answer_tells replies runs apps command None is =
-      settled_tells _ _ part.messages _ (tells.answers replies runs apps command) _ refl
-  answer_tells replies runs apps command (Some cut) is = cut_tells _ _ _ (tells.cuts replies runs command cut is) _ refl
+  answer_tells replies runs apps command asks None is =
+      settled_tells part.lane as_is _ _ part.messages _ (tells.answers replies runs apps command asks) _ refl
+  answer_tells replies runs apps command asks (Some cut) is = cut_tells _ _ _ (tells.cuts replies runs command cut is) _ refl
 
   canned_tells : (replies : List Reply) → part.lane.running ≡ Some replies → (answers : List (List ℕ)) → p.card.canned ≡ Some answers
       → (command : List ℕ) (o : Option (List ℕ)) → Holds (canned_by p replies command part o)
   canned_tells replies runs answers canned command (Some answer) =
-      settled_tells _ _ part.messages _ (tells.tells replies runs answers canned command answer) _ refl
-  canned_tells replies runs answers canned command None = cut_tells _ _ _ (tells.gone replies runs command) _ refl
+      settled_tells part.lane as_is _ _ part.messages _ (tells.tells replies runs answers canned command answer) _ refl
+  canned_tells replies runs answers canned command None = cut_tells _ _ _ (tells.gone replies runs answers canned command) _ refl
 
-  kind_tells : (replies : List Reply) → part.lane.running ≡ Some replies → (command : List ℕ) (o : Option (List (List ℕ))) → p.card.canned ≡ o
-      → Holds (asked_by p replies command part o)
-  kind_tells replies runs command None is =
-      answer_tells replies runs is command (cut_of p.planned.tear part.card.made (card_answer p.card.image part.card.kept part.card.session command).new) refl
-  kind_tells replies runs command (Some answers) is = canned_tells replies runs answers is command (slice_get answers part.card.told)
+  kind_tells : (replies : List Reply) → part.lane.running ≡ Some replies → (command : List ℕ) → (dialogue (deal_for p) replies).deed ≡ ToCard command
+      → (o : Option (List (List ℕ))) → p.card.canned ≡ o → Holds (asked_by p replies command part o)
+  kind_tells replies runs command asks None is =
+      answer_tells replies runs is command asks
+      (cut_of p.planned.tear part.card.made (card_answer p.card.image part.card.kept part.card.session command).new) refl
+  kind_tells replies runs command asks (Some answers) is = canned_tells replies runs answers is command (slice_get answers part.card.told)
 
-  ask_tells : (replies : List Reply) → part.lane.running ≡ Some replies → (deed : Deed) → Holds (asked p replies part deed)
-  ask_tells replies runs (ToCard command) = kind_tells replies runs command p.card.canned refl
-  ask_tells replies runs (ToHost message) =
-      settled_tells _ part.card _ _
-      (tells.hosts replies runs message (heard p.planned.link (host_reply p.issuer p.accounts part.messages message))) _ refl
-  ask_tells replies runs (Over ending) = tells.still
+  ask_tells : (replies : List Reply) → part.lane.running ≡ Some replies → (deed : Deed) → (dialogue (deal_for p) replies).deed ≡ deed
+      → Holds (asked p replies part deed)
+  ask_tells replies runs (ToCard command) asks = kind_tells replies runs command asks p.card.canned refl
+  ask_tells replies runs (ToHost message) asks =
+      settled_tells (with_sent message part.lane) (messaging message) _ part.card _ _
+      (tells.hosts replies runs message asks (heard p.planned.link (host_reply p.issuer p.accounts part.messages message)) refl) _ refl
+  ask_tells replies runs (Over ending) asks = tells.still
 
-  begin_tells : part.card.holder ≡ None → p.card.canned ≡ None → (choice torn_there : Bool) → Holds (begun_by p part choice torn_there)
-  begin_tells free apps choice true = cut_tells _ _ _ (tells.power_cut free) _ refl
-  begin_tells free apps choice false = settled_tells [] _ part.messages _ (tells.powers free apps choice) _ refl
+  begin_tells : part.lane.running ≡ None → part.card.holder ≡ None → p.card.canned ≡ None → (choice torn_there : Bool)
+      → is_named p.planned.tear 0 ≡ torn_there → Holds (begun_by p part choice torn_there)
+  begin_tells rests free apps choice true is = cut_tells _ _ _ (tells.power_cut rests free apps is) _ refl
+  begin_tells rests free apps choice false is =
+      settled_tells (record part.lane { began = Some (found_of part.card.kept part.card.pending choice) })
+      (beginning (Some (found_of part.card.kept part.card.pending choice))) [] _ part.messages _ (tells.powers rests free apps choice) _ refl
 
-  kind_begins : part.card.holder ≡ None → (choice : Bool) (o : Option (List (List ℕ))) → p.card.canned ≡ o → Holds (begun_with p part choice o)
-  kind_begins free choice None is = begin_tells free is choice (is_named p.planned.tear 0)
-  kind_begins free choice (Some answers) is = settled_tells [] _ part.messages _ (tells.powers_canned free) _ refl
+  kind_begins : part.lane.running ≡ None → part.card.holder ≡ None → (choice : Bool) (o : Option (List (List ℕ))) → p.card.canned ≡ o
+      → Holds (begun_with p part choice o)
+  kind_begins rests free choice None is = begin_tells rests free is choice (is_named p.planned.tear 0) refl
+  kind_begins rests free choice (Some answers) is =
+      settled_tells (record part.lane { began = None }) (beginning None) [] _ part.messages _ (tells.powers_canned rests free answers is) _ refl
 
   pub piece_tells : (choice : Bool) → R (piece p part choice).part (piece p part choice).lines
   piece_tells choice = by_lane part.lane.running refl
     where
-      begins : (o : Option Holder) → part.card.holder ≡ o → Holds (begun p part choice o)
-      begins None is = kind_begins is choice p.card.canned refl
-      begins (Some other) is = tells.still
+      by_holder : part.lane.running ≡ None → (o : Option Holder) → part.card.holder ≡ o → Holds (begun p part choice o)
+      by_holder rests None is = kind_begins rests is choice p.card.canned refl
+      by_holder rests (Some other) is = tells.still
 
       by_lane : (o : Option (List Reply)) → part.lane.running ≡ o → Holds (piece_by p part choice o)
-      by_lane None is = begins part.card.holder refl
-      by_lane (Some replies) is = ask_tells replies is (dialogue (deal_for p) replies).deed
+      by_lane None is = by_holder is part.card.holder refl
+      by_lane (Some replies) is = ask_tells replies is (dialogue (deal_for p) replies).deed refl

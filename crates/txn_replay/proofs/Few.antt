@@ -23,14 +23,14 @@ use Rattle.txn_replay.specs.Part.{approval, lane_ended, piece}
 use Rattle.txn_replay.specs.Payment.{Payment, payment_of, payment_on, payment_in, next_of}
 use Rattle.txn_replay.specs.Run.{Place, Reached}
 use Rattle.txn_replay.specs.Sound.{IsSound}
-use Rattle.txn_replay.specs.Steps.{Settlement, settlements, settlements_from, app_checks, checks_for, card_checks, checks_from, checks, part_of, turned_by, settles, audits, happens}
-use Rattle.txn_replay.specs.World.{LaneRow, World, new_lane, first_world, lane_at}
+use Rattle.txn_replay.specs.Steps.{Settlement, settlements, settlements_from, app_checks, checks_for, card_checks, checks_from, checks, part_of, choice_in, turned_by, settles, audits, happens}
+use Rattle.txn_replay.specs.World.{Past, LaneRow, World, new_lane, first_world, lane_at}
 use Rattle.txn_replay.specs.declared.event.Event.{Event}
 use Rattle.txn_replay.specs.declared.event.Event.TheVariants.{Turn, Settle, Audit}
 use Rattle.txn_replay.proofs.Folding.{reached_keeps}
 use Rattle.txn_replay.proofs.Lanes.{piece_lane}
 use Rattle.txn_replay.proofs.Lists.{at_set, get_or-map_const}
-use Rattle.txn_replay.proofs.Waiting.{settle_lanes, audit_lanes}
+use Rattle.txn_replay.proofs.Sending.{Later, as_is, beginning, messaging, later_ended, unsent, LanesLike, settle_like, audit_like}
 
 -- a purchase that the scenario has is one of its lane's
 pub inside_lane : (s : ScenarioData) (l n : ℕ) (p : Payment) → payment_in s l n ≡ Some p → n < purchases_in (slice_get s.lanes l)
@@ -60,8 +60,8 @@ one_capture (Some message) = omega arith
 one_ended : (s : ScenarioData) (l : ℕ) (p : Payment) (row : LaneRow) (replies : List Reply) (end : EndData) → IsFewIn s l row
     → length row.ended < purchases_in (slice_get s.lanes l) → IsFewIn s l (lane_ended p replies end row)
 one_ended s l p row replies end few room =
-    let more : length (row.ended ++ record { replies = replies; end = end } ∷ []) ≡ length row.ended + 1 =
-    length-append row.ended (record { replies = replies; end = end } ∷ []) in
+    let more : length (row.ended ++ record { began = row.began; replies = replies; end = end } ∷ []) ≡ length row.ended + 1 =
+    length-append row.ended (record { began = row.began; replies = replies; end = end } ∷ []) in
     record {
       captures =
           (let both : length (row.captures ++ option_to_list end.capture) ≡ length row.captures + length (option_to_list end.capture) =
@@ -81,30 +81,52 @@ one_ended s l p row replies end few room =
 abbrev pub LanesFew : ScenarioData → World → Type 0
 LanesFew s w = (l : ℕ) → IsFewIn s l (lane_at w l)
 
+-- what doesn't end a purchase leaves these counts
+few_later : (s : ScenarioData) (l : ℕ) (before lane : LaneRow) → IsFewIn s l before → Later before lane → IsFewIn s l lane
+few_later s l before _ few as_is = few
+few_later s l before _ few (beginning found) = record { captures = few.captures; log = few.log; ended = few.ended }
+few_later s l before _ few (messaging message) = record { captures = few.captures; log = few.log; ended = few.ended }
+
+few_like : (s : ScenarioData) (l : ℕ) (v w : LaneRow) → unsent v ≡ unsent w → IsFewIn s l w → IsFewIn s l v
+few_like s l v w like few =
+    let now : IsFewIn s l (unsent v) =
+    subst (λ (row : LaneRow). IsFewIn s l row) (sym like) (record { captures = few.captures; log = few.log; ended = few.ended }) in
+    record { captures = now.captures; log = now.log; ended = now.ended }
+
 module _ (s : ScenarioData) where
-  pub turn_few : (w : World) (l : ℕ) (choice : Bool) (o : Option Payment) → next_of s w l ≡ o → LanesFew s w → LanesFew s (turned_by w l choice o).world
-  turn_few w l choice None is few = few
-  turn_few w l choice (Some p) is few =
-      at_set (IsFewIn s) w.lanes l (piece p (part_of w l p.planned.card) choice).part.lane new_lane here few
+  pub turn_few : (w : World) (l : ℕ) (choices : List Bool) (o : Option Payment) → next_of s w l ≡ o → LanesFew s w
+      → LanesFew s (turned_by w l choices o).world
+  turn_few w l choices None is few = few
+  turn_few w l choices (Some p) is few =
+      at_set (IsFewIn s) w.lanes l (piece p (part_of w l p.planned.card) (choice_in choices 0)).part.lane new_lane here few
     where
       before : IsFewIn s l (lane_at w l)
       before = few l
 
-      here : IsFewIn s l (piece p (part_of w l p.planned.card) choice).part.lane
-      here =
-          piece_lane (IsFewIn s l) p (part_of w l p.planned.card) before
-          (λ replies. record { captures = before.captures; log = before.log; ended = before.ended })
-          (λ replies end. one_ended s l p (lane_at w l) replies end before (inside_lane s l (length (lane_at w l).ended) p is)) choice
+      room : length (lane_at w l).ended < purchases_in (slice_get s.lanes l)
+      room = inside_lane s l (length (lane_at w l).ended) p is
 
-  same_few : (w v : World) → v.lanes ≡ w.lanes → LanesFew s w → LanesFew s v
-  same_few w v same few l = subst (λ (lanes : List LaneRow). IsFewIn s l (get_or lanes l new_lane)) (sym same) (few l)
+      goes_on : (lane : LaneRow) (replies : List Reply) → Later (lane_at w l) lane → IsFewIn s l (record lane { running = Some replies })
+      goes_on lane replies later =
+          let now : IsFewIn s l lane = few_later s l (lane_at w l) lane before later in record { captures = now.captures; log = now.log; ended = now.ended }
 
-  event_few : (w : World) (e : Event) (choice : Bool) → LanesFew s w → LanesFew s (happens s w e choice).world
-  event_few w (Turn l) choice few = turn_few w l choice (next_of s w l) refl few
-  event_few w (Settle k) choice few =
-      same_few w (settles s w (slice_get (settlements s w) k)).world (settle_lanes s w (slice_get (settlements s w) k)) few
-  event_few w (Audit k) choice few =
-      same_few w (audits w choice (slice_get (checks s) k)).world (audit_lanes w choice (slice_get (checks s) k)) few
+      ends : (lane : LaneRow) (replies : List Reply) (end : EndData) → Later (lane_at w l) lane → IsFewIn s l (lane_ended p replies end lane)
+      ends lane replies end later =
+          one_ended s l p lane replies end (few_later s l (lane_at w l) lane before later)
+          (subst (λ (pasts : List Past). length pasts < purchases_in (slice_get s.lanes l)) (sym (later_ended (lane_at w l) lane later)) room)
+
+      here : IsFewIn s l (piece p (part_of w l p.planned.card) (choice_in choices 0)).part.lane
+      here = piece_lane (IsFewIn s l) p (part_of w l p.planned.card) before goes_on ends (choice_in choices 0)
+
+  pub like_few : (w v : World) → LanesLike v w → LanesFew s w → LanesFew s v
+  like_few w v like few l = few_like s l (lane_at v l) (lane_at w l) (like.each l) (few l)
+
+  event_few : (w : World) (e : Event) (choices : List Bool) → LanesFew s w → LanesFew s (happens s w e choices).world
+  event_few w (Turn l) choices few = turn_few w l choices (next_of s w l) refl few
+  event_few w (Settle k) choices few =
+      like_few w (settles s w (slice_get (settlements s w) k)).world (settle_like s w (slice_get (settlements s w) k)) few
+  event_few w (Audit k) choices few =
+      like_few w (audits w choices (slice_get (checks s) k)).world (audit_like w choices (slice_get (checks s) k)) few
 
   pub first_few : LanesFew s (first_world s)
   first_few l =

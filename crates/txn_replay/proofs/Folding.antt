@@ -12,7 +12,7 @@ use Rattle.txn_replay.specs.Part.{piece}
 use Rattle.txn_replay.specs.Payment.{Payment, next_of}
 use Rattle.txn_replay.specs.Run.{Place, Reached, start, scheduled, rounds, round, again, settlement, settling, audit, auditing, finished}
 use Rattle.txn_replay.specs.Sound.{IsSound}
-use Rattle.txn_replay.specs.Steps.{Settlement, Check, PowersUp, Asks, settlements, checks, part_of, turned_by, settles, audits, with_card, happens, first_of, Step}
+use Rattle.txn_replay.specs.Steps.{Settlement, Check, PowersUp, Asks, settlements, checks, part_of, turned_by, settles, audits, with_card, choice_in, happens, Step}
 use Rattle.txn_replay.specs.World.{CardRow, World, new_card, first_world, card_at}
 use Rattle.txn_replay.specs.declared.event.Event.{Event}
 use Rattle.txn_replay.specs.declared.event.Event.TheVariants.{Turn, Settle, Audit}
@@ -21,13 +21,13 @@ use Rattle.txn_replay.proofs.Closing.{Closed, piece_keeps}
 use Rattle.txn_replay.proofs.Lists.{at_set, get_or-map_const}
 use Rattle.txn_replay.proofs.Moves.{this_one}
 use Rattle.txn_replay.proofs.Payments.{payment_facts}
-use Rattle.txn_replay.proofs.Sounding.{turn_sound, has_card, messages_sound, card_sound, first_sound}
+use Rattle.txn_replay.proofs.Sounding.{turn_sound, has_card, settled_sound, card_sound, first_sound}
 
 -- what the first world has and each event keeps, each world has that a run comes to
 module _ (s : ScenarioData) (Q : World → Type 0) (first : Q (first_world s))
-    (keeps : (w : World) (e : Event) (choice : Bool) → Q w → Q (happens s w e choice).world) where
+    (keeps : (w : World) (e : Event) (choices : List Bool) → Q w → Q (happens s w e choices).world) where
   step_keeps : (w : World) (e : Event) (choices : List Bool) (lines : List Line) (after : World) → Step s w e choices lines after → Q w → Q after
-  step_keeps w e choices lines after step has = subst Q (sym step.leads) (keeps w e (first_of choices) has)
+  step_keeps w e choices lines after step has = subst Q (sym step.leads) (keeps w e choices has)
 
   pub reached_keeps : (place : Place) (n : ℕ) (choices : List Bool) (lines : List Line) (w : World) → Reached s place n choices lines w → Q w
   reached_keeps _ _ _ _ _ start = first
@@ -51,12 +51,15 @@ module _ (P : List AppData → CardRow → Type 0) (closed : Closed P) (s : Scen
   abbrev At : ℕ → CardRow → Type 0
   At i row = (card : CardData) → slice_get s.cards i ≡ Some card → P card.image row
 
-  turn_cards : (w : World) (l : ℕ) (choice : Bool) → AllHold P s w → (o : Option Payment) → next_of s w l ≡ o
-      → (i : ℕ) → At i (card_at (turned_by w l choice o).world i)
-  turn_cards w l choice hold None is i = hold.cards i
-  turn_cards w l choice hold (Some p) is i =
+  turn_cards : (w : World) (l : ℕ) (choices : List Bool) → AllHold P s w → (o : Option Payment) → next_of s w l ≡ o
+      → (i : ℕ) → At i (card_at (turned_by w l choices o).world i)
+  turn_cards w l choices hold None is i = hold.cards i
+  turn_cards w l choices hold (Some p) is i =
       at_set At w.cards p.planned.card (piece p (part_of w l p.planned.card) choice).part.card new_card here hold.cards i
     where
+      choice : Bool
+      choice = choice_in choices 0
+
       there : slice_get s.cards p.planned.card ≡ Some p.card
       there = (payment_facts s l _ p is).card
 
@@ -72,7 +75,7 @@ module _ (P : List AppData → CardRow → Type 0) (closed : Closed P) (s : Scen
 
   settle_holds : (w : World) (o : Option Settlement) → AllHold P s w → AllHold P s (settles s w o).world
   settle_holds w None hold = hold
-  settle_holds w (Some at) hold = record { sound = messages_sound s w _ hold.sound; cards = hold.cards }
+  settle_holds w (Some at) hold = record { sound = settled_sound s w (Some at) hold.sound; cards = hold.cards }
 
   -- an audited card
   audited : (w : World) (i : ℕ) (card : CardData) (row : CardRow) → AllHold P s w → slice_get s.cards i ≡ Some card
@@ -83,16 +86,16 @@ module _ (P : List AppData → CardRow → Type 0) (closed : Closed P) (s : Scen
         (λ other is_there. subst (λ (x : CardData). P x.image row) (same_Some card other (sym there ∙ is_there)) holds) hold.cards;
   }
 
-  audit_holds : (w : World) (choice : Bool) (o : Option Check) → ((check : Check) → o ≡ Some check → IsChecked s.cards 0 check) → AllHold P s w
-      → AllHold P s (audits w choice o).world
-  audit_holds w choice None checked hold = hold
-  audit_holds w choice (Some (PowersUp i card)) checked hold =
+  audit_holds : (w : World) (choices : List Bool) (o : Option Check) → ((check : Check) → o ≡ Some check → IsChecked s.cards 0 check) → AllHold P s w
+      → AllHold P s (audits w choices o).world
+  audit_holds w choices None checked hold = hold
+  audit_holds w choices (Some (PowersUp i card)) checked hold =
       let one : IsChecked s.cards 0 (PowersUp i card) = checked (PowersUp i card) refl in
       let place : i ≡ one.place = (let e : i ≡ 0 + one.place = one.of_it.0 in omega arith) in
       let there : slice_get s.cards i ≡ Some card = ap (λ n. slice_get s.cards n) place ∙ one.there ∙ ap (λ (x : CardData). Some x) (sym one.of_it.1) in
-      audited w i card (powered (card_at w i) (found_of (card_at w i).kept (card_at w i).pending choice) (card_at w i).holder) hold there refl
-      (closed.powers card.image (card_at w i) choice (card_at w i).holder (hold.cards i card there))
-  audit_holds w choice (Some (Asks i card command)) checked hold =
+      audited w i card (powered (card_at w i) (found_of (card_at w i).kept (card_at w i).pending (choice_in choices 0)) (card_at w i).holder) hold there refl
+      (closed.powers card.image (card_at w i) (choice_in choices 0) (card_at w i).holder (hold.cards i card there))
+  audit_holds w choices (Some (Asks i card command)) checked hold =
       let one : IsChecked s.cards 0 (Asks i card command) = checked (Asks i card command) refl in
       let place : i ≡ one.place = (let e : i ≡ 0 + one.place = one.of_it.0 in omega arith) in
       let there : slice_get s.cards i ≡ Some card = ap (λ n. slice_get s.cards n) place ∙ one.there ∙ ap (λ (x : CardData). Some x) (sym one.of_it.1) in
@@ -101,11 +104,11 @@ module _ (P : List AppData → CardRow → Type 0) (closed : Closed P) (s : Scen
       (closed.answers card.image (card_at w i) command (inr (one.of_it.2 card.image (card_at w i).kept (card_at w i).session))
       (hold.cards i card there))
 
-  event_holds : (w : World) (e : Event) (choice : Bool) → AllHold P s w → AllHold P s (happens s w e choice).world
-  event_holds w (Turn l) choice hold =
-      record { sound = turn_sound s w l choice hold.sound; cards = turn_cards w l choice hold (next_of s w l) refl }
-  event_holds w (Settle k) choice hold = settle_holds w (slice_get (settlements s w) k) hold
-  event_holds w (Audit k) choice hold = audit_holds w choice (slice_get (checks s) k) (check_facts s k) hold
+  event_holds : (w : World) (e : Event) (choices : List Bool) → AllHold P s w → AllHold P s (happens s w e choices).world
+  event_holds w (Turn l) choices hold =
+      record { sound = turn_sound s w l choices hold.sound; cards = turn_cards w l choices hold (next_of s w l) refl }
+  event_holds w (Settle k) choices hold = settle_holds w (slice_get (settlements s w) k) hold
+  event_holds w (Audit k) choices hold = audit_holds w choices (slice_get (checks s) k) (check_facts s k) hold
 
   first_holds : AllHold P s (first_world s)
   first_holds = record {
@@ -117,17 +120,14 @@ module _ (P : List AppData → CardRow → Type 0) (closed : Closed P) (s : Scen
   reached_holds = reached_keeps s (AllHold P s) first_holds event_holds
 
 -- each event leads from a sound world to a sound one
-pub event_sound : (s : ScenarioData) (w : World) (e : Event) (choice : Bool) → IsSound s w → IsSound s (happens s w e choice).world
-event_sound s w (Turn l) choice sound = turn_sound s w l choice sound
-event_sound s w (Settle k) choice sound = by (slice_get (settlements s w) k)
+pub event_sound : (s : ScenarioData) (w : World) (e : Event) (choices : List Bool) → IsSound s w → IsSound s (happens s w e choices).world
+event_sound s w (Turn l) choices sound = turn_sound s w l choices sound
+event_sound s w (Settle k) choices sound = settled_sound s w (slice_get (settlements s w) k) sound
+event_sound s w (Audit k) choices sound = by (slice_get (checks s) k)
   where
-    by : (o : Option Settlement) → IsSound s (settles s w o).world
+    by : (o : Option Check) → IsSound s (audits w choices o).world
     by None = sound
-    by (Some at) = messages_sound s w _ sound
-event_sound s w (Audit k) choice sound = by (slice_get (checks s) k)
-  where
-    by : (o : Option Check) → IsSound s (audits w choice o).world
-    by None = sound
-    by (Some (PowersUp i card)) = card_sound s w i (powered (card_at w i) (found_of (card_at w i).kept (card_at w i).pending choice) (card_at w i).holder) refl sound
+    by (Some (PowersUp i card)) =
+        card_sound s w i (powered (card_at w i) (found_of (card_at w i).kept (card_at w i).pending (choice_in choices 0)) (card_at w i).holder) refl sound
     by (Some (Asks i card command)) =
         card_sound s w i (exchanged card.image (card_at w i) command (card_answer card.image (card_at w i).kept (card_at w i).session command)) refl sound

@@ -72,6 +72,7 @@ first_stands v new_slots lanes host tally = record {
       log = new.log;
       amounts = λ k d within. absurd (omega arith);
       captures = ap (λ ms. map (λ message. message.items) ms) new.captures;
+      messages = λ k d within. absurd (omega arith);
       card = λ none. ap card_in new.place;
       ending = new.ending;
     }

@@ -18,9 +18,9 @@ use Rattle.txn_replay.specs.Lines.{answer_lines, host_lines, end_line}
 use Rattle.txn_replay.specs.Part.{Part, piece}
 use Rattle.txn_replay.specs.Payment.{Payment}
 use Rattle.txn_replay.specs.Sound.{holder_in}
-use Rattle.txn_replay.specs.Steps.{After, Check, PowersUp, Asks, Settlement, part_of, moved, turned_by, settlements, settles, checks, audits, with_card, happens}
+use Rattle.txn_replay.specs.Steps.{After, Check, PowersUp, Asks, Settlement, part_of, moved, choice_in, turned_by, settlements, settles, checks, audits, with_card, happens}
 use Rattle.txn_replay.specs.Telling.{command_told, cryptogram_told, cryptograms_behind, cryptograms_told, AreRows, given_in, Gives, GivenIsTold, GivenIsLeft}
-use Rattle.txn_replay.specs.World.{Holder, Given, CardRow, new_card, card_at, lane_at}
+use Rattle.txn_replay.specs.World.{Holder, Given, CardRow, LaneRow, new_card, card_at, lane_at}
 use Rattle.txn_replay.specs.declared.event.Event.TheVariants.{Turn}
 use Rattle.txn_replay.proofs.Auditing.{IsChecked, check_facts}
 use Rattle.txn_replay.proofs.Exchanging.{Tells, piece_tells}
@@ -40,8 +40,8 @@ end_untold command (line ∷ lines) lane number end =
     ap (λ (xs : List (List ℕ)). cryptogram_told command line ++ xs) (end_untold (command_told line) lines lane number end)
 
 module _ (p : Payment) (part : Part) (h : Holder) where
-  abbrev Came : List Reply → CardRow → List (List ℕ) → List Line → Type 0
-  Came replies card messages lines = Gives p h part.card card lines
+  abbrev Came : LaneRow → List Reply → CardRow → List (List ℕ) → List Line → Type 0
+  Came lane replies card messages lines = Gives p h part.card card lines
 
   abbrev Behind : Part → List Line → Type 0
   Behind after lines = Gives p h part.card after.card lines
@@ -121,7 +121,7 @@ module _ (p : Payment) (part : Part) (h : Holder) where
     are = subst (λ (o : Option (List (List ℕ))). AreRows p.card.image h [] (given_in o lines)) (sym canned) tt;
   }
 
-  host_untold : (message : List ℕ) (reply : Option (List ℕ)) → cryptograms_told (host_lines p.lane message reply) ≡ []
+  host_untold : (message : List ℕ) (reply : Option (List ℕ)) → cryptograms_told (host_lines p.iso p.lane message reply) ≡ []
   unfolding cryptograms_behind
   host_untold message None = refl
   host_untold message (Some reply) = refl
@@ -130,25 +130,26 @@ module _ (p : Payment) (part : Part) (h : Holder) where
   unfolding cryptograms_behind
   gives_told has = record {
     still = none part.card [] refl refl;
-    goes = λ replies card messages lines came. came;
-    ends = λ replies card messages lines came end is. ended card lines (length part.lane.ended + 1) end came;
-    powers = λ free apps choice. none _ _ refl refl;
-    power_cut = λ free. none _ _ refl refl;
-    powers_canned = λ free. none _ _ refl refl;
-    answers = λ replies runs apps command. answer_gives (has replies runs) apps command;
+    goes = λ lane later replies card messages lines came. came;
+    ends = λ lane later replies card messages lines came end is. ended card lines (length lane.ended + 1) end came;
+    powers = λ rests free apps choice. none _ _ refl refl;
+    power_cut = λ rests free apps is. none _ _ refl refl;
+    powers_canned = λ rests free answers canned. none _ _ refl refl;
+    answers = λ replies runs apps command asks. answer_gives (has replies runs) apps command;
     cuts = λ replies runs command cut at. none _ _ refl refl;
     tells = λ replies runs answers canned command answer. canned_gives answers canned _;
-    gone = λ replies runs command. none _ _ refl refl;
-    hosts = λ replies runs message reply. none _ _ refl (host_untold message reply);
+    gone = λ replies runs answers canned command. none _ _ refl refl;
+    hosts = λ replies runs message asks reply is. none _ _ refl (host_untold message reply);
   }
 
 pub given_told : GivenIsTold
-given_told s w l choice p sound is =
+given_told s w l choices p sound is =
+    let choice : Bool = choice_in choices 0 in
     let within : p.planned.card < length w.cards =
     (let card : p.planned.card < length s.cards = slice_get_within s.cards p.planned.card p.card (payment_facts s l _ p is).card in
     let count : length w.cards ≡ length s.cards = sound.card_count in omega arith) in
     let part : Part = part_of w l p.planned.card in
-    let is_so : happens s w (Turn l) choice ≡ moved w l p.planned.card (piece p part choice) = ap (λ (o : Option Payment). turned_by w l choice o) is in
+    let is_so : happens s w (Turn l) choices ≡ moved w l p.planned.card (piece p part choice) = ap (λ (o : Option Payment). turned_by w l choices o) is in
     let here : card_at (moved w l p.planned.card (piece p part choice)).world p.planned.card ≡ (piece p part choice).part.card =
     get_or-set_same w.cards p.planned.card (piece p part choice).part.card new_card within in
     let one : Gives p (this_one p part) (card_at w p.planned.card) (piece p part choice).part.card (piece p part choice).lines =
@@ -159,7 +160,7 @@ given_told s w l choice p sound is =
     (subst (λ k. Gives p (record { lane = k; number = length (lane_at w l).ended }) (card_at w p.planned.card) (piece p part choice).part.card (piece p part choice).lines) lane one))
 
 pub given_left : GivenIsLeft
-given_left s w k choice = record {
+given_left s w k choices = record {
   settle = λ i. settle_left i (slice_get (settlements s w) k);
   audit = λ i. audit_left i (slice_get (checks s) k) (check_facts s k);
 }
@@ -172,10 +173,10 @@ given_left s w k choice = record {
     with_left i j card same = at_set (λ (n : ℕ) (x : CardRow). x.given ≡ (card_at w n).given) w.cards j card new_card same (λ n. refl) i
 
     audit_left : (i : ℕ) (o : Option Check) → ((check : Check) → o ≡ Some check → IsChecked s.cards 0 check)
-        → (card_at (audits w choice o).world i).given ≡ (card_at w i).given
+        → (card_at (audits w choices o).world i).given ≡ (card_at w i).given
     audit_left i None checked = refl
     audit_left i (Some (PowersUp j card)) checked =
-        with_left i j (powered (card_at w j) (found_of (card_at w j).kept (card_at w j).pending choice) (card_at w j).holder) refl
+        with_left i j (powered (card_at w j) (found_of (card_at w j).kept (card_at w j).pending (choice_in choices 0)) (card_at w j).holder) refl
     audit_left i (Some (Asks j card command)) checked =
         with_left i j (exchanged card.image (card_at w j) command said)
         (ap (λ (xs : List Given). (card_at w j).given ++ xs) plain ∙ append-nil (card_at w j).given)

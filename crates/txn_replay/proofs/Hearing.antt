@@ -1,24 +1,27 @@
 -- The lines between a power line and an end line are the replies of that purchase, and its end is that of its dialogue.
-use Rattle.std.proofs.Common.{◌≡◌, ◌≢◌, ℕ, zero, suc, ◌⊎◌, ◌+◌, Bool, true, false, List, [], ◌∷◌, ◌++◌, length, map, slice_get, Option, Some, None, refl, sym, ap, ◌∙◌, subst, inl, inr, arith, append-nil}
+use Rattle.std.proofs.Common.{◌≡◌, ◌≢◌, ℕ, zero, suc, ◌⊎◌, ◌+◌, Bool, true, false, List, [], ◌∷◌, ◌++◌, length, slice_get, Option, Some, None, refl, sym, ap, ◌∙◌, subst, inl, inr, arith, append-nil}
 use Rattle.std.specs.Prelude.{◌==◌}
 use Rattle.std.specs.List.{fold}
 use Rattle.std.proofs.lemmas.Bool.{eqb-true, eq-eqb, cases_eq}
-use Rattle.std.proofs.lemmas.List.{map-append, get_or-set_other}
+use Rattle.std.proofs.lemmas.List.{append_assoc, get_or-set_other}
 use Rattle.std.proofs.lemmas.List.Sums.{fold_push, fold-append}
 use Rattle.std.proofs.lemmas.Option.{same_Some}
 use Rattle.card_app.specs.Answering.{card_answer}
+use Rattle.host_link.specs.Delivery.{delivered}
+use Rattle.kernel.specs.Dialogue.{dialogue}
 use Rattle.kernel.specs.Ended.{EndData}
+use Rattle.kernel.specs.Kernel.{deed_bytes, told_bytes}
 use Rattle.kernel.specs.Reply.{Reply, CardSaid, CardGone, from_host}
 use Rattle.report_text.specs.declared.line.Line.{Line}
 use Rattle.scenario.specs.Plan.{ScenarioData}
 use Rattle.txn_replay.specs.Lines.{host_lines, settle_lines, audit_power_line, audit_lines, end_line, end_parts}
 use Rattle.txn_replay.specs.Changes.{freed}
-use Rattle.txn_replay.specs.Part.{Part, lane_ended, delivered, piece}
-use Rattle.txn_replay.specs.Payment.{Payment, payment_in, next_of, end_at}
+use Rattle.txn_replay.specs.Part.{Part, Moved, lane_ended, piece}
+use Rattle.txn_replay.specs.Payment.{Payment, payment_in, dialect_of, next_of, deal_for, end_at}
 use Rattle.txn_replay.specs.Sound.{IsSound}
-use Rattle.txn_replay.specs.Steps.{Check, PowersUp, Asks, Settlement, settlements, settles, checks, audits, part_of, turned_by, happens}
-use Rattle.txn_replay.specs.Told.{Heard, heard_of, EndTold, LaneTold, hears, told_next, lane_told, pasts_told, IsLaneTold, RunsTellReplies, EndsSo, PastsEnd}
-use Rattle.txn_replay.specs.World.{Past, LaneRow, CardRow, World, new_lane, first_world, lane_at}
+use Rattle.txn_replay.specs.Steps.{Check, PowersUp, Asks, Settlement, settlements, settles, checks, audits, part_of, choice_in, turned_by, happens}
+use Rattle.txn_replay.specs.Told.{Heard, heard_of, heard_behind, heard_in, EndTold, LaneTold, hears, told_next, lane_told, pasts_told, IsLaneTold, RunsTellReplies, EndsSo, PastsEnd}
+use Rattle.txn_replay.specs.World.{Past, LaneRow, CardRow, World, new_lane, first_world, lane_at, with_sent}
 use Rattle.txn_replay.specs.declared.event.Event.{Event}
 use Rattle.txn_replay.specs.declared.event.Event.TheVariants.{Turn, Settle, Audit}
 use Rattle.txn_replay.proofs.Exchanging.{Tells, piece_tells}
@@ -26,20 +29,35 @@ use Rattle.txn_replay.proofs.Folding.{event_sound, reached_keeps}
 use Rattle.txn_replay.proofs.Lining.{reached_lines, lane_behind}
 use Rattle.txn_replay.proofs.Lists.{get_or-map_const}
 use Rattle.txn_replay.proofs.Payments.{payment_facts}
+use Rattle.txn_replay.proofs.Sending.{Later, later_ended, unsent, LanesLike, settle_like, audit_like}
 use Rattle.txn_replay.proofs.Sounding.{first_sound}
 
+-- one reply more
+heard-push : (p : Payment) (before replies : List Reply) (reply : Reply)
+    → heard_behind p before (replies ++ reply ∷ [])
+    ≡ heard_behind p before replies ++ heard_of p.iso (told_bytes (dialogue (deal_for p) (before ++ replies))) reply ∷ []
+heard-push p before [] reply =
+    ap (λ (rs : List Reply). heard_of p.iso (told_bytes (dialogue (deal_for p) rs)) reply ∷ []) (sym (append-nil before))
+heard-push p before (first ∷ replies) reply =
+    ap (λ (hs : List Heard). heard_of p.iso (told_bytes (dialogue (deal_for p) before)) first ∷ hs)
+    (heard-push p (before ++ first ∷ []) replies reply
+    ∙ ap (λ (rs : List Reply). heard_behind p (before ++ first ∷ []) replies ++ heard_of p.iso (told_bytes (dialogue (deal_for p) rs)) reply ∷ [])
+    (append_assoc before (first ∷ []) replies))
+
 -- the last of a list of ended purchases
-pasts-push : (n : ℕ) (pasts : List Past) (past : Past)
-    → pasts_told n (pasts ++ past ∷ [])
-    ≡ pasts_told n pasts ++ record { heard = map heard_of past.replies; number = n + length pasts; parts = end_parts past.end } ∷ []
-pasts-push n [] past =
+pasts-push : (s : ScenarioData) (l n : ℕ) (pasts : List Past) (past : Past)
+    → pasts_told s l n (pasts ++ past ∷ [])
+    ≡ pasts_told s l n pasts
+    ++ record { heard = heard_in (payment_in s l (n + length pasts)) past.replies; number = n + length pasts + 1; parts = end_parts past.end } ∷ []
+pasts-push s l n [] past =
     let same : n ≡ n + 0 = omega arith in
-    ap (λ k. record { heard = map heard_of past.replies; number = k; parts = end_parts past.end } ∷ []) same
-pasts-push n (first ∷ pasts) past =
+    ap (λ k. record { heard = heard_in (payment_in s l k) past.replies; number = k + 1; parts = end_parts past.end } ∷ []) same
+pasts-push s l n (first ∷ pasts) past =
     let same : n + 1 + length pasts ≡ n + suc (length pasts) = omega arith in
-    ap (λ (xs : List EndTold). record { heard = map heard_of first.replies; number = n; parts = end_parts first.end } ∷ xs)
-    (pasts-push (n + 1) pasts past
-    ∙ ap (λ k. pasts_told (n + 1) pasts ++ record { heard = map heard_of past.replies; number = k; parts = end_parts past.end } ∷ []) same)
+    ap (λ (xs : List EndTold). record { heard = heard_in (payment_in s l n) first.replies; number = n + 1; parts = end_parts first.end } ∷ xs)
+    (pasts-push s l (n + 1) pasts past
+    ∙ ap (λ k. pasts_told s l (n + 1) pasts
+    ++ record { heard = heard_in (payment_in s l k) past.replies; number = k + 1; parts = end_parts past.end } ∷ []) same)
 
 apart : (k l : ℕ) → k ≢ l → (l == k) ≡ false
 apart k l other = by (l == k) refl
@@ -48,15 +66,16 @@ apart k l other = by (l == k) refl
     by true is = absurd (other (sym (eqb-true l k is)))
     by false is = refl
 
-module _ (p : Payment) (part : Part) (t : LaneTold) (told : IsLaneTold part.lane t) where
-  abbrev Came : List Reply → CardRow → List (List ℕ) → List Line → Type 0
-  Came replies card messages lines =
-      (fold (told_next p.lane) t lines ≡ record { heard = map heard_of replies; ended = t.ended })
+module _ (s : ScenarioData) (p : Payment) (part : Part) (t : LaneTold) (is : payment_in s p.lane (length part.lane.ended) ≡ Some p)
+    (told : IsLaneTold s p.lane part.lane t) where
+  abbrev Came : LaneRow → List Reply → CardRow → List (List ℕ) → List Line → Type 0
+  Came lane replies card messages lines =
+      (fold (told_next p.lane) t lines ≡ record { heard = heard_behind p [] replies; ended = t.ended })
       × ((k : ℕ) → k ≢ p.lane → (u : LaneTold) → fold (told_next k) u lines ≡ u)
 
   abbrev Behind : Part → List Line → Type 0
   Behind after lines =
-      IsLaneTold after.lane (fold (told_next p.lane) t lines)
+      IsLaneTold s p.lane after.lane (fold (told_next p.lane) t lines)
       × ((k : ℕ) → k ≢ p.lane → (u : LaneTold) → fold (told_next k) u lines ≡ u)
 
   same : (p.lane == p.lane) ≡ true
@@ -64,24 +83,35 @@ module _ (p : Payment) (part : Part) (t : LaneTold) (told : IsLaneTold part.lane
 
   -- one reply more
   more : (replies : List Reply) → part.lane.running ≡ Some replies → (reply : Reply)
-      → hears t (heard_of reply) ≡ record { heard = map heard_of (replies ++ reply ∷ []); ended = t.ended }
+      → hears t (heard_of p.iso (told_bytes (dialogue (deal_for p) replies)) reply)
+      ≡ record { heard = heard_behind p [] (replies ++ reply ∷ []); ended = t.ended }
   more replies runs reply =
       ap (λ (xs : List Heard). record { heard = xs; ended = t.ended })
-      (ap (λ (xs : List Heard). xs ++ heard_of reply ∷ []) (told.heard replies runs) ∙ sym (map-append heard_of replies (reply ∷ [])))
+      (ap (λ (xs : List Heard). xs ++ heard_of p.iso (told_bytes (dialogue (deal_for p) replies)) reply ∷ [])
+      (told.heard replies runs ∙ ap (λ (o : Option Payment). heard_in o replies) is)
+      ∙ sym (heard-push p [] replies reply))
 
-  goes_on : (replies : List Reply) (card : CardRow) (messages : List (List ℕ)) (lines : List Line) → Came replies card messages lines
-      → Behind (record { lane = record part.lane { running = Some replies }; card = card; messages = messages }) lines
-  goes_on replies card messages lines came = (
-    subst (λ (u : LaneTold). IsLaneTold (record part.lane { running = Some replies }) u) (sym came.0)
-        (record { ended = told.ended; heard = λ others is. ap (λ (rs : List Reply). map heard_of rs) (same_Some replies others is) }),
+  goes_on : (lane : LaneRow) → Later part.lane lane → (replies : List Reply) (card : CardRow) (messages : List (List ℕ)) (lines : List Line)
+      → Came lane replies card messages lines
+      → Behind (record { lane = record lane { running = Some replies }; card = card; messages = messages }) lines
+  goes_on lane later replies card messages lines came = (
+    subst (λ (u : LaneTold). IsLaneTold s p.lane (record lane { running = Some replies }) u) (sym came.0)
+        (record {
+          ended = told.ended ∙ ap (λ (pasts : List Past). pasts_told s p.lane 0 pasts) (sym (later_ended part.lane lane later));
+          heard = λ others runs.
+              ap (λ (rs : List Reply). heard_behind p [] rs) (same_Some replies others runs)
+              ∙ ap (λ (o : Option Payment). heard_in o others)
+              (sym is ∙ ap (λ (pasts : List Past). payment_in s p.lane (length pasts)) (sym (later_ended part.lane lane later)));
+        }),
     came.1,
   )
 
-  ends_so : (replies : List Reply) (card : CardRow) (messages : List (List ℕ)) (lines : List Line) → Came replies card messages lines → (end : EndData)
-      → Behind (record { lane = lane_ended p replies end part.lane; card = freed card; messages = messages })
-      (lines ++ end_line p.lane (length part.lane.ended + 1) end ∷ [])
-  ends_so replies card messages lines came end = (
-    subst (λ (u : LaneTold). IsLaneTold (lane_ended p replies end part.lane) u) (sym closes) (record { ended = joined; heard = λ others is. cc }),
+  ends_so : (lane : LaneRow) → Later part.lane lane → (replies : List Reply) (card : CardRow) (messages : List (List ℕ)) (lines : List Line)
+      → Came lane replies card messages lines → (end : EndData)
+      → Behind (record { lane = lane_ended p replies end lane; card = freed card; messages = messages })
+      (lines ++ end_line p.lane (length lane.ended + 1) end ∷ [])
+  ends_so lane later replies card messages lines came end = (
+    subst (λ (u : LaneTold). IsLaneTold s p.lane (lane_ended p replies end lane) u) (sym closes) (record { ended = joined; heard = λ others runs. cc }),
     λ k other u.
         fold_push (told_next k) u lines line
         ∙ ap (λ (v : LaneTold). told_next k v line) (came.1 k other u)
@@ -89,113 +119,153 @@ module _ (p : Payment) (part : Part) (t : LaneTold) (told : IsLaneTold part.lane
   )
     where
       line : Line
-      line = end_line p.lane (length part.lane.ended + 1) end
+      line = end_line p.lane (length lane.ended + 1) end
 
       now : EndTold
-      now = record { heard = map heard_of replies; number = length part.lane.ended + 1; parts = end_parts end }
+      now = record { heard = heard_behind p [] replies; number = length lane.ended + 1; parts = end_parts end }
+
+      past : Past
+      past = record { began = lane.began; replies = replies; end = end }
 
       closes : fold (told_next p.lane) t (lines ++ line ∷ []) ≡ record { heard = []; ended = t.ended ++ now ∷ [] }
       closes = fold_push (told_next p.lane) t lines line ∙ ap (λ (v : LaneTold). told_next p.lane v line) came.0 ∙ rw same refl
 
-      joined : t.ended ++ now ∷ [] ≡ pasts_told 1 (part.lane.ended ++ record { replies = replies; end = end } ∷ [])
-      joined =
-          let number : length part.lane.ended + 1 ≡ 1 + length part.lane.ended = omega arith in
-          ap (λ (xs : List EndTold). xs ++ now ∷ []) told.ended
-          ∙ ap (λ n. pasts_told 1 part.lane.ended ++ record { heard = map heard_of replies; number = n; parts = end_parts end } ∷ []) number
-          ∙ sym (pasts-push 1 part.lane.ended (record { replies = replies; end = end }))
+      before : t.ended ≡ pasts_told s p.lane 0 lane.ended
+      before = told.ended ∙ ap (λ (pasts : List Past). pasts_told s p.lane 0 pasts) (sym (later_ended part.lane lane later))
 
-  host_came : (replies : List Reply) → part.lane.running ≡ Some replies → (message : List ℕ) (reply : Option (List ℕ)) (card : CardRow) (messages : List (List ℕ))
-      → Came (replies ++ from_host reply ∷ []) card messages (host_lines p.lane message reply)
-  host_came replies runs message None card messages = (rw same (more replies runs (from_host None)), λ k other u. rw (apart k p.lane other) refl)
-  host_came replies runs message (Some reply) card messages = (rw same (more replies runs (from_host (Some reply))), λ k other u. rw (apart k p.lane other) refl)
+      next : payment_in s p.lane (length lane.ended) ≡ Some p
+      next = ap (λ (pasts : List Past). payment_in s p.lane (length pasts)) (later_ended part.lane lane later) ∙ is
+
+      joined : t.ended ++ now ∷ [] ≡ pasts_told s p.lane 0 (lane.ended ++ past ∷ [])
+      joined =
+          let number : length lane.ended ≡ 0 + length lane.ended = omega arith in
+          ap (λ (xs : List EndTold). xs ++ now ∷ []) before
+          ∙ ap (λ (o : Option Payment). pasts_told s p.lane 0 lane.ended
+          ++ record { heard = heard_in o replies; number = length lane.ended + 1; parts = end_parts end } ∷ []) (sym next)
+          ∙ ap (λ n. pasts_told s p.lane 0 lane.ended
+          ++ record { heard = heard_in (payment_in s p.lane n) replies; number = n + 1; parts = end_parts end } ∷ []) number
+          ∙ sym (pasts-push s p.lane 0 lane.ended past)
+
+  -- the bytes of a reply are spelled as an answer to the message that the dialogue asks for
+  host_came : (replies : List Reply) → part.lane.running ≡ Some replies → (message : List ℕ)
+      → told_bytes (dialogue (deal_for p) replies) ≡ message → (reply : Option (List ℕ)) (lane : LaneRow) (card : CardRow) (messages : List (List ℕ))
+      → Came lane (replies ++ from_host reply ∷ []) card messages (host_lines p.iso p.lane message reply)
+  host_came replies runs message asks None lane card messages =
+      (rw same (more replies runs (from_host None)), λ k other u. rw (apart k p.lane other) refl)
+  host_came replies runs message asks (Some reply) lane card messages = (
+    rw same (ap (λ (m : List ℕ). hears t (heard_of p.iso m (from_host (Some reply)))) (sym asks) ∙ more replies runs (from_host (Some reply))),
+    λ k other u. rw (apart k p.lane other) refl,
+  )
 
   tells_heard : Tells p part Came Behind
   tells_heard = record {
     still = (told, λ k other u. refl);
     goes = goes_on;
-    ends = λ replies card messages lines came end is. ends_so replies card messages lines came end;
-    powers = λ free apps choice. (rw same refl, λ k other u. rw (apart k p.lane other) refl);
-    power_cut = λ free. (rw same refl, λ k other u. rw (apart k p.lane other) refl);
-    powers_canned = λ free. (rw same refl, λ k other u. rw (apart k p.lane other) refl);
-    answers = λ replies runs apps command. (
+    ends = λ lane later replies card messages lines came end over. ends_so lane later replies card messages lines came end;
+    powers = λ rests free apps choice. (rw same refl, λ k other u. rw (apart k p.lane other) refl);
+    power_cut = λ rests free apps cut. (rw same refl, λ k other u. rw (apart k p.lane other) refl);
+    powers_canned = λ rests free answers canned. (rw same refl, λ k other u. rw (apart k p.lane other) refl);
+    answers = λ replies runs apps command asks. (
       rw same (more replies runs (CardSaid (card_answer p.card.image part.card.kept part.card.session command).answer part.lane.log)),
       λ k other u. rw (apart k p.lane other) refl,
     );
     cuts = λ replies runs command cut at. (rw same (more replies runs CardGone), λ k other u. rw (apart k p.lane other) refl);
     tells = λ replies runs answers canned command answer.
         (rw same (more replies runs (CardSaid answer part.lane.log)), λ k other u. rw (apart k p.lane other) refl);
-    gone = λ replies runs command. (rw same (more replies runs CardGone), λ k other u. rw (apart k p.lane other) refl);
-    hosts = λ replies runs message reply. host_came replies runs message reply part.card (part.messages ++ delivered p.planned.link message);
+    gone = λ replies runs answers canned command. (rw same (more replies runs CardGone), λ k other u. rw (apart k p.lane other) refl);
+    hosts = λ replies runs message asks reply heard.
+        host_came replies runs message (ap deed_bytes asks) reply (with_sent message part.lane) part.card
+        (part.messages ++ delivered p.planned.link message);
   }
+
+-- lanes that differ in the messages that they made alone
+told_like : (s : ScenarioData) (l : ℕ) (v w : LaneRow) (t : LaneTold) → unsent v ≡ unsent w → IsLaneTold s l w t → IsLaneTold s l v t
+told_like s l v w t like told = record {
+  ended = told.ended ∙ ap (λ (row : LaneRow). pasts_told s l 0 row.ended) (sym like);
+  heard = λ replies runs.
+      told.heard replies (ap (λ (row : LaneRow). row.running) (sym like) ∙ runs)
+      ∙ ap (λ (row : LaneRow). heard_in (payment_in s l (length row.ended)) replies) (sym like);
+}
 
 -- over the events of a run
 pub record LinesTell (s : ScenarioData) (w : World) (lines : List Line) : Type 0 where
   pub sound : IsSound s w
-  pub lanes : (l : ℕ) → IsLaneTold (lane_at w l) (lane_told l lines)
+  pub lanes : (l : ℕ) → IsLaneTold s l (lane_at w l) (lane_told l lines)
 
 module _ (s : ScenarioData) where
-  none_told : (l : ℕ) → IsLaneTold (lane_at (first_world s) l) (record { heard = []; ended = [] })
+  none_told : (l : ℕ) → IsLaneTold s l (lane_at (first_world s) l) (record { heard = []; ended = [] })
   none_told l =
-      subst (λ (row : LaneRow). IsLaneTold row (record { heard = []; ended = [] })) (sym (get_or-map_const s.lanes l new_lane))
+      subst (λ (row : LaneRow). IsLaneTold s l row (record { heard = []; ended = [] })) (sym (get_or-map_const s.lanes l new_lane))
       (record { ended = refl; heard = λ replies is. cc })
 
-  module _ (w : World) (lines : List Line) (choice : Bool) (tell : LinesTell s w lines) where
+  module _ (w : World) (lines : List Line) (choices : List Bool) (tell : LinesTell s w lines) where
     turn_tells : (l : ℕ) (o : Option Payment) → next_of s w l ≡ o → (k : ℕ)
-        → IsLaneTold (lane_at (turned_by w l choice o).world k) (lane_told k (lines ++ (turned_by w l choice o).lines))
+        → IsLaneTold s k (lane_at (turned_by w l choices o).world k) (lane_told k (lines ++ (turned_by w l choices o).lines))
     unfolding lane_told
-    turn_tells l None is k = subst (λ (ls : List Line). IsLaneTold (lane_at w k) (lane_told k ls)) (sym (append-nil lines)) (tell.lanes k)
+    turn_tells l None is k = subst (λ (ls : List Line). IsLaneTold s k (lane_at w k) (lane_told k ls)) (sym (append-nil lines)) (tell.lanes k)
     turn_tells l (Some p) is k = by_lane (cases_eq k l)
       where
         part : Part
         part = part_of w l p.planned.card
 
-        new : List Line
-        new = (piece p part choice).lines
+        m : Moved
+        m = piece p part (choice_in choices 0)
 
         lane : p.lane ≡ l
         lane = (payment_facts s l (length (lane_at w l).ended) p is).lane
 
-        here : IsLaneTold (lane_at w l) (lane_told p.lane lines)
-        here = subst (λ j. IsLaneTold (lane_at w l) (lane_told j lines)) (sym lane) (tell.lanes l)
+        here : IsLaneTold s p.lane (lane_at w l) (lane_told p.lane lines)
+        here = subst (λ j. IsLaneTold s j (lane_at w l) (lane_told j lines)) (sym lane) (tell.lanes l)
 
-        behind : Behind p part (lane_told p.lane lines) here (piece p part choice).part new
-        behind = piece_tells p part (Came p part (lane_told p.lane lines) here) (Behind p part (lane_told p.lane lines) here) (tells_heard p part (lane_told p.lane lines) here) choice
+        own : payment_in s p.lane (length (lane_at w l).ended) ≡ Some p
+        own = ap (λ j. payment_in s j (length (lane_at w l).ended)) lane ∙ is
 
-        by_lane : (k ≡ l) ⊎ (k ≢ l) → IsLaneTold (lane_at (turned_by w l choice (Some p)).world k) (lane_told k (lines ++ new))
+        behind : Behind s p part (lane_told p.lane lines) own here m.part m.lines
+        behind =
+            piece_tells p part (Came s p part (lane_told p.lane lines) own here) (Behind s p part (lane_told p.lane lines) own here)
+            (tells_heard s p part (lane_told p.lane lines) own here) (choice_in choices 0)
+
+        by_lane : (k ≡ l) ⊎ (k ≢ l) → IsLaneTold s k (lane_at (turned_by w l choices (Some p)).world k) (lane_told k (lines ++ m.lines))
         by_lane (inl this) =
-            subst (λ j. IsLaneTold (lane_at (turned_by w l choice (Some p)).world j) (lane_told j (lines ++ new))) (sym this)
-            (subst (λ (row : LaneRow). IsLaneTold row (lane_told l (lines ++ new))) (sym (lane_behind s w l p tell.sound is (piece p part choice)))
-            (subst (λ j. IsLaneTold (piece p part choice).part.lane (lane_told j (lines ++ new))) lane
-            (subst (λ (u : LaneTold). IsLaneTold (piece p part choice).part.lane u) (sym (fold-append (told_next p.lane) _ lines new)) behind.0)))
+            subst (λ j. IsLaneTold s j (lane_at (turned_by w l choices (Some p)).world j) (lane_told j (lines ++ m.lines))) (sym this)
+            (subst (λ (row : LaneRow). IsLaneTold s l row (lane_told l (lines ++ m.lines))) (sym (lane_behind s w l p tell.sound is m))
+            (subst (λ j. IsLaneTold s j m.part.lane (lane_told j (lines ++ m.lines))) lane
+            (subst (λ (u : LaneTold). IsLaneTold s p.lane m.part.lane u) (sym (fold-append (told_next p.lane) _ lines m.lines)) behind.0)))
         by_lane (inr other) =
-            subst (λ (row : LaneRow). IsLaneTold row (lane_told k (lines ++ new))) (sym (get_or-set_other w.lanes l k (piece p part choice).part.lane new_lane other))
-            (subst (λ (u : LaneTold). IsLaneTold (lane_at w k) u)
-            (sym (fold-append (told_next k) _ lines new ∙ behind.1 k (λ same. other (same ∙ lane)) (lane_told k lines)))
+            subst (λ (row : LaneRow). IsLaneTold s k row (lane_told k (lines ++ m.lines))) (sym (get_or-set_other w.lanes l k m.part.lane new_lane other))
+            (subst (λ (u : LaneTold). IsLaneTold s k (lane_at w k) u)
+            (sym (fold-append (told_next k) _ lines m.lines ∙ behind.1 k (λ same_lane. other (same_lane ∙ lane)) (lane_told k lines)))
             (tell.lanes k))
 
-    -- lines of no lane
-    unsaid : (k : ℕ) (new : List Line) → ((u : LaneTold) → fold (told_next k) u new ≡ u) → IsLaneTold (lane_at w k) (lane_told k (lines ++ new))
+    -- lines that tell nothing, of an event that leaves the lanes but for their messages
+    unsaid : (after : World) → LanesLike after w → (k : ℕ) (new : List Line) → ((u : LaneTold) → fold (told_next k) u new ≡ u)
+        → IsLaneTold s k (lane_at after k) (lane_told k (lines ++ new))
     unfolding lane_told
-    unsaid k new none =
-        subst (λ (u : LaneTold). IsLaneTold (lane_at w k) u) (sym (fold-append (told_next k) _ lines new ∙ none (lane_told k lines))) (tell.lanes k)
+    unsaid after like k new none =
+        told_like s k (lane_at after k) (lane_at w k) (lane_told k (lines ++ new)) (like.each k)
+        (subst (λ (u : LaneTold). IsLaneTold s k (lane_at w k) u) (sym (fold-append (told_next k) _ lines new ∙ none (lane_told k lines))) (tell.lanes k))
 
-    settle_tells : (o : Option Settlement) (k : ℕ) → IsLaneTold (lane_at (settles s w o).world k) (lane_told k (lines ++ (settles s w o).lines))
-    settle_tells None k = unsaid k [] (λ u. refl)
-    settle_tells (Some at) k = unsaid k (settle_lines at.lane at.message _) (λ u. refl)
+    settle_tells : (o : Option Settlement) (k : ℕ) → IsLaneTold s k (lane_at (settles s w o).world k) (lane_told k (lines ++ (settles s w o).lines))
+    settle_tells None k = unsaid w (settle_like s w None) k [] (λ u. refl)
+    settle_tells (Some at) k =
+        unsaid (settles s w (Some at)).world (settle_like s w (Some at)) k (settle_lines (dialect_of s at.lane) at.lane at.message _) (λ u. refl)
 
-    audit_tells : (o : Option Check) (k : ℕ) → IsLaneTold (lane_at (audits w choice o).world k) (lane_told k (lines ++ (audits w choice o).lines))
-    audit_tells None k = unsaid k [] (λ u. refl)
-    audit_tells (Some (PowersUp i card)) k = unsaid k (audit_power_line card _ ∷ []) (λ u. refl)
-    audit_tells (Some (Asks i card command)) k = unsaid k (audit_lines card command _) (λ u. refl)
+    audit_tells : (o : Option Check) (k : ℕ) → IsLaneTold s k (lane_at (audits w choices o).world k) (lane_told k (lines ++ (audits w choices o).lines))
+    audit_tells None k = unsaid w (audit_like w choices None) k [] (λ u. refl)
+    audit_tells (Some (PowersUp i card)) k =
+        unsaid (audits w choices (Some (PowersUp i card))).world (audit_like w choices (Some (PowersUp i card))) k (audit_power_line card _ ∷ []) (λ u. refl)
+    audit_tells (Some (Asks i card command)) k =
+        unsaid (audits w choices (Some (Asks i card command))).world (audit_like w choices (Some (Asks i card command))) k (audit_lines card command _)
+        (λ u. refl)
 
-    event_tells : (e : Event) (k : ℕ) → IsLaneTold (lane_at (happens s w e choice).world k) (lane_told k (lines ++ (happens s w e choice).lines))
+    event_tells : (e : Event) (k : ℕ) → IsLaneTold s k (lane_at (happens s w e choices).world k) (lane_told k (lines ++ (happens s w e choices).lines))
     event_tells (Turn l) k = turn_tells l (next_of s w l) refl k
     event_tells (Settle n) k = settle_tells (slice_get (settlements s w) n) k
     event_tells (Audit n) k = audit_tells (slice_get (checks s) n) k
 
-  tells_next : (w : World) (lines : List Line) (e : Event) (choice : Bool) → LinesTell s w lines
-      → LinesTell s (happens s w e choice).world (lines ++ (happens s w e choice).lines)
-  tells_next w lines e choice tell = record { sound = event_sound s w e choice tell.sound; lanes = event_tells w lines choice tell e }
+  tells_next : (w : World) (lines : List Line) (e : Event) (choices : List Bool) → LinesTell s w lines
+      → LinesTell s (happens s w e choices).world (lines ++ (happens s w e choices).lines)
+  tells_next w lines e choices tell = record { sound = event_sound s w e choices tell.sound; lanes = event_tells w lines choices tell e }
 
   tells_first : LinesTell s (first_world s) []
   unfolding lane_told
@@ -205,7 +275,7 @@ pub replies_told : RunsTellReplies
 replies_told s place n choices lines w l reached = (reached_lines s (LinesTell s) (tells_first s) (tells_next s) place n choices lines w reached).lanes l
 
 -- the last of a longer list is the new one
-last_at : {A : Type 0} (xs : List A) (e : A) (k : ℕ) (x : A) → slice_get (xs ++ e ∷ []) k ≡ Some x
+pub last_at : {A : Type 0} (xs : List A) (e : A) (k : ℕ) (x : A) → slice_get (xs ++ e ∷ []) k ≡ Some x
     → (slice_get xs k ≡ Some x) ⊎ ((k ≡ length xs) × (e ≡ x))
 last_at [] e zero x here = inr (refl, same_Some e x here)
 last_at [] e (suc k) x here = cc
@@ -218,41 +288,50 @@ last_at (y ∷ ys) e (suc k) x here =
 
 -- an exchange adds to those that have ended at most one, which ends so
 module _ (p : Payment) (part : Part) where
-  abbrev Replied : List Reply → CardRow → List (List ℕ) → List Line → Type 0
-  Replied replies card messages lines = Unit {0}
+  abbrev Replied : LaneRow → List Reply → CardRow → List (List ℕ) → List Line → Type 0
+  Replied lane replies card messages lines = Unit {0}
 
   abbrev Ends : Part → List Line → Type 0
   Ends after lines =
       (number : ℕ) (past : Past) → slice_get after.lane.ended number ≡ Some past
       → (slice_get part.lane.ended number ≡ Some past) ⊎ ((number ≡ length part.lane.ended) × (end_at p past.replies ≡ Some past.end))
 
+  -- the purchases that had ended
+  were : (lane : LaneRow) → Later part.lane lane → (number : ℕ) (past : Past) → slice_get lane.ended number ≡ Some past
+      → slice_get part.lane.ended number ≡ Some past
+  were lane later number past here = ap (λ (pasts : List Past). slice_get pasts number) (sym (later_ended part.lane lane later)) ∙ here
+
   tells_ends : Tells p part Replied Ends
   tells_ends = record {
     still = λ number past here. inl here;
-    goes = λ replies card messages lines came number past here. inl here;
-    ends = λ replies card messages lines came end is number past here.
-        elim (last_at part.lane.ended (record { replies = replies; end = end }) number past here) [
-          | inl before ↦ inl before
-          | inr last ↦ inr (last.0, subst (λ (x : Past). end_at p x.replies ≡ Some x.end) last.1 is)
+    goes = λ lane later replies card messages lines came number past here. inl (were lane later number past here);
+    ends = λ lane later replies card messages lines came end is number past here.
+        elim (last_at lane.ended (record { began = lane.began; replies = replies; end = end }) number past here) [
+          | inl before ↦ inl (were lane later number past before)
+          | inr last ↦
+              inr (
+                last.0 ∙ ap (λ (pasts : List Past). length pasts) (later_ended part.lane lane later),
+                subst (λ (x : Past). end_at p x.replies ≡ Some x.end) last.1 is,
+              )
         ];
-    powers = λ free apps choice. tt;
-    power_cut = λ free. tt;
-    powers_canned = λ free. tt;
-    answers = λ replies runs apps command. tt;
+    powers = λ rests free apps choice. tt;
+    power_cut = λ rests free apps is. tt;
+    powers_canned = λ rests free answers canned. tt;
+    answers = λ replies runs apps command asks. tt;
     cuts = λ replies runs command cut at. tt;
     tells = λ replies runs answers canned command answer. tt;
-    gone = λ replies runs command. tt;
-    hosts = λ replies runs message reply. tt;
+    gone = λ replies runs answers canned command. tt;
+    hosts = λ replies runs message asks reply is. tt;
   }
 
 abbrev AllEnd : ScenarioData → World → Type 0
 AllEnd s w = IsSound s w × ((l number : ℕ) (past : Past) → slice_get (lane_at w l).ended number ≡ Some past → EndsSo s l number past)
 
 module _ (s : ScenarioData) where
-  turn_ends : (w : World) (l : ℕ) (choice : Bool) → AllEnd s w → (o : Option Payment) → next_of s w l ≡ o
-      → (k number : ℕ) (past : Past) → slice_get (lane_at (turned_by w l choice o).world k).ended number ≡ Some past → EndsSo s k number past
-  turn_ends w l choice all None is k number past here = all.1 k number past here
-  turn_ends w l choice all (Some p) is k number past here = by_lane (cases_eq k l)
+  turn_ends : (w : World) (l : ℕ) (choices : List Bool) → AllEnd s w → (o : Option Payment) → next_of s w l ≡ o
+      → (k number : ℕ) (past : Past) → slice_get (lane_at (turned_by w l choices o).world k).ended number ≡ Some past → EndsSo s k number past
+  turn_ends w l choices all None is k number past here = all.1 k number past here
+  turn_ends w l choices all (Some p) is k number past here = by_lane (cases_eq k l)
     where
       part : Part
       part = part_of w l p.planned.card
@@ -265,30 +344,28 @@ module _ (s : ScenarioData) where
       by_lane (inl this) =
           subst (λ j. EndsSo s j number past) (sym this)
           (by_past
-          (piece_tells p part (Replied p part) (Ends p part) (tells_ends p part) choice number past
-          (ap (λ (row : LaneRow). slice_get row.ended number) (sym (lane_behind s w l p all.0 is (piece p part choice)))
-          ∙ ap (λ j. slice_get (lane_at (turned_by w l choice (Some p)).world j).ended number) (sym this)
+          (piece_tells p part (Replied p part) (Ends p part) (tells_ends p part) (choice_in choices 0) number past
+          (ap (λ (row : LaneRow). slice_get row.ended number) (sym (lane_behind s w l p all.0 is (piece p part (choice_in choices 0))))
+          ∙ ap (λ j. slice_get (lane_at (turned_by w l choices (Some p)).world j).ended number) (sym this)
           ∙ here)))
       by_lane (inr other) =
           all.1 k number past
-          (ap (λ (row : LaneRow). slice_get row.ended number) (sym (get_or-set_other w.lanes l k (piece p part choice).part.lane new_lane other)) ∙ here)
+          (ap (λ (row : LaneRow). slice_get row.ended number) (sym (get_or-set_other w.lanes l k (piece p part (choice_in choices 0)).part.lane new_lane other)) ∙ here)
 
-  event_ends : (w : World) (e : Event) (choice : Bool) → AllEnd s w → AllEnd s (happens s w e choice).world
-  event_ends w e choice all = (event_sound s w e choice all.0, by_event e)
+  -- lanes that differ in the messages that they made alone
+  like_ends : (w after : World) → LanesLike after w → AllEnd s w → (l number : ℕ) (past : Past) → slice_get (lane_at after l).ended number ≡ Some past
+      → EndsSo s l number past
+  like_ends w after like all l number past here =
+      all.1 l number past (ap (λ (row : LaneRow). slice_get row.ended number) (sym (like.each l)) ∙ here)
+
+  event_ends : (w : World) (e : Event) (choices : List Bool) → AllEnd s w → AllEnd s (happens s w e choices).world
+  event_ends w e choices all = (event_sound s w e choices all.0, by_event e)
     where
-      by_settlement : (o : Option Settlement) (l number : ℕ) (past : Past) → slice_get (lane_at (settles s w o).world l).ended number ≡ Some past → EndsSo s l number past
-      by_settlement None l number past here = all.1 l number past here
-      by_settlement (Some at) l number past here = all.1 l number past here
-
-      by_check : (o : Option Check) (l number : ℕ) (past : Past) → slice_get (lane_at (audits w choice o).world l).ended number ≡ Some past → EndsSo s l number past
-      by_check None l number past here = all.1 l number past here
-      by_check (Some (PowersUp i card)) l number past here = all.1 l number past here
-      by_check (Some (Asks i card command)) l number past here = all.1 l number past here
-
-      by_event : (e : Event) (l number : ℕ) (past : Past) → slice_get (lane_at (happens s w e choice).world l).ended number ≡ Some past → EndsSo s l number past
-      by_event (Turn k) = turn_ends w k choice all (next_of s w k) refl
-      by_event (Settle n) = by_settlement (slice_get (settlements s w) n)
-      by_event (Audit n) = by_check (slice_get (checks s) n)
+      by_event : (e : Event) (l number : ℕ) (past : Past) → slice_get (lane_at (happens s w e choices).world l).ended number ≡ Some past → EndsSo s l number past
+      by_event (Turn k) = turn_ends w k choices all (next_of s w k) refl
+      by_event (Settle n) =
+          like_ends w (settles s w (slice_get (settlements s w) n)).world (settle_like s w (slice_get (settlements s w) n)) all
+      by_event (Audit n) = like_ends w (audits w choices (slice_get (checks s) n)).world (audit_like w choices (slice_get (checks s) n)) all
 
   first_ends : AllEnd s (first_world s)
   first_ends = (first_sound s, λ l number past here. absurd (none l number past here))

@@ -13,33 +13,34 @@ use Rattle.txn_replay.specs.Changes.{powered, exchanged, told_once, torn, lost}
 use Rattle.txn_replay.specs.Lines.{answer_lines, torn_lines, gone_lines, power_torn_line}
 use Rattle.txn_replay.specs.Part.{Part, lane_ended, settled_by, cut_ends, answered, canned_by, asked_by, asked, begun, begun_by, begun_with, piece_by, piece}
 use Rattle.txn_replay.specs.Payment.{Payment, deal_for, end_at}
-use Rattle.txn_replay.specs.World.{Holder, CardRow, LaneRow}
+use Rattle.txn_replay.specs.World.{Holder, CardRow, LaneRow, with_sent}
 use Rattle.txn_replay.proofs.Moves.{this_one}
+use Rattle.txn_replay.proofs.Sending.{Later, as_is, beginning, messaging}
 
 module _ (B : LaneRow → Type 0) (p : Payment) (part : Part) (stays : B part.lane)
-    (runs : (replies : List Reply) → B (record part.lane { running = Some replies }))
-    (ends : (replies : List Reply) (end : EndData) → B (lane_ended p replies end part.lane)) where
-  settled_lane : (replies : List Reply) (card : CardRow) (messages : List (List ℕ)) (lines : List Line) (e : Option EndData)
-      → B (settled_by p replies (record { lane = part.lane; card = card; messages = messages }) lines e).part.lane
-  settled_lane replies card messages lines None = runs replies
-  settled_lane replies card messages lines (Some end) = ends replies end
+    (runs : (lane : LaneRow) (replies : List Reply) → Later part.lane lane → B (record lane { running = Some replies }))
+    (ends : (lane : LaneRow) (replies : List Reply) (end : EndData) → Later part.lane lane → B (lane_ended p replies end lane)) where
+  settled_lane : (replies : List Reply) (lane : LaneRow) (card : CardRow) (messages : List (List ℕ)) (lines : List Line) (e : Option EndData)
+      → Later part.lane lane → B (settled_by p replies (record { lane = lane; card = card; messages = messages }) lines e).part.lane
+  settled_lane replies lane card messages lines None later = runs lane replies later
+  settled_lane replies lane card messages lines (Some end) later = ends lane replies end later
 
   cut_lane : (replies : List Reply) (card : CardRow) (lines : List Line) (e : Option EndData)
       → B (cut_ends p replies part (record part { card = card }) lines e).part.lane
   cut_lane replies card lines None = stays
-  cut_lane replies card lines (Some end) = ends replies end
+  cut_lane replies card lines (Some end) = ends part.lane replies end as_is
 
   answer_lane : (replies : List Reply) (command : List ℕ) (said : CardAnswer) (cut : Option Cut) → B (answered p replies command part said cut).part.lane
   answer_lane replies command said None =
-      settled_lane (replies ++ CardSaid said.answer part.lane.log ∷ []) (exchanged p.card.image part.card command said) part.messages
-      (answer_lines p.lane command said.answer) (end_at p (replies ++ CardSaid said.answer part.lane.log ∷ []))
+      settled_lane (replies ++ CardSaid said.answer part.lane.log ∷ []) part.lane (exchanged p.card.image part.card command said) part.messages
+      (answer_lines p.lane command said.answer) (end_at p (replies ++ CardSaid said.answer part.lane.log ∷ [])) as_is
   answer_lane replies command said (Some cut) =
       cut_lane (replies ++ CardGone ∷ []) (torn part.card p.planned.tear cut) (torn_lines p.lane command) (end_at p (replies ++ CardGone ∷ []))
 
   tell_lane : (replies : List Reply) (command : List ℕ) (o : Option (List ℕ)) → B (canned_by p replies command part o).part.lane
   tell_lane replies command (Some answer) =
-      settled_lane (replies ++ CardSaid answer part.lane.log ∷ []) (told_once part.card) part.messages (answer_lines p.lane command answer)
-      (end_at p (replies ++ CardSaid answer part.lane.log ∷ []))
+      settled_lane (replies ++ CardSaid answer part.lane.log ∷ []) part.lane (told_once part.card) part.messages (answer_lines p.lane command answer)
+      (end_at p (replies ++ CardSaid answer part.lane.log ∷ [])) as_is
   tell_lane replies command None =
       cut_lane (replies ++ CardGone ∷ []) part.card (gone_lines p.lane command) (end_at p (replies ++ CardGone ∷ []))
 
@@ -51,26 +52,29 @@ module _ (B : LaneRow → Type 0) (p : Payment) (part : Part) (stays : B part.la
 
   ask_lane : (replies : List Reply) (deed : Deed) → B (asked p replies part deed).part.lane
   ask_lane replies (ToCard command) = kind_lane replies command p.card.canned
-  ask_lane replies (ToHost message) = settled_lane _ part.card _ _ _
+  ask_lane replies (ToHost message) = settled_lane _ (with_sent message part.lane) part.card _ _ _ (messaging message)
   ask_lane replies (Over ending) = stays
 
   begin_lane : (choice torn_there : Bool) → B (begun_by p part choice torn_there).part.lane
   begin_lane choice true = cut_lane (CardGone ∷ []) (lost part.card) (power_torn_line p.lane p.card ∷ []) (end_at p (CardGone ∷ []))
   begin_lane choice false =
-      settled_lane [] (powered part.card (found_of part.card.kept part.card.pending choice) (Some (this_one p part))) part.messages _ (end_at p [])
+      settled_lane [] (record part.lane { began = Some (found_of part.card.kept part.card.pending choice) })
+      (powered part.card (found_of part.card.kept part.card.pending choice) (Some (this_one p part))) part.messages _ (end_at p [])
+      (beginning (Some (found_of part.card.kept part.card.pending choice)))
 
   kind_begins : (choice : Bool) (o : Option (List (List ℕ))) → B (begun_with p part choice o).part.lane
   kind_begins choice None = begin_lane choice (is_named p.planned.tear 0)
   kind_begins choice (Some answers) =
-      settled_lane [] (powered part.card (found_of part.card.kept part.card.pending false) (Some (this_one p part))) part.messages _ (end_at p [])
+      settled_lane [] (record part.lane { began = None })
+      (powered part.card (found_of part.card.kept part.card.pending false) (Some (this_one p part))) part.messages _ (end_at p []) (beginning None)
 
   pub piece_lane : (choice : Bool) → B (piece p part choice).part.lane
   piece_lane choice = by_lane part.lane.running
     where
-      begins : (o : Option Holder) → B (begun p part choice o).part.lane
-      begins None = kind_begins choice p.card.canned
-      begins (Some h) = stays
+      by_holder : (o : Option Holder) → B (begun p part choice o).part.lane
+      by_holder None = kind_begins choice p.card.canned
+      by_holder (Some h) = stays
 
       by_lane : (o : Option (List Reply)) → B (piece_by p part choice o).part.lane
-      by_lane None = begins part.card.holder
+      by_lane None = by_holder part.card.holder
       by_lane (Some replies) = ask_lane replies (dialogue (deal_for p) replies).deed

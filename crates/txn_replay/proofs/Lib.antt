@@ -1,5 +1,6 @@
 pub mod Lists
 pub mod Payments
+pub mod Sending
 pub mod Moves
 pub mod Sounding
 pub mod Counters
@@ -14,7 +15,6 @@ pub mod Waiting
 pub mod Lanes
 pub mod Few
 pub mod Losses
-pub mod Again
 pub mod Apart
 pub mod Endings
 pub mod Exchanges
@@ -44,6 +44,8 @@ pub mod Gives
 pub mod Sureness
 pub mod Lining
 pub mod Hearing
+pub mod Messaging
+pub mod Respelling
 pub mod Lost
 pub mod Unique
 pub mod SameTotals

@@ -8,17 +8,17 @@ use Rattle.txn_replay.specs.Part.{Moved}
 use Rattle.txn_replay.specs.Payment.{Payment, next_of}
 use Rattle.txn_replay.specs.Run.{Place, Reached, start, scheduled, rounds, round, again, settlement, settling, audit, auditing, finished}
 use Rattle.txn_replay.specs.Sound.{IsSound}
-use Rattle.txn_replay.specs.Steps.{happens, moved, first_of, Step}
+use Rattle.txn_replay.specs.Steps.{happens, moved, Step}
 use Rattle.txn_replay.specs.World.{World, new_card, new_lane, first_world, card_at, lane_at}
 use Rattle.txn_replay.specs.declared.event.Event.{Event}
 use Rattle.txn_replay.proofs.Payments.{payment_facts}
 
 module _ (s : ScenarioData) (Q : World → List Line → Type 0) (first : Q (first_world s) [])
-    (keeps : (w : World) (lines : List Line) (e : Event) (choice : Bool) → Q w lines → Q (happens s w e choice).world (lines ++ (happens s w e choice).lines)) where
+    (keeps : (w : World) (lines : List Line) (e : Event) (choices : List Bool) → Q w lines → Q (happens s w e choices).world (lines ++ (happens s w e choices).lines)) where
   pub step_lines : (w : World) (lines : List Line) (e : Event) (choices : List Bool) (new : List Line) (after : World) → Step s w e choices new after → Q w lines → Q after (lines ++ new)
   step_lines w lines e choices new after step has =
       subst (λ (x : World). Q x (lines ++ new)) (sym step.leads)
-      (subst (λ (xs : List Line). Q (happens s w e (first_of choices)).world (lines ++ xs)) (sym step.made) (keeps w lines e (first_of choices) has))
+      (subst (λ (xs : List Line). Q (happens s w e choices).world (lines ++ xs)) (sym step.made) (keeps w lines e choices has))
 
   pub reached_lines : (place : Place) (n : ℕ) (choices : List Bool) (lines : List Line) (w : World) → Reached s place n choices lines w → Q w lines
   reached_lines _ _ _ _ _ start = first

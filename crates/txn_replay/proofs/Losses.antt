@@ -9,6 +9,7 @@ use Rattle.card_pages.specs.Cuts.{Cut, cut_of}
 use Rattle.card_pages.specs.Pages.{found_of}
 use Rattle.card_pages.specs.Replies.{CardAnswer}
 use Rattle.emv_ports.specs.Cut.{is_named}
+use Rattle.host_link.specs.Delivery.{delivered, heard}
 use Rattle.issuer_host.specs.History.{host_reply}
 use Rattle.kernel.specs.Dialogue.{dialogue}
 use Rattle.kernel.specs.Ended.{EndData}
@@ -17,10 +18,10 @@ use Rattle.report_text.specs.declared.line.Line.{Line}
 use Rattle.txn_replay.specs.Changes.{powered, exchanged, told_once, torn, lost}
 use Rattle.txn_replay.specs.Laws.{is_torn, LossesAreTold}
 use Rattle.txn_replay.specs.Lines.{power_line, power_canned_line, power_torn_line, answer_lines, torn_lines, gone_lines, host_lines, end_line}
-use Rattle.txn_replay.specs.Part.{Part, Moved, still, delivered, heard, settled_by, cut_ends, answered, canned_by, asked_by, asked, begun, begun_by, begun_with, piece_by, piece}
+use Rattle.txn_replay.specs.Part.{Part, Moved, still, settled_by, cut_ends, answered, canned_by, asked_by, asked, begun, begun_by, begun_with, piece_by, piece}
 use Rattle.txn_replay.specs.Payment.{Payment, deal_for, end_at}
-use Rattle.txn_replay.specs.Steps.{After, part_of, moved, turned_by, happens}
-use Rattle.txn_replay.specs.World.{Holder, CardRow, new_card, card_at}
+use Rattle.txn_replay.specs.Steps.{After, part_of, moved, choice_in, turned_by, happens}
+use Rattle.txn_replay.specs.World.{Holder, CardRow, LaneRow, new_card, card_at, with_sent}
 use Rattle.txn_replay.specs.declared.event.Event.TheVariants.{Turn}
 use Rattle.txn_replay.proofs.Payments.{payment_facts}
 
@@ -38,12 +39,12 @@ with_end lines lane number end =
     let none : count (end_line lane number end ∷ []) ≡ 0 = refl in
     omega arith
 
-settled_told : (p : Payment) (part : Part) (replies : List Reply) (card : CardRow) (messages : List (List ℕ)) (lines : List Line) (e : Option EndData)
-    → card.losses ≡ part.card.losses → count lines ≡ 0
-    → Told part (settled_by p replies (record { lane = part.lane; card = card; messages = messages }) lines e)
-settled_told p part replies card messages lines None same none = omega (arith, same, none)
-settled_told p part replies card messages lines (Some end) same none =
-    let ended : count (lines ++ end_line p.lane (length part.lane.ended + 1) end ∷ []) ≡ count lines = with_end lines p.lane (length part.lane.ended + 1) end in
+settled_told : (p : Payment) (part : Part) (replies : List Reply) (lane : LaneRow) (card : CardRow) (messages : List (List ℕ)) (lines : List Line)
+    (e : Option EndData) → card.losses ≡ part.card.losses → count lines ≡ 0
+    → Told part (settled_by p replies (record { lane = lane; card = card; messages = messages }) lines e)
+settled_told p part replies lane card messages lines None same none = omega (arith, same, none)
+settled_told p part replies lane card messages lines (Some end) same none =
+    let ended : count (lines ++ end_line p.lane (length lane.ended + 1) end ∷ []) ≡ count lines = with_end lines p.lane (length lane.ended + 1) end in
     omega (arith, same, none, ended)
 
 cut_told : (p : Payment) (part : Part) (replies : List Reply) (card : CardRow) (lines : List Line) (n : ℕ) (e : Option EndData)
@@ -56,7 +57,7 @@ cut_told p part replies card lines n (Some end) same told =
 answered_told : (p : Payment) (part : Part) (replies : List Reply) (command : List ℕ) (said : CardAnswer) (cut : Option Cut)
     → Told part (answered p replies command part said cut)
 answered_told p part replies command said None =
-    settled_told p part (replies ++ CardSaid said.answer part.lane.log ∷ []) (exchanged p.card.image part.card command said) part.messages
+    settled_told p part (replies ++ CardSaid said.answer part.lane.log ∷ []) part.lane (exchanged p.card.image part.card command said) part.messages
     (answer_lines p.lane command said.answer) (end_at p (replies ++ CardSaid said.answer part.lane.log ∷ [])) refl refl
 answered_told p part replies command said (Some cut) =
     cut_told p part (replies ++ CardGone ∷ []) (torn part.card p.planned.tear cut) (torn_lines p.lane command) 1
@@ -64,7 +65,7 @@ answered_told p part replies command said (Some cut) =
 
 canned_told : (p : Payment) (part : Part) (replies : List Reply) (command : List ℕ) (o : Option (List ℕ)) → Told part (canned_by p replies command part o)
 canned_told p part replies command (Some answer) =
-    settled_told p part (replies ++ CardSaid answer part.lane.log ∷ []) (told_once part.card) part.messages (answer_lines p.lane command answer)
+    settled_told p part (replies ++ CardSaid answer part.lane.log ∷ []) part.lane (told_once part.card) part.messages (answer_lines p.lane command answer)
     (end_at p (replies ++ CardSaid answer part.lane.log ∷ [])) refl refl
 canned_told p part replies command None =
     cut_told p part (replies ++ CardGone ∷ []) part.card (gone_lines p.lane command) 0 (end_at p (replies ++ CardGone ∷ [])) (omega arith) refl
@@ -76,15 +77,15 @@ kind_told p part replies command None =
     (cut_of p.planned.tear part.card.made (card_answer p.card.image part.card.kept part.card.session command).new)
 kind_told p part replies command (Some answers) = canned_told p part replies command (slice_get answers part.card.told)
 
-host_none : (lane : ℕ) (message : List ℕ) (reply : Option (List ℕ)) → count (host_lines lane message reply) ≡ 0
-host_none lane message None = refl
-host_none lane message (Some reply) = refl
+host_none : (iso : Bool) (lane : ℕ) (message : List ℕ) (reply : Option (List ℕ)) → count (host_lines iso lane message reply) ≡ 0
+host_none iso lane message None = refl
+host_none iso lane message (Some reply) = refl
 
 asked_told : (p : Payment) (part : Part) (replies : List Reply) (deed : Deed) → Told part (asked p replies part deed)
 asked_told p part replies (ToCard command) = kind_told p part replies command p.card.canned
 asked_told p part replies (ToHost message) =
-    settled_told p part (replies ++ from_host reply ∷ []) part.card (part.messages ++ delivered p.planned.link message)
-    (host_lines p.lane message reply) (end_at p (replies ++ from_host reply ∷ [])) refl (host_none p.lane message reply)
+    settled_told p part (replies ++ from_host reply ∷ []) (with_sent message part.lane) part.card (part.messages ++ delivered p.planned.link message)
+    (host_lines p.iso p.lane message reply) (end_at p (replies ++ from_host reply ∷ [])) refl (host_none p.iso p.lane message reply)
   where
     reply : Option (List ℕ)
     reply = heard p.planned.link (host_reply p.issuer p.accounts part.messages message)
@@ -96,14 +97,14 @@ piece_told p part choice = by_lane part.lane.running
     by_tear : (cut : Bool) → Told part (begun_by p part choice cut)
     by_tear true = cut_told p part (CardGone ∷ []) (lost part.card) (power_torn_line p.lane p.card ∷ []) 1 (end_at p (CardGone ∷ [])) refl refl
     by_tear false =
-        settled_told p part []
+        settled_told p part [] (record part.lane { began = Some (found_of part.card.kept part.card.pending choice) })
         (powered part.card (found_of part.card.kept part.card.pending choice) (Some (record { lane = p.lane; number = length part.lane.ended }))) part.messages
         (power_line p.lane p.card (found_of part.card.kept part.card.pending choice) ∷ []) (end_at p []) refl refl
 
     by_kind : (o : Option (List (List ℕ))) → Told part (begun_with p part choice o)
     by_kind None = by_tear (is_named p.planned.tear 0)
     by_kind (Some answers) =
-        settled_told p part []
+        settled_told p part [] (record part.lane { began = None })
         (powered part.card (found_of part.card.kept part.card.pending false) (Some (record { lane = p.lane; number = length part.lane.ended }))) part.messages
         (power_canned_line p.lane p.card ∷ []) (end_at p []) refl refl
 
@@ -119,13 +120,13 @@ piece_told p part choice = by_lane part.lane.running
     by_lane (Some replies) = asked_told p part replies (dialogue (deal_for p) replies).deed
 
 pub losses_told : LossesAreTold
-losses_told s w l choice p sound is =
+losses_told s w l choices p sound is =
     let within : p.planned.card < length w.cards =
     (let card : p.planned.card < length s.cards = slice_get_within s.cards p.planned.card p.card (payment_facts s l _ p is).card in
     let count : length w.cards ≡ length s.cards = sound.card_count in omega arith) in
-    let m : Moved = piece p (part_of w l p.planned.card) choice in
-    let is_so : happens s w (Turn l) choice ≡ moved w l p.planned.card m = ap (λ (o : Option Payment). turned_by w l choice o) is in
+    let m : Moved = piece p (part_of w l p.planned.card) (choice_in choices 0) in
+    let is_so : happens s w (Turn l) choices ≡ moved w l p.planned.card m = ap (λ (o : Option Payment). turned_by w l choices o) is in
     ap (λ (x : After). (card_at x.world p.planned.card).losses) is_so
     ∙ ap (λ (row : CardRow). row.losses) (get_or-set_same w.cards p.planned.card m.part.card new_card within)
-    ∙ piece_told p (part_of w l p.planned.card) choice
+    ∙ piece_told p (part_of w l p.planned.card) (choice_in choices 0)
     ∙ ap (λ (x : After). (card_at w p.planned.card).losses + count x.lines) (sym is_so)

@@ -1,17 +1,19 @@
 -- A card has lost its power as often as the lines of a run tell.
 use Rattle.std.proofs.Common.{◌≡◌, ◌≢◌, ℕ, ◌⊎◌, ◌+◌, ◌≤◌, ◌<◌, cond, Bool, true, false, if◌then◌else◌, List, [], ◌∷◌, ◌++◌, length, slice_get, Option, Some, None, refl, sym, ap, ◌∙◌, inl, inr, arith, append-nil}
-use Rattle.std.specs.Prelude.{◌==◌, ◌||◌}
-use Rattle.std.specs.List.{AllPairs, count_by, list_any}
+use Rattle.std.specs.Prelude.{◌==◌, ◌||◌, ℤ}
+use Rattle.std.specs.List.{AllPairs, count_by, flat_map, list_any}
 use Rattle.std.specs.Str.{bytes_eq}
 use Rattle.std.proofs.lemmas.Bool.{eqb-true, eq-eqb, cases_eq, cases_lt}
 use Rattle.std.proofs.lemmas.List.{append_assoc, get_or-set_other}
 use Rattle.std.proofs.lemmas.List.Sums.{fold_push, sum_by-append}
 use Rattle.std.proofs.lemmas.Option.{same_Some, slice_get_within, get_or_from_slice_get}
 use Rattle.std.proofs.lemmas.Slice.Eq.{bytes_eq-Decides}
+use Rattle.issuer_host.specs.Account.{AccountData}
+use Rattle.issuer_host.specs.History.{balance_after}
 use Rattle.kernel.specs.Ended.{EndData}
 use Rattle.kernel.specs.Reply.{Reply}
 use Rattle.report_text.specs.declared.line.Line.{Line}
-use Rattle.report_text.specs.declared.line.Line.TheVariants.{Power, PowerCanned, PowerTorn, ToCard, Torn}
+use Rattle.report_text.specs.declared.line.Line.TheVariants.{Power, PowerCanned, PowerTorn, ToCard, Torn, Done}
 use Rattle.scenario.specs.Cards.{CardData}
 use Rattle.scenario.specs.Plan.{ScenarioData, IsScenario}
 use Rattle.txn_replay.specs.Changes.{lost}
@@ -20,9 +22,10 @@ use Rattle.txn_replay.specs.Lines.{torn_lines, host_lines, end_line}
 use Rattle.txn_replay.specs.Part.{Part, Moved, piece}
 use Rattle.txn_replay.specs.Payment.{Payment, payment_in, next_of}
 use Rattle.txn_replay.specs.Sound.{IsSound}
-use Rattle.txn_replay.specs.Steps.{Check, PowersUp, Asks, Settlement, settlements, settles, checks, audits, with_card, part_of, turned_by, happens}
-use Rattle.txn_replay.specs.Told.{card_next, card_told, is_loss_of, losses_behind, losses_told, HasLosses, RunsTellLosses}
-use Rattle.txn_replay.specs.World.{CardRow, LaneRow, World, new_card, new_lane, first_world, card_at, lane_at}
+use Rattle.txn_replay.specs.Steps.{Check, PowersUp, Asks, Settlement, settlements, settles, checks, audits, with_card, part_of, choice_in, turned_by, happens}
+use Rattle.txn_replay.specs.Run.{Finished, balance_line, account_lines, ended_count, closing, Run}
+use Rattle.txn_replay.specs.Told.{card_next, card_told, is_loss_of, losses_behind, losses_told, HasLosses, RunsTellLosses, WholeRunsTellLosses}
+use Rattle.txn_replay.specs.World.{Past, CardRow, LaneRow, World, new_card, new_lane, first_world, card_at, lane_at}
 use Rattle.txn_replay.specs.declared.event.Event.{Event}
 use Rattle.txn_replay.specs.declared.event.Event.TheVariants.{Turn, Settle, Audit}
 use Rattle.txn_replay.proofs.Exchanging.{Tells, piece_tells}
@@ -31,6 +34,7 @@ use Rattle.txn_replay.proofs.Lining.{reached_lines, lane_behind, card_behind}
 use Rattle.txn_replay.proofs.Lists.{at_set, get_or-map_const}
 use Rattle.txn_replay.proofs.Losses.{piece_told}
 use Rattle.txn_replay.proofs.Payments.{payment_facts}
+use Rattle.txn_replay.proofs.Sending.{later_ended, LanesLike, settle_like, audit_like}
 use Rattle.txn_replay.proofs.Sounding.{first_sound}
 
 pub card-push : (l : ℕ) (before : List Line) (line : Line) → card_told l (before ++ line ∷ []) ≡ card_next l (card_told l before) line
@@ -116,7 +120,7 @@ module _ (p : Payment) (part : Part) (before : List Line) (known : (replies : Li
   abbrev Others : List Line → Type 0
   Others lines = (k : ℕ) → k ≢ p.lane → card_told k (before ++ lines) ≡ card_told k before
 
-  pub record Came (replies : List Reply) (card : CardRow) (messages : List (List ℕ)) (lines : List Line) : Type 0 where
+  pub record Came (lane : LaneRow) (replies : List Reply) (card : CardRow) (messages : List (List ℕ)) (lines : List Line) : Type 0 where
     pub own : Own lines
     pub others : Others lines
     pub card_is : card_told p.lane (before ++ lines) ≡ p.card.name
@@ -134,8 +138,9 @@ module _ (p : Payment) (part : Part) (before : List Line) (known : (replies : Li
       by true = quiet_torn lines quiet
       by false = refl
 
-  quiet_came : (replies others : List Reply) → part.lane.running ≡ Some others → (card : CardRow) (messages : List (List ℕ)) (lines : List Line) → AreQuiet lines → Came replies card messages lines
-  quiet_came replies others runs card messages lines quiet = record {
+  quiet_came : (lane : LaneRow) (replies others : List Reply) → part.lane.running ≡ Some others → (card : CardRow) (messages : List (List ℕ)) (lines : List Line)
+      → AreQuiet lines → Came lane replies card messages lines
+  quiet_came lane replies others runs card messages lines quiet = record {
     own = none_own lines quiet;
     others = λ k other. quiet_card k before lines quiet;
     card_is = quiet_card p.lane before lines quiet ∙ known others runs;
@@ -146,9 +151,10 @@ module _ (p : Payment) (part : Part) (before : List Line) (known : (replies : Li
     pub named : (k : ℕ) (name : List ℕ) → card_next k name line ≡ (if p.lane == k then p.card.name else name)
     pub own : (name : List ℕ) (ls : List Line) → (if is_loss_of name ls line then 1 else 0) ≡ (if bytes_eq p.card.name name then count_by is_torn (line ∷ []) else 0)
 
-  power_came : (replies : List Reply) (card : CardRow) (messages : List (List ℕ)) (line : Line) → Powers line → Came replies card messages (line ∷ [])
+  power_came : (lane : LaneRow) (replies : List Reply) (card : CardRow) (messages : List (List ℕ)) (line : Line) → Powers line
+      → Came lane replies card messages (line ∷ [])
   unfolding losses_behind
-  power_came replies card messages line powers = record {
+  power_came lane replies card messages line powers = record {
     own = λ name. (let same : (if is_loss_of name before line then 1 else 0) ≡ (if bytes_eq p.card.name name then count_by is_torn (line ∷ []) else 0) = powers.own name before in omega (arith, same));
     others = λ k other. card-push k before line ∙ powers.named k (card_told k before) ∙ ap (λ b. if b then p.card.name else card_told k before) (apart k p.lane other);
     card_is = card-push p.lane before line ∙ powers.named p.lane (card_told p.lane before) ∙ ap (λ b. if b then p.card.name else card_told p.lane before) (eq-eqb p.lane p.lane refl);
@@ -176,9 +182,9 @@ module _ (p : Payment) (part : Part) (before : List Line) (known : (replies : Li
       ∙ card-push k (before ++ asks ∷ []) (Torn p.lane)
       ∙ card-push k before asks
 
-  ends_so : (card : CardRow) (messages : List (List ℕ)) (replies : List Reply) (lines : List Line) → Came replies card messages lines → (number : ℕ) (end : EndData) → (after : Part)
-      → after.lane.running ≡ None → Behind after (lines ++ end_line p.lane number end ∷ [])
-  ends_so card messages replies lines came number end after rests = record {
+  ends_so : (lane : LaneRow) (card : CardRow) (messages : List (List ℕ)) (replies : List Reply) (lines : List Line) → Came lane replies card messages lines
+      → (number : ℕ) (end : EndData) → (after : Part) → after.lane.running ≡ None → Behind after (lines ++ end_line p.lane number end ∷ [])
+  ends_so lane card messages replies lines came number end after rests = record {
     own = λ name. losses-append name before lines line ∙ same name (bytes_eq p.card.name name) (came.own name);
     others = λ k other. joined k ∙ came.others k other;
     card_is = λ others runs. cc;
@@ -203,7 +209,7 @@ module _ (p : Payment) (part : Part) (before : List Line) (known : (replies : Li
       same name false is =
           let none : losses_behind name (before ++ lines) line ≡ 0 = quiet_losses name (before ++ lines) line quiet in omega (arith, is, none)
 
-  host_quiet : (message : List ℕ) (reply : Option (List ℕ)) → AreQuiet (host_lines p.lane message reply)
+  host_quiet : (message : List ℕ) (reply : Option (List ℕ)) → AreQuiet (host_lines p.iso p.lane message reply)
   host_quiet message None = refl
   host_quiet message (Some reply) = refl
 
@@ -214,20 +220,22 @@ module _ (p : Payment) (part : Part) (before : List Line) (known : (replies : Li
       others = λ k other. quiet_card k before [] refl;
       card_is = λ replies runs. (quiet_card p.lane before [] refl ∙ known replies runs, refl);
     };
-    goes = λ replies card messages lines came. record { own = came.own; others = came.others; card_is = λ others runs. (came.card_is, refl) };
-    ends = λ replies card messages lines came end is. ends_so card messages replies lines came (length part.lane.ended + 1) end _ refl;
-    powers = λ free apps choice. power_came [] _ part.messages _ (record { named = λ k name. refl; own = λ name ls. no_loss (bytes_eq p.card.name name) });
-    power_cut = λ free. power_came _ (lost part.card) part.messages _ (record { named = λ k name. refl; own = λ name ls. refl });
-    powers_canned = λ free. power_came [] _ part.messages _ (record { named = λ k name. refl; own = λ name ls. no_loss (bytes_eq p.card.name name) });
-    answers = λ replies runs apps command. quiet_came _ replies runs _ part.messages _ refl;
+    goes = λ lane later replies card messages lines came.
+        record { own = came.own; others = came.others; card_is = λ others runs. (came.card_is, ap (λ (pasts : List Past). length pasts) (later_ended part.lane lane later)) };
+    ends = λ lane later replies card messages lines came end is. ends_so lane card messages replies lines came (length lane.ended + 1) end _ refl;
+    powers = λ rests free apps choice. power_came _ [] _ part.messages _ (record { named = λ k name. refl; own = λ name ls. no_loss (bytes_eq p.card.name name) });
+    power_cut = λ rests free apps is. power_came part.lane _ (lost part.card) part.messages _ (record { named = λ k name. refl; own = λ name ls. refl });
+    powers_canned = λ rests free answers canned.
+        power_came _ [] _ part.messages _ (record { named = λ k name. refl; own = λ name ls. no_loss (bytes_eq p.card.name name) });
+    answers = λ replies runs apps command asks. quiet_came part.lane _ replies runs _ part.messages _ refl;
     cuts = λ replies runs command cut at. record {
       own = cut_own command replies runs;
       others = λ k other. cut_card k command;
       card_is = cut_card p.lane command ∙ known replies runs;
     };
-    tells = λ replies runs answers canned command answer. quiet_came _ replies runs _ part.messages _ refl;
-    gone = λ replies runs command. quiet_came _ replies runs part.card part.messages _ refl;
-    hosts = λ replies runs message reply. quiet_came _ replies runs part.card _ _ (host_quiet message reply);
+    tells = λ replies runs answers canned command answer. quiet_came part.lane _ replies runs _ part.messages _ refl;
+    gone = λ replies runs answers canned command. quiet_came part.lane _ replies runs part.card part.messages _ refl;
+    hosts = λ replies runs message asks reply is. quiet_came _ _ replies runs part.card _ _ (host_quiet message reply);
   }
 
 -- each card and each running lane as the lines tell
@@ -255,16 +263,16 @@ names_differ cards differ i j a b here there other = by_test (bytes_eq a.name b.
     by_test false is = refl
 
 module _ (s : ScenarioData) (fits : IsScenario s) where
-  module _ (w : World) (lines : List Line) (choice : Bool) (is_lost : IsLost s w lines) where
+  module _ (w : World) (lines : List Line) (choices : List Bool) (is_lost : IsLost s w lines) where
     -- an event that leaves lanes and losses, and whose lines tell none
-    calm : (after : World) (new : List Line) → IsSound s after → ((l : ℕ) → lane_at after l ≡ lane_at w l) → ((i : ℕ) → (card_at after i).losses ≡ (card_at w i).losses) → AreQuiet new
+    calm : (after : World) (new : List Line) → IsSound s after → LanesLike after w → ((i : ℕ) → (card_at after i).losses ≡ (card_at w i).losses) → AreQuiet new
         → IsLost s after (lines ++ new)
     calm after new sound lanes losses quiet = record {
       sound = sound;
       card = λ l replies p runs next.
           quiet_card l lines new quiet
-          ∙ is_lost.card l replies p (ap (λ (row : LaneRow). row.running) (sym (lanes l)) ∙ runs)
-          (ap (λ (row : LaneRow). payment_in s l (length row.ended)) (sym (lanes l)) ∙ next);
+          ∙ is_lost.card l replies p (ap (λ (row : LaneRow). row.running) (sym (lanes.each l)) ∙ runs)
+          (ap (λ (row : LaneRow). payment_in s l (length row.ended)) (sym (lanes.each l)) ∙ next);
       losses = λ i card there.
           losses i ∙ is_lost.losses i card there
           ∙ (let none : losses_behind card.name lines new ≡ 0 = quiet_losses card.name lines new quiet in
@@ -272,9 +280,9 @@ module _ (s : ScenarioData) (fits : IsScenario s) where
           omega (arith, none, joined));
     }
 
-    turn_lost : (l : ℕ) (o : Option Payment) → next_of s w l ≡ o → IsSound s (turned_by w l choice o).world
-        → IsLost s (turned_by w l choice o).world (lines ++ (turned_by w l choice o).lines)
-    turn_lost l None is sound = calm w [] sound (λ k. refl) (λ i. refl) refl
+    turn_lost : (l : ℕ) (o : Option Payment) → next_of s w l ≡ o → IsSound s (turned_by w l choices o).world
+        → IsLost s (turned_by w l choices o).world (lines ++ (turned_by w l choices o).lines)
+    turn_lost l None is sound = calm w [] sound (settle_like s w None) (λ i. refl) refl
     turn_lost l (Some p) is sound = record {
       sound = sound;
       card = λ k replies q runs next. by_lane k replies q runs next (cases_eq k l);
@@ -285,7 +293,7 @@ module _ (s : ScenarioData) (fits : IsScenario s) where
         part = part_of w l p.planned.card
 
         m : Moved
-        m = piece p part choice
+        m = piece p part (choice_in choices 0)
 
         lane : p.lane ≡ l
         lane = (payment_facts s l (length (lane_at w l).ended) p is).lane
@@ -294,20 +302,20 @@ module _ (s : ScenarioData) (fits : IsScenario s) where
         known replies runs = ap (λ k. card_told k lines) lane ∙ is_lost.card l replies p runs is
 
         behind : Behind p part lines known m.part m.lines
-        behind = piece_tells p part (Came p part lines known) (Behind p part lines known) (tells_lost p part lines known) choice
+        behind = piece_tells p part (Came p part lines known) (Behind p part lines known) (tells_lost p part lines known) (choice_in choices 0)
 
-        by_lane : (k : ℕ) (replies : List Reply) (q : Payment) → (lane_at (turned_by w l choice (Some p)).world k).running ≡ Some replies
-            → next_of s (turned_by w l choice (Some p)).world k ≡ Some q → (k ≡ l) ⊎ (k ≢ l) → card_told k (lines ++ m.lines) ≡ q.card.name
+        by_lane : (k : ℕ) (replies : List Reply) (q : Payment) → (lane_at (turned_by w l choices (Some p)).world k).running ≡ Some replies
+            → next_of s (turned_by w l choices (Some p)).world k ≡ Some q → (k ≡ l) ⊎ (k ≢ l) → card_told k (lines ++ m.lines) ≡ q.card.name
         by_lane k replies q runs next (inl this) =
-            let row : lane_at (turned_by w l choice (Some p)).world k ≡ m.part.lane =
-            ap (λ j. lane_at (turned_by w l choice (Some p)).world j) this ∙ lane_behind s w l p is_lost.sound is m in
+            let row : lane_at (turned_by w l choices (Some p)).world k ≡ m.part.lane =
+            ap (λ j. lane_at (turned_by w l choices (Some p)).world j) this ∙ lane_behind s w l p is_lost.sound is m in
             let now = behind.card_is replies (ap (λ (x : LaneRow). x.running) (sym row) ∙ runs) in
             let same : q ≡ p =
             same_Some q p
             (sym next ∙ ap (λ (x : LaneRow). payment_in s k (length x.ended)) row ∙ ap (λ n. payment_in s k n) now.1 ∙ ap (λ j. payment_in s j (length (lane_at w l).ended)) this ∙ is) in
             ap (λ j. card_told j (lines ++ m.lines)) (this ∙ sym lane) ∙ now.0 ∙ ap (λ (x : Payment). x.card.name) (sym same)
         by_lane k replies q runs next (inr other) =
-            let row : lane_at (turned_by w l choice (Some p)).world k ≡ lane_at w k = get_or-set_other w.lanes l k m.part.lane new_lane other in
+            let row : lane_at (turned_by w l choices (Some p)).world k ≡ lane_at w k = get_or-set_other w.lanes l k m.part.lane new_lane other in
             behind.others k (λ same. other (same ∙ lane))
             ∙ is_lost.card k replies q (ap (λ (x : LaneRow). x.running) (sym row) ∙ runs) (ap (λ (x : LaneRow). payment_in s k (length x.ended)) (sym row) ∙ next)
 
@@ -315,11 +323,11 @@ module _ (s : ScenarioData) (fits : IsScenario s) where
         there_is = (payment_facts s l (length (lane_at w l).ended) p is).card
 
         by_card : (i : ℕ) (card : CardData) → slice_get s.cards i ≡ Some card → (i ≡ p.planned.card) ⊎ (i ≢ p.planned.card)
-            → (card_at (turned_by w l choice (Some p)).world i).losses ≡ losses_told card.name (lines ++ m.lines)
+            → (card_at (turned_by w l choices (Some p)).world i).losses ≡ losses_told card.name (lines ++ m.lines)
         by_card i card there (inl this) =
             let same : card ≡ p.card = same_Some card p.card (sym there ∙ ap (λ j. slice_get s.cards j) this ∙ there_is) in
-            let row : card_at (turned_by w l choice (Some p)).world i ≡ m.part.card = ap (λ j. card_at (turned_by w l choice (Some p)).world j) this ∙ card_behind s w l p is_lost.sound is m in
-            let grown : m.part.card.losses ≡ (card_at w p.planned.card).losses + count_by is_torn m.lines = piece_told p part choice in
+            let row : card_at (turned_by w l choices (Some p)).world i ≡ m.part.card = ap (λ j. card_at (turned_by w l choices (Some p)).world j) this ∙ card_behind s w l p is_lost.sound is m in
+            let grown : m.part.card.losses ≡ (card_at w p.planned.card).losses + count_by is_torn m.lines = piece_told p part (choice_in choices 0) in
             let were : (card_at w p.planned.card).losses ≡ losses_told p.card.name lines = is_lost.losses p.planned.card p.card there_is in
             let own : losses_behind p.card.name lines m.lines ≡ count_by is_torn m.lines =
             behind.own p.card.name ∙ ap (λ b. if b then count_by is_torn m.lines else 0) ((bytes_eq-Decides p.card.name p.card.name).1 refl) in
@@ -327,7 +335,7 @@ module _ (s : ScenarioData) (fits : IsScenario s) where
             let now : m.part.card.losses ≡ losses_told p.card.name (lines ++ m.lines) = omega (arith, grown, were, own, joined) in
             ap (λ (x : CardRow). x.losses) row ∙ now ∙ ap (λ (c : CardData). losses_told c.name (lines ++ m.lines)) (sym same)
         by_card i card there (inr other) =
-            let row : card_at (turned_by w l choice (Some p)).world i ≡ card_at w i = get_or-set_other w.cards p.planned.card i m.part.card new_card other in
+            let row : card_at (turned_by w l choices (Some p)).world i ≡ card_at w i = get_or-set_other w.cards p.planned.card i m.part.card new_card other in
             let none : losses_behind card.name lines m.lines ≡ 0 =
             behind.own card.name
             ∙ ap (λ b. if b then count_by is_torn m.lines else 0)
@@ -336,24 +344,24 @@ module _ (s : ScenarioData) (fits : IsScenario s) where
             ap (λ (x : CardRow). x.losses) row ∙ is_lost.losses i card there ∙ (omega (arith, none, joined))
 
     settle_lost : (o : Option Settlement) → IsSound s (settles s w o).world → IsLost s (settles s w o).world (lines ++ (settles s w o).lines)
-    settle_lost None sound = calm w [] sound (λ k. refl) (λ i. refl) refl
-    settle_lost (Some at) sound = calm (settles s w (Some at)).world (settles s w (Some at)).lines sound (λ k. refl) (λ i. refl) refl
+    settle_lost None sound = calm w [] sound (settle_like s w None) (λ i. refl) refl
+    settle_lost (Some at) sound = calm (settles s w (Some at)).world (settles s w (Some at)).lines sound (settle_like s w (Some at)) (λ i. refl) refl
 
     -- a card that is changed, but for its losses
     kept_losses : (j : ℕ) (card : CardRow) → card.losses ≡ (card_at w j).losses → (i : ℕ) → (card_at (with_card w j card) i).losses ≡ (card_at w i).losses
     kept_losses j card same i = at_set (λ (n : ℕ) (x : CardRow). x.losses ≡ (card_at w n).losses) w.cards j card new_card same (λ n. refl) i
 
-    audit_lost : (o : Option Check) → IsSound s (audits w choice o).world → IsLost s (audits w choice o).world (lines ++ (audits w choice o).lines)
-    audit_lost None sound = calm w [] sound (λ k. refl) (λ i. refl) refl
-    audit_lost (Some (PowersUp j card)) sound = calm (audits w choice (Some (PowersUp j card))).world (audits w choice (Some (PowersUp j card))).lines sound (λ k. refl)
-        (kept_losses j _ refl) refl
-    audit_lost (Some (Asks j card command)) sound = calm (audits w choice (Some (Asks j card command))).world (audits w choice (Some (Asks j card command))).lines sound (λ k. refl)
-        (kept_losses j _ refl) refl
+    audit_lost : (o : Option Check) → IsSound s (audits w choices o).world → IsLost s (audits w choices o).world (lines ++ (audits w choices o).lines)
+    audit_lost None sound = calm w [] sound (audit_like w choices None) (λ i. refl) refl
+    audit_lost (Some (PowersUp j card)) sound = calm (audits w choices (Some (PowersUp j card))).world (audits w choices (Some (PowersUp j card))).lines sound
+        (audit_like w choices (Some (PowersUp j card))) (kept_losses j _ refl) refl
+    audit_lost (Some (Asks j card command)) sound = calm (audits w choices (Some (Asks j card command))).world (audits w choices (Some (Asks j card command))).lines sound
+        (audit_like w choices (Some (Asks j card command))) (kept_losses j _ refl) refl
 
-  pub lost_next : (w : World) (lines : List Line) (e : Event) (choice : Bool) → IsLost s w lines → IsLost s (happens s w e choice).world (lines ++ (happens s w e choice).lines)
-  lost_next w lines (Turn l) choice is = turn_lost w lines choice is l (next_of s w l) refl (event_sound s w (Turn l) choice is.sound)
-  lost_next w lines (Settle k) choice is = settle_lost w lines choice is (slice_get (settlements s w) k) (event_sound s w (Settle k) choice is.sound)
-  lost_next w lines (Audit k) choice is = audit_lost w lines choice is (slice_get (checks s) k) (event_sound s w (Audit k) choice is.sound)
+  pub lost_next : (w : World) (lines : List Line) (e : Event) (choices : List Bool) → IsLost s w lines → IsLost s (happens s w e choices).world (lines ++ (happens s w e choices).lines)
+  lost_next w lines (Turn l) choices is = turn_lost w lines choices is l (next_of s w l) refl (event_sound s w (Turn l) choices is.sound)
+  lost_next w lines (Settle k) choices is = settle_lost w lines choices is (slice_get (settlements s w) k) (event_sound s w (Settle k) choices is.sound)
+  lost_next w lines (Audit k) choices is = audit_lost w lines choices is (slice_get (checks s) k) (event_sound s w (Audit k) choices is.sound)
 
   pub lost_first : IsLost s (first_world s) []
   unfolding losses_behind
@@ -366,3 +374,35 @@ module _ (s : ScenarioData) (fits : IsScenario s) where
 
 pub losses_are_told : RunsTellLosses
 losses_are_told s place n choices lines w fits reached = (reached_lines s (IsLost s) (lost_first s fits) (lost_next s fits) place n choices lines w reached).losses
+
+-- the lines at the end tell none
+quiet-append : (xs ys : List Line) → AreQuiet xs → AreQuiet ys → AreQuiet (xs ++ ys)
+quiet-append [] ys first second = second
+quiet-append (x ∷ xs) ys first second = by (tells_power x) first
+  where
+    by : (b : Bool) → (b || list_any tells_power xs) ≡ false → (b || list_any tells_power (xs ++ ys)) ≡ false
+    by true none = cc
+    by false none = quiet-append xs ys none second
+
+quiet_balance : (pan : List ℕ) (o : Option ℤ) → AreQuiet (balance_line pan o)
+quiet_balance pan None = refl
+quiet_balance pan (Some amount) = refl
+
+quiet_accounts : (s : ScenarioData) (w : World) (accounts : List AccountData) → AreQuiet (flat_map (account_lines s w) accounts)
+quiet_accounts s w [] = refl
+quiet_accounts s w (account ∷ accounts) =
+    quiet-append (account_lines s w account) (flat_map (account_lines s w) accounts)
+    (quiet_balance account.pan (balance_after s.issuer s.accounts w.messages account.pan)) (quiet_accounts s w accounts)
+
+quiet_closing : (s : ScenarioData) (w : World) → AreQuiet (closing s w)
+quiet_closing s w = quiet-append (flat_map (account_lines s w) s.accounts) (Done (ended_count w) ∷ []) (quiet_accounts s w s.accounts) refl
+
+pub whole_losses : WholeRunsTellLosses
+whole_losses s lines w fits run i card there =
+    let reported : (card_at w i).losses ≡ losses_told card.name run.reported =
+    losses_are_told s Finished run.count run.choices run.reported w fits run.reached i card there in
+    let none : losses_behind card.name run.reported (closing s w) ≡ 0 = quiet_losses card.name run.reported (closing s w) (quiet_closing s w) in
+    let joined : losses_told card.name (run.reported ++ closing s w) ≡ losses_told card.name run.reported + losses_behind card.name run.reported (closing s w) =
+    losses-append card.name [] run.reported (closing s w) in
+    let all : (card_at w i).losses ≡ losses_told card.name (run.reported ++ closing s w) = omega (arith, reported, none, joined) in
+    all ∙ ap (λ (ls : List Line). losses_told card.name ls) (sym run.whole)

@@ -14,7 +14,7 @@ use Rattle.txn_replay.specs.Changes.{powered, exchanged, told_once, torn, lost}
 use Rattle.txn_replay.specs.Lines.{torn_lines, gone_lines, power_torn_line}
 use Rattle.txn_replay.specs.Part.{Part, settled_by, cut_ends, answered, canned_by, asked_by, asked, begun, begun_by, begun_with, piece_by, piece}
 use Rattle.txn_replay.specs.Payment.{Payment, deal_for, end_at}
-use Rattle.txn_replay.specs.World.{Holder, CardRow}
+use Rattle.txn_replay.specs.World.{Holder, CardRow, LaneRow, with_sent}
 
 -- the purchase that goes on here
 abbrev pub this_one : Payment → Part → Holder
@@ -33,15 +33,15 @@ pub data Outcome (p : Payment) (before after : Part) : Type 0 where
   moves : Moves p before after → Outcome p before after
 
 module _ (p : Payment) (before : Part) (was : (h : Holder) → before.card.holder ≡ Some h → h ≡ this_one p before) where
-  after_settled : (replies : List Reply) (card : CardRow) (messages : List (List ℕ)) (lines : List Line) (e : Option EndData)
-      → card.holder ≡ Some (this_one p before)
-      → Moves p before (settled_by p replies (record { lane = before.lane; card = card; messages = messages }) lines e).part
-  after_settled replies card messages lines None has = record {
-    ran = λ other is. (has, refl);
+  after_settled : (replies : List Reply) (lane : LaneRow) (card : CardRow) (messages : List (List ℕ)) (lines : List Line) (e : Option EndData)
+      → length lane.ended ≡ length before.lane.ended → card.holder ≡ Some (this_one p before)
+      → Moves p before (settled_by p replies (record { lane = lane; card = card; messages = messages }) lines e).part
+  after_settled replies lane card messages lines None count has = record {
+    ran = λ other is. (has, count);
     held = λ h is. (same_Some h (this_one p before) (sym is ∙ has), (replies, refl));
     was = was;
   }
-  after_settled replies card messages lines (Some end) has = record { ran = λ other is. cc; held = λ h is. cc; was = was }
+  after_settled replies lane card messages lines (Some end) count has = record { ran = λ other is. cc; held = λ h is. cc; was = was }
 
   after_cut : (replies : List Reply) (card : CardRow) (lines : List Line) (e : Option EndData)
       → Outcome p before (cut_ends p replies before (record before { card = card }) lines e).part
@@ -51,16 +51,16 @@ module _ (p : Payment) (before : Part) (was : (h : Holder) → before.card.holde
   after_answer : (replies : List Reply) (command : List ℕ) (said : CardAnswer) (cut : Option Cut) → before.card.holder ≡ Some (this_one p before)
       → Outcome p before (answered p replies command before said cut).part
   after_answer replies command said None has =
-      moves (after_settled (replies ++ CardSaid said.answer before.lane.log ∷ []) (exchanged p.card.image before.card command said) before.messages _
-      (end_at p (replies ++ CardSaid said.answer before.lane.log ∷ [])) has)
+      moves (after_settled (replies ++ CardSaid said.answer before.lane.log ∷ []) before.lane (exchanged p.card.image before.card command said)
+      before.messages _ (end_at p (replies ++ CardSaid said.answer before.lane.log ∷ [])) refl has)
   after_answer replies command said (Some cut) has =
       after_cut (replies ++ CardGone ∷ []) (torn before.card p.planned.tear cut) (torn_lines p.lane command) (end_at p (replies ++ CardGone ∷ []))
 
   after_told : (replies : List Reply) (command : List ℕ) (o : Option (List ℕ)) → before.card.holder ≡ Some (this_one p before)
       → Outcome p before (canned_by p replies command before o).part
   after_told replies command (Some answer) has =
-      moves (after_settled (replies ++ CardSaid answer before.lane.log ∷ []) (told_once before.card) before.messages _
-      (end_at p (replies ++ CardSaid answer before.lane.log ∷ [])) has)
+      moves (after_settled (replies ++ CardSaid answer before.lane.log ∷ []) before.lane (told_once before.card) before.messages _
+      (end_at p (replies ++ CardSaid answer before.lane.log ∷ [])) refl has)
   after_told replies command None has = after_cut (replies ++ CardGone ∷ []) before.card (gone_lines p.lane command) (end_at p (replies ++ CardGone ∷ []))
 
   after_kind : (replies : List Reply) (command : List ℕ) (o : Option (List (List ℕ))) → before.card.holder ≡ Some (this_one p before)
@@ -72,20 +72,20 @@ module _ (p : Payment) (before : Part) (was : (h : Holder) → before.card.holde
 
   after_ask : (replies : List Reply) (deed : Deed) → before.card.holder ≡ Some (this_one p before) → Outcome p before (asked p replies before deed).part
   after_ask replies (ToCard command) has = after_kind replies command p.card.canned has
-  after_ask replies (ToHost message) has = moves (after_settled _ before.card _ _ _ has)
+  after_ask replies (ToHost message) has = moves (after_settled _ (with_sent message before.lane) before.card _ _ _ refl has)
   after_ask replies (Over ending) has = kept refl
 
   after_begin : (choice torn_there : Bool) → Outcome p before (begun_by p before choice torn_there).part
   after_begin choice true = after_cut (CardGone ∷ []) (lost before.card) (power_torn_line p.lane p.card ∷ []) (end_at p (CardGone ∷ []))
   after_begin choice false =
-      moves (after_settled [] (powered before.card (found_of before.card.kept before.card.pending choice) (Some (this_one p before))) before.messages _
-      (end_at p []) refl)
+      moves (after_settled [] (record before.lane { began = Some (found_of before.card.kept before.card.pending choice) })
+      (powered before.card (found_of before.card.kept before.card.pending choice) (Some (this_one p before))) before.messages _ (end_at p []) refl refl)
 
   after_begun : (choice : Bool) (o : Option (List (List ℕ))) → Outcome p before (begun_with p before choice o).part
   after_begun choice None = after_begin choice (is_named p.planned.tear 0)
   after_begun choice (Some answers) =
-      moves (after_settled [] (powered before.card (found_of before.card.kept before.card.pending false) (Some (this_one p before))) before.messages _
-      (end_at p []) refl)
+      moves (after_settled [] (record before.lane { began = None })
+      (powered before.card (found_of before.card.kept before.card.pending false) (Some (this_one p before))) before.messages _ (end_at p []) refl refl)
 
 -- a purchase that runs has its card
 pub outcome : (p : Payment) (part : Part) (choice : Bool)

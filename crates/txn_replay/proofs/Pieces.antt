@@ -8,6 +8,7 @@ use Rattle.card_app.specs.Answering.{card_answer}
 use Rattle.card_pages.specs.Cuts.{Cut, cut_of}
 use Rattle.card_pages.specs.Pages.{found_of}
 use Rattle.card_pages.specs.Replies.{CardAnswer}
+use Rattle.card_state.specs.Decisions.{Decided}
 use Rattle.emv_ports.specs.Cut.{is_named}
 use Rattle.kernel.specs.Dialogue.{dialogue}
 use Rattle.kernel.specs.Ended.{EndData}
@@ -15,9 +16,9 @@ use Rattle.kernel.specs.Kernel.{KernelData, next_of, told_next, told_bytes, deed
 use Rattle.kernel.specs.Reply.{Reply, CardSaid, CardGone, Deed, ToCard, ToHost, Over}
 use Rattle.kernel.specs.declared.kernel.Next.TheVariants as next
 use Rattle.report_text.specs.declared.line.Line.{Line}
-use Rattle.txn_replay.specs.Changes.{powered, exchanged, told_once, torn, lost}
+use Rattle.txn_replay.specs.Changes.{exchanged, told_once, torn, lost}
 use Rattle.txn_replay.specs.Lines.{power_line, power_canned_line, power_torn_line, answer_lines, torn_lines, gone_lines}
-use Rattle.txn_replay.specs.Part.{Part, settled, cut_ends, answered, canned_by, asked_by, asked_card, asked_host, asked, begun, begun_by, begun_with, piece_by, piece}
+use Rattle.txn_replay.specs.Part.{Part, settled, on_for, cut_ends, answered, canned_by, asked_by, asked_card, asked_host, asked, begun, begun_by, begun_with, piece_by, piece}
 use Rattle.txn_replay.specs.Payment.{Payment, deal_for, end_at}
 use Rattle.txn_replay.specs.Slot.{SlotSeen, SlotOn, is_on}
 use Rattle.txn_replay.specs.Standing.{RunStands, LaneKeeps, PlaceFor, PartRests, PartRuns, PartStands, SameLane}
@@ -86,23 +87,19 @@ pub begun_messages : (p : Payment) (part : Part) (choice : Bool) (canned : Optio
     → (begun_with p part choice canned).part.messages ≡ part.messages
 begun_messages p part choice canned = by_kind canned
   where
-    on : (b : Bool) (line : Line)
-        → (settled p [] (record part {
-          card = powered part.card (found_of part.card.kept part.card.pending b)
-              (Some (record { lane = p.lane; number = length part.lane.ended }));
-        }) (line ∷ [])).part.messages ≡ part.messages
-    on b line =
-        settled_messages p []
-        (record part { card = powered part.card (found_of part.card.kept part.card.pending b) (Some (record { lane = p.lane; number = length part.lane.ended })) })
-        (line ∷ [])
+    on : (b : Bool) (began : Option (List Decided)) (line : Line)
+        → (settled p [] (on_for p began (found_of part.card.kept part.card.pending b) part) (line ∷ [])).part.messages ≡ part.messages
+    on b began line = settled_messages p [] (on_for p began (found_of part.card.kept part.card.pending b) part) (line ∷ [])
 
     by : (torn : Bool) → (begun_by p part choice torn).part.messages ≡ part.messages
     by true = cut_messages p (CardGone ∷ []) part (lost part.card) (power_torn_line p.lane p.card ∷ []) (end_at p (CardGone ∷ []))
-    by false = on choice (power_line p.lane p.card (found_of part.card.kept part.card.pending choice))
+    by false =
+        on choice (Some (found_of part.card.kept part.card.pending choice))
+        (power_line p.lane p.card (found_of part.card.kept part.card.pending choice))
 
     by_kind : (canned : Option (List (List ℕ))) → (begun_with p part choice canned).part.messages ≡ part.messages
     by_kind None = by (is_named p.planned.tear 0)
-    by_kind (Some answers) = on false (power_canned_line p.lane p.card)
+    by_kind (Some answers) = on false None (power_canned_line p.lane p.card)
 
 -- a lane whose vectors have more room
 pub keeps_same : (lane later : Lane) (row : LaneRow) → SameLane lane later → LaneKeeps lane row → LaneKeeps later row
@@ -111,6 +108,7 @@ keeps_same lane later row same keeps = record {
   log = same.log ∙ keeps.log;
   amounts = keeps.amounts;
   captures = ap (λ (ms : List (ArrayVec ℕ 2048 ⊤)). map (λ m. m.items) ms) same.captures ∙ keeps.captures;
+  messages = keeps.messages;
   card = λ none. same.card ∙ keeps.card (sym same.running ∙ none);
   ending = same.ending ∙ keeps.ending;
 }
@@ -196,7 +194,7 @@ module _ (p : Payment) (lane later : Lane) (slot : SlotSeen) (part : Part) (stan
             told = now;
             runs = record {
               lane_is = record {
-                keeps = record { ended = keeps.ended; log = keeps.log; amounts = keeps.amounts; captures = keeps.captures; card = keeps.card; ending = keeps.ending };
+                keeps = record { ended = keeps.ended; log = keeps.log; amounts = keeps.amounts; captures = keeps.captures; messages = keeps.messages; card = keeps.card; ending = keeps.ending };
                 running = subst (λ (k : Option (Box KernelData)). RunStands k p (Some replies)) (sym same.running) now;
               };
               holder = at.0;

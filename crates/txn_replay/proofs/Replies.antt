@@ -1,18 +1,38 @@
 -- An exchange with the host: the terminal goes on with the reply that comes back, or with silence.
-use Rattle.std.proofs.Common.{◌≡◌, ℕ, List, Option, Some, None, refl}
+use Rattle.std.proofs.Common.{◌≡◌, ℕ, Bool, true, false, List, Option, Some, None, refl, ap, ◌∙◌}
+use Rattle.std.specs.Prelude.{option_map}
+use Rattle.std.proofs.lemmas.Option.{same_Some}
+use Rattle.host_link.specs.Delivery.{reply_if}
 use Rattle.kernel.specs.Ended.{EndData}
 use Rattle.kernel.specs.Reply.{Reply}
 use Rattle.report_text.specs.declared.line.Line.{Line}
-use Rattle.txn_replay.specs.Part.{Part, settled, settled_by}
+use Rattle.txn_replay.specs.Part.{Part, settled, settled_by, sending}
 use Rattle.txn_replay.specs.Payment.{Payment, end_at}
 use Rattle.txn_replay.specs.Slot.{SlotSeen}
 use Rattle.txn_replay.specs.Standing.{LaneStands, PartRuns}
+use Rattle.txn_replay.specs.World.{LaneRow, with_sent}
 use Rattle.txn_replay.specs.declared.lane.Lane.{Lane}
 
-pub heard_on : (p : Payment) (lane later : Lane) (slot : SlotSeen) (replies more : List Reply) (part : Part) (messages : List (List ℕ))
-    → PartRuns p lane slot replies part → LaneStands later p (record part.lane { running = Some more })
-    → PartRuns p later slot more (record part { messages = messages })
-heard_on p lane later slot replies more part messages runs stands = record {
+-- the messages that it made aren't kept
+pub stands_sent : (p : Payment) (lane : Lane) (row : LaneRow) (message : List ℕ) (running : Option (List Reply))
+    → LaneStands lane p (record row { running = running }) → LaneStands lane p (record (with_sent message row) { running = running })
+stands_sent p lane row message running stands = record {
+  keeps = record {
+    ended = stands.keeps.ended;
+    log = stands.keeps.log;
+    amounts = stands.keeps.amounts;
+    captures = stands.keeps.captures;
+    messages = stands.keeps.messages;
+    card = stands.keeps.card;
+    ending = stands.keeps.ending;
+  };
+  running = stands.running;
+}
+
+pub heard_on : (p : Payment) (lane later : Lane) (slot : SlotSeen) (replies more : List Reply) (part : Part) (message : List ℕ)
+    → PartRuns p lane slot replies part → LaneStands later p (record (with_sent message part.lane) { running = Some more })
+    → PartRuns p later slot more (sending p message part)
+heard_on p lane later slot replies more part message runs stands = record {
   lane_is = stands;
   holder = runs.holder;
   has = runs.has;
@@ -27,3 +47,9 @@ settled_messages p replies part lines = by (end_at p replies)
     by : (e : Option EndData) → (settled_by p replies part lines e).part.messages ≡ part.messages
     by None = refl
     by (Some end) = refl
+
+-- a reply that came back, as it stood on the wire
+pub came_back : (comes : Bool) (reply wire expected : List ℕ) (spelling : List ℕ → List ℕ) → reply_if comes reply ≡ Some expected
+    → reply_if comes wire ≡ option_map spelling (reply_if comes reply) → wire ≡ spelling expected
+came_back true reply wire expected spelling is shown = same_Some wire (spelling expected) (shown ∙ ap (option_map spelling) is)
+came_back false reply wire expected spelling is shown = cc

@@ -1,15 +1,16 @@
 -- The settlement message of a number.
-use Rattle.std.proofs.Common.{◌≡◌, ℕ, zero, suc, ◌+◌, ◌-◌, ◌*◌, ◌/◌, ◌≤◌, ◌<◌, ◌⊎◌, List, [], ◌∷◌, ◌++◌, length, drop, replicate, slice_get, Some, None, refl, sym, ap, ◌∙◌, arith, inl, inr}
+use Rattle.std.proofs.Common.{◌≡◌, ℕ, zero, suc, ◌+◌, ◌-◌, ◌*◌, ◌/◌, ◌≤◌, ◌<◌, ◌⊎◌, List, [], ◌∷◌, ◌++◌, length, drop, replicate, slice_get, Some, None, refl, sym, ap, ◌∙◌, subst, arith, inl, inr}
 use Rattle.std.specs.List.{flat_map}
 use Rattle.std.specs.Prelude.{option_map}
 use Rattle.std.proofs.Math.Nat.{div-eq-sub-div, le-div_iff_mul-le}
 use Rattle.std.proofs.lemmas.Bool.{cases_lt}
 use Rattle.std.proofs.lemmas.Nat.{div_below}
+use Rattle.std.proofs.lemmas.Option.{same_Some}
 use Rattle.txn_replay.specs.Seen.{settlement_by}
 use Rattle.txn_replay.specs.Steps.{Settlement, settlements_from}
 use Rattle.txn_replay.specs.World.{LaneRow}
 use Rattle.txn_replay.proofs.Few.{copies_length}
-use Rattle.txn_replay.proofs.Lists.{append_first, append_second, drop_at, drop_past}
+use Rattle.txn_replay.proofs.Lists.{append_at, append_first, append_second, drop_at, drop_past}
 
 -- those of a lane
 abbrev sent : ℕ → ℕ → List (List ℕ) → List Settlement
@@ -81,3 +82,61 @@ pub times_below : (c n k : ℕ) → 1 ≤ c → n ≤ k / c → c * n ≤ k
 times_below c n k some within =
     let product : n * c ≤ k = (le-div_iff_mul-le {k = c} {x = n} {y = k} (omega arith)).0 within in
     omega arith
+
+-- the lane of a settlement message is there
+copy_lane : (n l : ℕ) (message : List ℕ) (k : ℕ) (at : Settlement) → slice_get (replicate n (record { lane = l; message = message })) k ≡ Some at → at.lane ≡ l
+copy_lane zero l message k at is = cc
+copy_lane (suc n) l message zero at is = ap (λ (x : Settlement). x.lane) (sym (same_Some (record { lane = l; message = message }) at is))
+copy_lane (suc n) l message (suc k) at is = copy_lane n l message k at is
+
+own_lane : (copies l : ℕ) (captures : List (List ℕ)) (k : ℕ) (at : Settlement)
+    → slice_get (flat_map (λ message. replicate copies (record { lane = l; message = message })) captures) k ≡ Some at → at.lane ≡ l
+own_lane copies l [] k at is = cc
+own_lane copies l (message ∷ captures) k at is =
+    elim (append_at (replicate copies (record { lane = l; message = message }))
+    (flat_map (λ m. replicate copies (record { lane = l; message = m })) captures) k at is) [
+      | inl here ↦ copy_lane copies l message k at here
+      | inr later ↦ own_lane copies l captures later.0 at later.1
+    ]
+
+pub settles_inside : (copies l : ℕ) (rows : List LaneRow) (k : ℕ) (at : Settlement) → slice_get (settlements_from copies l rows) k ≡ Some at
+    → at.lane < l + length rows
+unfolding settlements_from
+settles_inside copies l [] k at is = cc
+settles_inside copies l (row ∷ rows) k at is =
+    elim (append_at (flat_map (λ message. replicate copies (record { lane = l; message = message })) row.captures)
+    (settlements_from copies (l + 1) rows) k at is) [
+      | inl here ↦ (let own : at.lane ≡ l = own_lane copies l row.captures k at here in omega arith)
+      | inr later ↦ (let below : at.lane < l + 1 + length rows = settles_inside copies (l + 1) rows later.0 at later.1 in omega arith)
+    ]
+
+-- what holds of each message that a lane captured holds of each that is settled
+copy_holds : (P : List ℕ → Type 0) (n l : ℕ) (message : List ℕ) (k : ℕ) (at : Settlement) → P message
+    → slice_get (replicate n (record { lane = l; message = message })) k ≡ Some at → P at.message
+copy_holds P zero l message k at holds is = cc
+copy_holds P (suc n) l message zero at holds is =
+    subst P (ap (λ (x : Settlement). x.message) (same_Some (record { lane = l; message = message }) at is)) holds
+copy_holds P (suc n) l message (suc k) at holds is = copy_holds P n l message k at holds is
+
+own_holds : (P : List ℕ → Type 0) (copies l : ℕ) (captures : List (List ℕ)) (k : ℕ) (at : Settlement)
+    → ((n : ℕ) (message : List ℕ) → slice_get captures n ≡ Some message → P message)
+    → slice_get (flat_map (λ message. replicate copies (record { lane = l; message = message })) captures) k ≡ Some at → P at.message
+own_holds P copies l [] k at each is = cc
+own_holds P copies l (message ∷ captures) k at each is =
+    elim (append_at (replicate copies (record { lane = l; message = message }))
+    (flat_map (λ m. replicate copies (record { lane = l; message = m })) captures) k at is) [
+      | inl here ↦ copy_holds P copies l message k at (each 0 message refl) here
+      | inr later ↦ own_holds P copies l captures later.0 at (λ n other there. each (suc n) other there) later.1
+    ]
+
+pub settles_hold : (P : List ℕ → Type 0) (copies l : ℕ) (rows : List LaneRow) (k : ℕ) (at : Settlement)
+    → ((i : ℕ) (row : LaneRow) → slice_get rows i ≡ Some row → (n : ℕ) (message : List ℕ) → slice_get row.captures n ≡ Some message → P message)
+    → slice_get (settlements_from copies l rows) k ≡ Some at → P at.message
+unfolding settlements_from
+settles_hold P copies l [] k at each is = cc
+settles_hold P copies l (row ∷ rows) k at each is =
+    elim (append_at (flat_map (λ message. replicate copies (record { lane = l; message = message })) row.captures)
+    (settlements_from copies (l + 1) rows) k at is) [
+      | inl here ↦ own_holds P copies l row.captures k at (each 0 row refl) here
+      | inr later ↦ settles_hold P copies (l + 1) rows later.0 at (λ i other there. each (suc i) other there) later.1
+    ]

@@ -8,11 +8,12 @@ use Rattle.scenario.specs.Plan.{ScenarioData}
 use Rattle.txn_replay.specs.Part.{Part, Moved, piece}
 use Rattle.txn_replay.specs.Payment.{Payment, payment_in, next_of}
 use Rattle.txn_replay.specs.Sound.{IsSound, RunsIn, HeldBy, holder_in}
-use Rattle.txn_replay.specs.Steps.{part_of, moved, turned, turned_by, with_card}
+use Rattle.txn_replay.specs.Steps.{Settlement, part_of, moved, choice_in, turned, turned_by, settles, with_card}
 use Rattle.txn_replay.specs.World.{Holder, CardRow, LaneRow, World, new_card, new_lane, first_world, card_at, lane_at}
 use Rattle.txn_replay.proofs.Lists.{at_set, get_or-map_const}
 use Rattle.txn_replay.proofs.Moves.{Moves, Outcome, kept, moves, outcome, this_one}
 use Rattle.txn_replay.proofs.Payments.{IsPayment, payment_facts}
+use Rattle.txn_replay.proofs.Sending.{LanesLike, settle_like}
 
 -- what is put back unchanged changes nothing
 pub moved_still : (w : World) (l i : ℕ) (part : Part) → part ≡ part_of w l i
@@ -151,30 +152,48 @@ has_card s w l p sound is replies ran =
     ∙ runs.holds
     ∙ ap (λ k. Some (record { lane = k; number = length (lane_at w l).ended })) (sym lane)
 
-pub turn_sound : (s : ScenarioData) (w : World) (l : ℕ) (choice : Bool) → IsSound s w → IsSound s (turned s w l choice).world
-turn_sound s w l choice sound = by_next (next_of s w l) refl
+pub turn_sound : (s : ScenarioData) (w : World) (l : ℕ) (choices : List Bool) → IsSound s w → IsSound s (turned s w l choices).world
+turn_sound s w l choices sound = by_next (next_of s w l) refl
   where
     by_outcome : (p : Payment) → next_of s w l ≡ Some p → (m : Moved) → Outcome p (part_of w l p.planned.card) m.part
         → IsSound s (moved w l p.planned.card m).world
     by_outcome p is m (kept same) = subst (λ (x : World). IsSound s x) (sym (moved_still w l p.planned.card m.part same)) sound
     by_outcome p is m (moves so) = moved_sound s w l p sound is m so
 
-    by_next : (o : Option Payment) → next_of s w l ≡ o → IsSound s (turned_by w l choice o).world
+    by_next : (o : Option Payment) → next_of s w l ≡ o → IsSound s (turned_by w l choices o).world
     by_next None is = sound
     by_next (Some p) is =
-        by_outcome p is (piece p (part_of w l p.planned.card) choice)
-        (outcome p (part_of w l p.planned.card) choice (has_card s w l p sound is))
+        by_outcome p is (piece p (part_of w l p.planned.card) (choice_in choices 0))
+        (outcome p (part_of w l p.planned.card) (choice_in choices 0) (has_card s w l p sound is))
 
--- the cards and the lanes alone count
-pub messages_sound : (s : ScenarioData) (w : World) (messages : List (List ℕ)) → IsSound s w → IsSound s (record w { messages = messages })
-messages_sound s w messages sound = record {
+-- the messages don't count, neither those that came to the host nor those that lanes made for it
+pub like_sound : (s : ScenarioData) (w : World) (lanes : List LaneRow) (messages : List (List ℕ))
+    → LanesLike (record { cards = w.cards; lanes = lanes; messages = messages }) w → IsSound s w
+    → IsSound s (record { cards = w.cards; lanes = lanes; messages = messages })
+like_sound s w lanes messages like sound = record {
   card_count = sound.card_count;
-  lane_count = sound.lane_count;
-  runs = λ l replies ran. (let one : RunsIn s w l = sound.runs l replies ran in record { payment = one.payment; is = one.is; holds = one.holds });
+  lane_count = like.count ∙ sound.lane_count;
+  runs = λ l replies ran.
+      (let one : RunsIn s w l = sound.runs l replies (ap (λ (row : LaneRow). row.running) (sym (like.each l)) ∙ ran) in
+      record {
+        payment = one.payment;
+        is = ap (λ (row : LaneRow). payment_in s l (length row.ended)) (like.each l) ∙ one.is;
+        holds = one.holds ∙ ap (λ (row : LaneRow). Some (record { lane = l; number = length row.ended })) (sym (like.each l));
+      });
   held = λ i h has.
       (let one : HeldBy s w i h = sound.held i h has in
-      record { replies = one.replies; payment = one.payment; runs = one.runs; is = one.is; card = one.card });
+      record {
+        replies = one.replies;
+        payment = one.payment;
+        runs = ap (λ (row : LaneRow). row.running) (like.each h.lane) ∙ one.runs;
+        is = ap (λ (row : LaneRow). payment_in s h.lane (length row.ended)) (like.each h.lane) ∙ one.is;
+        card = one.card;
+      });
 }
+
+pub settled_sound : (s : ScenarioData) (w : World) (o : Option Settlement) → IsSound s w → IsSound s (settles s w o).world
+settled_sound s w None sound = sound
+settled_sound s w (Some at) sound = like_sound s w _ _ (settle_like s w (Some at)) sound
 
 -- a card that no other purchase has afterwards
 pub card_sound : (s : ScenarioData) (w : World) (i : ℕ) (card : CardRow) → card.holder ≡ (card_at w i).holder → IsSound s w → IsSound s (with_card w i card)

@@ -1,5 +1,5 @@
 -- Behind an answer, every decision that a card has kept is sure.
-use Rattle.std.proofs.Common.{◌≡◌, ℕ, ◌+◌, ◌<◌, true, List, [], ◌∷◌, ◌++◌, length, slice_get, Option, Some, None, refl, sym, ap, ◌∙◌, subst, arith, append-nil}
+use Rattle.std.proofs.Common.{◌≡◌, ℕ, Bool, ◌+◌, ◌<◌, true, List, [], ◌∷◌, ◌++◌, length, slice_get, Option, Some, None, refl, sym, ap, ◌∙◌, subst, arith, append-nil}
 use Rattle.std.specs.Prelude.{◌||◌}
 use Rattle.std.specs.List.{list_any}
 use Rattle.std.proofs.lemmas.List.{get_or-set_same}
@@ -17,9 +17,9 @@ use Rattle.txn_replay.specs.Lines.{host_lines, end_line}
 use Rattle.txn_replay.specs.Part.{Part, piece}
 use Rattle.txn_replay.specs.Payment.{Payment}
 use Rattle.txn_replay.specs.Sound.{HeldBy}
-use Rattle.txn_replay.specs.Steps.{After, part_of, moved, turned_by, happens}
+use Rattle.txn_replay.specs.Steps.{After, part_of, moved, choice_in, turned_by, happens}
 use Rattle.txn_replay.specs.Telling.{is_answer, IsSure, HeldIsSure, AnsweredIsSure}
-use Rattle.txn_replay.specs.World.{Holder, Found, Answering, CardRow, new_card, card_at, lane_at}
+use Rattle.txn_replay.specs.World.{Holder, Found, Answering, CardRow, LaneRow, new_card, card_at, lane_at}
 use Rattle.txn_replay.specs.declared.event.Event.TheVariants.{Turn}
 use Rattle.txn_replay.proofs.Closing.{Closed}
 use Rattle.txn_replay.proofs.Exchanging.{Tells, piece_tells}
@@ -72,31 +72,31 @@ any_end (line ∷ lines) lane number end = ap (λ b. is_answer line || b) (any_e
 
 module _ (p : Payment) (part : Part) (sure : HeldSure p.card.image part.card)
     (has : (replies : List Reply) → part.lane.running ≡ Some replies → part.card.holder ≡ Some (this_one p part)) where
-  abbrev Came : List Reply → CardRow → List (List ℕ) → List Line → Type 0
-  Came replies card messages lines = list_any is_answer lines ≡ true → IsSure card
+  abbrev Came : LaneRow → List Reply → CardRow → List (List ℕ) → List Line → Type 0
+  Came lane replies card messages lines = list_any is_answer lines ≡ true → IsSure card
 
   abbrev Behind : Part → List Line → Type 0
   Behind after lines = list_any is_answer lines ≡ true → IsSure after.card
 
-  host_none : (message : List ℕ) (reply : Option (List ℕ)) → list_any is_answer (host_lines p.lane message reply) ≡ true → ⊥
+  host_none : (message : List ℕ) (reply : Option (List ℕ)) → list_any is_answer (host_lines p.iso p.lane message reply) ≡ true → ⊥
   host_none message None some = cc
   host_none message (Some reply) some = cc
 
   sure_told : Tells p part Came Behind
   sure_told = record {
     still = λ some. cc;
-    goes = λ replies card messages lines came some. came some;
-    ends = λ replies card messages lines came end is some.
-        (let one : IsSure card = came (sym (any_end lines p.lane (length part.lane.ended + 1) end) ∙ some) in record { all = one.all; sure = one.sure });
-    powers = λ free apps choice some. cc;
-    power_cut = λ free some. cc;
-    powers_canned = λ free some. cc;
-    answers = λ replies runs apps command some. answer_sure p.card.image part.card command (sure (this_one p part) (has replies runs));
+    goes = λ lane later replies card messages lines came some. came some;
+    ends = λ lane later replies card messages lines came end is some.
+        (let one : IsSure card = came (sym (any_end lines p.lane (length lane.ended + 1) end) ∙ some) in record { all = one.all; sure = one.sure });
+    powers = λ rests free apps choice some. cc;
+    power_cut = λ rests free apps is some. cc;
+    powers_canned = λ rests free answers canned some. cc;
+    answers = λ replies runs apps command asks some. answer_sure p.card.image part.card command (sure (this_one p part) (has replies runs));
     cuts = λ replies runs command cut at some. cc;
     tells = λ replies runs answers canned command answer some.
         (let one : IsSure part.card = sure (this_one p part) (has replies runs) in record { all = one.all; sure = one.sure });
-    gone = λ replies runs command some. cc;
-    hosts = λ replies runs message reply some. absurd (host_none message reply some);
+    gone = λ replies runs answers canned command some. cc;
+    hosts = λ replies runs message asks reply is some. absurd (host_none message reply some);
   }
 
 pub held_sure : HeldIsSure
@@ -108,14 +108,15 @@ held_sure s place n choices lines w i h reached has =
     hold.cards i held.payment.card there h has
 
 pub answered_sure : AnsweredIsSure
-answered_sure s place n choices lines w l choice p reached is some =
-    let hold : AllHold HeldSure s w = reached_holds HeldSure held_closed s place n choices lines w reached in
+answered_sure s place n taken lines w l choices p reached is some =
+    let choice : Bool = choice_in choices 0 in
+    let hold : AllHold HeldSure s w = reached_holds HeldSure held_closed s place n taken lines w reached in
     let there : slice_get s.cards p.planned.card ≡ Some p.card = (payment_facts s l _ p is).card in
     let within : p.planned.card < length w.cards =
     (let card : p.planned.card < length s.cards = slice_get_within s.cards p.planned.card p.card there in
     let count : length w.cards ≡ length s.cards = hold.sound.card_count in omega arith) in
     let part : Part = part_of w l p.planned.card in
-    let is_so : happens s w (Turn l) choice ≡ moved w l p.planned.card (piece p part choice) = ap (λ (o : Option Payment). turned_by w l choice o) is in
+    let is_so : happens s w (Turn l) choices ≡ moved w l p.planned.card (piece p part choice) = ap (λ (o : Option Payment). turned_by w l choices o) is in
     let here : card_at (moved w l p.planned.card (piece p part choice)).world p.planned.card ≡ (piece p part choice).part.card =
     get_or-set_same w.cards p.planned.card (piece p part choice).part.card new_card within in
     let sure : HeldSure p.card.image (card_at w p.planned.card) = hold.cards p.planned.card p.card there in

@@ -38,7 +38,7 @@ idle_without v w stands l none = record { rests = by (lane_at w l).running refl;
 -- in a lane that waits nothing happens
 pub idle_goes : (v : WorldSeen) (w : World) → WorldStands v w → (l : ℕ) → IsIdle v.scenario w l → Goes v w (Turn l) []
 idle_goes v w stands l idle =
-    let is : happens v.scenario w (Turn l) false ≡ nothing w = idle_stays v.scenario w l false idle in
+    let is : happens v.scenario w (Turn l) [] ≡ nothing w = idle_stays v.scenario w l [] idle in
     record {
       choices = [];
       after = w;

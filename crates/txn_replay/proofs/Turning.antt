@@ -23,12 +23,12 @@ use Rattle.txn_replay.specs.Seen.{WorldSeen, plan_in, plan_for, SlotStands, RunF
 use Rattle.txn_replay.specs.Slot.{SlotSeen, OfApps, OfCanned, SlotOn, is_on}
 use Rattle.txn_replay.specs.Sound.{IsSound}
 use Rattle.txn_replay.specs.Standing.{RunStands, LaneStands, PlaceStands, CardStands, PlaceFor, PartStands, Led, counted}
-use Rattle.txn_replay.specs.Steps.{After, part_of, moved, turned_by, happens, first_of}
+use Rattle.txn_replay.specs.Steps.{After, part_of, moved, turned_by, happens}
 use Rattle.txn_replay.specs.World.{Holder, CardRow, LaneRow, World, new_card, new_lane, card_at, lane_at}
 use Rattle.txn_replay.specs.declared.event.Event.TheVariants.{Turn}
 use Rattle.txn_replay.specs.declared.lane.Lane.{Lane}
 use Rattle.txn_replay.proofs.Choices.{Taken, choice_taken}
-use Rattle.txn_replay.proofs.Few.{turn_few}
+use Rattle.txn_replay.proofs.Few.{LanesFew, turn_few}
 use Rattle.txn_replay.proofs.Lists.{set_other, set_here}
 use Rattle.txn_replay.proofs.Moves.{Outcome, kept, moves, outcome, this_one}
 use Rattle.txn_replay.proofs.Payments.{payment_facts}
@@ -243,23 +243,25 @@ module _ (v : WorldSeen) (w : World) (stands : WorldStands v w) (l : ℕ) (p : P
     taken : Taken (λ b. piece p part b) choice
     taken = choice_taken p part choice
 
-    turned_is : happens v.scenario w (Turn l) (first_of taken.choices) ≡ moved w l p.planned.card m
-    turned_is =
-        ap (λ (o : Option Payment). turned_by w l (first_of taken.choices) o) is
-        ∙ ap (λ (x : Moved). moved w l p.planned.card x) taken.same
+    next_is : happens v.scenario w (Turn l) taken.choices ≡ turned_by w l taken.choices (Some p)
+    next_is = ap (λ (o : Option Payment). turned_by w l taken.choices o) is
+
+    turned_is : happens v.scenario w (Turn l) taken.choices ≡ moved w l p.planned.card m
+    turned_is = next_is ∙ ap (λ (x : Moved). moved w l p.planned.card x) taken.same
 
     pub turn_goes : Goes value w (Turn l) lines
     turn_goes = record {
       choices = taken.choices;
       after = after;
       step = record {
-        taken = taken.count ∙ ap (λ (x : After). x.choices) (sym (ap (λ (o : Option Payment). turned_by w l (first_of taken.choices) o) is));
+        taken = taken.count ∙ ap (λ (x : After). x.choices) (sym next_is);
         made = led.moved.lines_are ∙ ap (λ (x : After). x.lines) (sym turned_is);
         leads = ap (λ (x : After). x.world) (sym turned_is);
       };
       stands = record {
-        sound = subst (λ (x : After). IsSound v.scenario x.world) (ap (λ (o : Option Payment). turned_by w l choice o) is) (turn_sound v.scenario w l choice stands.sound);
-        few = turn_few v.scenario w l choice (Some p) is stands.few;
+        sound = subst (λ (x : After). IsSound v.scenario x.world) turned_is (turn_sound v.scenario w l taken.choices stands.sound);
+        few = subst (λ (x : Moved). LanesFew v.scenario (moved w l p.planned.card x).world) taken.same
+            (turn_few v.scenario w l taken.choices (Some p) is stands.few);
         slots = slots_after;
         lanes = lanes_after;
         messages = messages;

@@ -19,9 +19,10 @@ use Rattle.txn_replay.specs.Choices.{leaves_open, leaves_choice, LeavesNone, Non
 use Rattle.txn_replay.specs.Lines.{audit_power_line}
 use Rattle.txn_replay.specs.Part.{Part, Moved, powered_up, begun, begun_by, begun_with, piece_by, piece}
 use Rattle.txn_replay.specs.Payment.{Payment, next_of}
-use Rattle.txn_replay.specs.Run.{Place, Scheduled, Round, Settling, Auditing, Finished, Reached, start, scheduled, rounds, round, again, settlement, settling, audit, auditing, finished, all_over, closing}
-use Rattle.txn_replay.specs.Steps.{After, Check, PowersUp, Asks, Settlement, settlements, settles, checks, audits, with_card, part_of, moved, turned_by, happens, first_of, Step}
-use Rattle.txn_replay.specs.World.{Holder, CardRow, World, new_card, first_world, card_at}
+use Rattle.txn_replay.specs.Run.{Place, Scheduled, Round, Settling, Auditing, Finished, Reached, start, scheduled, rounds, round, again, settlement, settling, audit, auditing, finished, all_over, closing, Run}
+use Rattle.txn_replay.specs.Sound.{IsSound}
+use Rattle.txn_replay.specs.Steps.{After, Check, PowersUp, Asks, Settlement, settlements, settles, checks, audits, with_card, part_of, moved, choice_in, turned_by, happens, Step}
+use Rattle.txn_replay.specs.World.{Holder, CardRow, LaneRow, World, new_card, first_world, card_at}
 use Rattle.txn_replay.specs.declared.event.Event.{Event}
 use Rattle.txn_replay.specs.declared.event.Event.TheVariants.{Turn, Settle, Audit}
 use Rattle.txn_replay.proofs.Exchanging.{Tells, piece_tells}
@@ -68,8 +69,8 @@ closed_left (Some tear) none made ds cut is = by_commit (tear.commit == 0) refl 
     by_commit false other closed = by_place tear.at closed
 
 module _ (p : Payment) (part : Part) (none : leaves_choice p.planned.tear ≡ false) (closed : part.card.pending ≡ None) where
-  abbrev Came : List Reply → CardRow → List (List ℕ) → List Line → Type 0
-  Came replies card messages lines = card.pending ≡ None
+  abbrev Came : LaneRow → List Reply → CardRow → List (List ℕ) → List Line → Type 0
+  Came lane replies card messages lines = card.pending ≡ None
 
   abbrev Behind : Part → List Line → Type 0
   Behind after lines = after.card.pending ≡ None
@@ -77,43 +78,45 @@ module _ (p : Payment) (part : Part) (none : leaves_choice p.planned.tear ≡ fa
   tells_closed : Tells p part Came Behind
   tells_closed = record {
     still = closed;
-    goes = λ replies card messages lines came. came;
-    ends = λ replies card messages lines came end is. came;
-    powers = λ free apps choice. refl;
-    power_cut = λ free. closed;
-    powers_canned = λ free. refl;
-    answers = λ replies runs apps command. closed;
+    goes = λ lane later replies card messages lines came. came;
+    ends = λ lane later replies card messages lines came end is. came;
+    powers = λ rests free apps choice. refl;
+    power_cut = λ rests free apps is. closed;
+    powers_canned = λ rests free answers canned. refl;
+    answers = λ replies runs apps command asks. closed;
     cuts = λ replies runs command cut at. closed_left p.planned.tear none part.card.made _ cut at;
     tells = λ replies runs answers canned command answer. closed;
-    gone = λ replies runs command. closed;
-    hosts = λ replies runs message reply. closed;
+    gone = λ replies runs answers canned command. closed;
+    hosts = λ replies runs message asks reply is. closed;
   }
 
 abbrev NoneOpen : ScenarioData → World → Type 0
 NoneOpen s w = (i : ℕ) → (card_at w i).pending ≡ None
 
 module _ (s : ScenarioData) (leaves : LeavesNone s) where
-  turn_closed : (w : World) (l : ℕ) (choice : Bool) → NoneOpen s w → (o : Option Payment) → next_of s w l ≡ o → NoneOpen s (turned_by w l choice o).world
-  turn_closed w l choice none None is = none
-  turn_closed w l choice none (Some p) is =
+  turn_closed : (w : World) (l : ℕ) (choices : List Bool) → NoneOpen s w → (o : Option Payment) → next_of s w l ≡ o
+      → NoneOpen s (turned_by w l choices o).world
+  turn_closed w l choices none None is = none
+  turn_closed w l choices none (Some p) is =
+      let choice : Bool = choice_in choices 0 in
       let part : Part = part_of w l p.planned.card in
       let own : leaves_choice p.planned.tear ≡ false = leaves l _ p is in
       at_set (λ (i : ℕ) (card : CardRow). card.pending ≡ None) w.cards p.planned.card (piece p part choice).part.card new_card
       (piece_tells p part (Came p part own (none p.planned.card)) (Behind p part own (none p.planned.card)) (tells_closed p part own (none p.planned.card)) choice) none
 
-  event_closed : (w : World) (e : Event) (choice : Bool) → NoneOpen s w → NoneOpen s (happens s w e choice).world
-  event_closed w (Turn l) choice none = turn_closed w l choice none (next_of s w l) refl
-  event_closed w (Settle k) choice none = by (slice_get (settlements s w) k)
+  event_closed : (w : World) (e : Event) (choices : List Bool) → NoneOpen s w → NoneOpen s (happens s w e choices).world
+  event_closed w (Turn l) choices none = turn_closed w l choices none (next_of s w l) refl
+  event_closed w (Settle k) choices none = by (slice_get (settlements s w) k)
     where
       by : (o : Option Settlement) → NoneOpen s (settles s w o).world
       by None = none
       by (Some at) = none
-  event_closed w (Audit k) choice none = by (slice_get (checks s) k)
+  event_closed w (Audit k) choices none = by (slice_get (checks s) k)
     where
       with_closed : (i : ℕ) (card : CardRow) → card.pending ≡ None → NoneOpen s (with_card w i card)
       with_closed i card closed = at_set (λ (j : ℕ) (x : CardRow). x.pending ≡ None) w.cards i card new_card closed none
 
-      by : (o : Option Check) → NoneOpen s (audits w choice o).world
+      by : (o : Option Check) → NoneOpen s (audits w choices o).world
       by None = none
       by (Some (PowersUp i card)) = with_closed i _ refl
       by (Some (Asks i card command)) = with_closed i _ (none i)
@@ -157,23 +160,36 @@ audit_found w i card found = record {
 }
 
 module _ (s : ScenarioData) (w : World) (none : NoneOpen s w) where
-  either_same : (e : Event) → happens s w e true ≡ happens s w e false
-  either_same (Turn l) = by (next_of s w l)
-    where
-      by : (o : Option Payment) → turned_by w l true o ≡ turned_by w l false o
-      by None = refl
-      by (Some p) = ap (λ (m : Moved). moved w l p.planned.card m) (piece_same p (part_of w l p.planned.card) (none p.planned.card))
-  either_same (Settle k) = refl
-  either_same (Audit k) = by (slice_get (checks s) k)
-    where
-      by : (o : Option Check) → audits w true o ≡ audits w false o
-      by None = refl
-      by (Some (PowersUp i card)) = ap (λ (found : List Decided). audit_found w i card found) (found_same (card_at w i).kept (card_at w i).pending (none i))
-      by (Some (Asks i card command)) = refl
+  -- whichever truth value is the first
+  piece_any : (p : Payment) (part : Part) → part.card.pending ≡ None → (a b : Bool) → piece p part a ≡ piece p part b
+  piece_any p part closed true true = refl
+  piece_any p part closed true false = piece_same p part closed
+  piece_any p part closed false true = sym (piece_same p part closed)
+  piece_any p part closed false false = refl
 
-  happens_same : (e : Event) (choice : Bool) → happens s w e choice ≡ happens s w e false
-  happens_same e true = either_same e
-  happens_same e false = refl
+  found_any : (kept : List Decided) (pending : Option Decided) → pending ≡ None → (a b : Bool) → found_of kept pending a ≡ found_of kept pending b
+  found_any kept pending closed true true = refl
+  found_any kept pending closed true false = found_same kept pending closed
+  found_any kept pending closed false true = sym (found_same kept pending closed)
+  found_any kept pending closed false false = refl
+
+  happens_same : (e : Event) (choices others : List Bool) → happens s w e choices ≡ happens s w e others
+  happens_same (Turn l) choices others = by (next_of s w l)
+    where
+      by : (o : Option Payment) → turned_by w l choices o ≡ turned_by w l others o
+      by None = refl
+      by (Some p) =
+          ap (λ (m : Moved). moved w l p.planned.card m)
+          (piece_any p (part_of w l p.planned.card) (none p.planned.card) (choice_in choices 0) (choice_in others 0))
+  happens_same (Settle k) choices others = refl
+  happens_same (Audit k) choices others = by (slice_get (checks s) k)
+    where
+      by : (o : Option Check) → audits w choices o ≡ audits w others o
+      by None = refl
+      by (Some (PowersUp i card)) =
+          ap (λ (found : List Decided). audit_found w i card found)
+          (found_any (card_at w i).kept (card_at w i).pending (none i) (choice_in choices 0) (choice_in others 0))
+      by (Some (Asks i card command)) = refl
 
 -- how far a run is, with its lines and its world
 pub record At : Type 0 where
@@ -185,7 +201,7 @@ pub record At : Type 0 where
 module _ (s : ScenarioData) where
   abbrev goes : At → Place → Event → At
   goes at place e =
-      record { place = place; count = at.count + 1; lines = at.lines ++ (happens s at.world e false).lines; world = (happens s at.world e false).world }
+      record { place = place; count = at.count + 1; lines = at.lines ++ (happens s at.world e []).lines; world = (happens s at.world e []).world }
 
   abbrev moves : At → Place → At
   moves at place = record { place = place; count = at.count; lines = at.lines; world = at.world }
@@ -238,9 +254,9 @@ module _ (s : ScenarioData) where
     made : (at : At) (place : Place) (e : Event) (c : List Bool) (new : List Line) (after : World) → NoneOpen s at.world → Step s at.world e c new after
         → goes at place e ≡ record { place = place; count = at.count + 1; lines = at.lines ++ new; world = after }
     made at place e c new after none step =
-        let same : happens s at.world e (first_of c) ≡ happens s at.world e false = happens_same s at.world none e (first_of c) in
-        let lines : (happens s at.world e false).lines ≡ new = ap (λ (x : After). x.lines) (sym same) ∙ sym step.made in
-        let world : (happens s at.world e false).world ≡ after = ap (λ (x : After). x.world) (sym same) ∙ sym step.leads in
+        let same : happens s at.world e c ≡ happens s at.world e [] = happens_same s at.world none e c [] in
+        let lines : (happens s at.world e []).lines ≡ new = ap (λ (x : After). x.lines) (sym same) ∙ sym step.made in
+        let world : (happens s at.world e []).world ≡ after = ap (λ (x : After). x.world) (sym same) ∙ sym step.leads in
         λ j. record { place = place; count = at.count + 1; lines = at.lines ++ lines j; world = world j }
 
     past_end : {A : Type 0} (xs : List A) → slice_get xs (length xs) ≡ None

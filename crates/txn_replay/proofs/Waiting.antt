@@ -1,5 +1,5 @@
 -- Lanes that wait, and the end of the turns.
-use Rattle.std.proofs.Common.{◌≡◌, ℕ, zero, suc, ◌<◌, Bool, true, ◌&&◌, List, [], length, slice_get, Option, Some, None, refl, sym, ap, ◌∙◌, inl, inr, arith}
+use Rattle.std.proofs.Common.{◌≡◌, ℕ, zero, suc, ◌<◌, Bool, true, List, [], length, slice_get, Option, Some, None, refl, sym, ap, ◌∙◌, subst, inl, inr, arith}
 use Rattle.std.proofs.lemmas.Bool.{and_from}
 use Rattle.std.proofs.lemmas.List.{set-get_or}
 use Rattle.kernel.specs.Reply.{Reply}
@@ -10,10 +10,11 @@ use Rattle.txn_replay.specs.Part.{Part, Moved, still, begun, piece_by, piece}
 use Rattle.txn_replay.specs.Payment.{Payment, next_of}
 use Rattle.txn_replay.specs.Run.{Place, Reached, start, scheduled, rounds, round, again, settlement, settling, audit, auditing, finished, lane_over, all_below, all_over}
 use Rattle.txn_replay.specs.Sound.{IsSound, HeldBy, IsHeld, IsIdle, IsCalm}
-use Rattle.txn_replay.specs.Steps.{Settlement, Check, PowersUp, Asks, nothing, part_of, moved, turned_by, settles, settlements, audits, checks, happens, first_of}
-use Rattle.txn_replay.specs.World.{Holder, LaneRow, World, new_card, new_lane, lane_at}
+use Rattle.txn_replay.specs.Steps.{nothing, part_of, moved, choice_in, turned_by, settlements, checks, happens}
+use Rattle.txn_replay.specs.World.{Holder, World, new_card, new_lane, lane_at}
 use Rattle.txn_replay.specs.declared.event.Event.TheVariants.{Turn}
 use Rattle.txn_replay.proofs.Payments.{payment_facts}
+use Rattle.txn_replay.proofs.Sending.{LanesLike, all_like, settle_like, audit_like}
 
 -- an exchange that isn't one changes nothing
 moved_still : (w : World) (l i : ℕ) → moved w l i (still (part_of w l i)) ≡ nothing w
@@ -28,18 +29,18 @@ held_still : (p : Payment) (part : Part) (choice : Bool) (h : Holder) → part.l
 held_still p part choice h rests held =
     ap (λ (o : Option (List Reply)). piece_by p part choice o) rests ∙ ap (λ (o : Option Holder). begun p part choice o) held
 
-pub idle_stays : (s : ScenarioData) (w : World) (l : ℕ) (choice : Bool) → IsIdle s w l → happens s w (Turn l) choice ≡ nothing w
-idle_stays s w l choice idle =
+pub idle_stays : (s : ScenarioData) (w : World) (l : ℕ) (choices : List Bool) → IsIdle s w l → happens s w (Turn l) choices ≡ nothing w
+idle_stays s w l choices idle =
     elim idle.waits [
-      | inl none ↦ ap (λ (o : Option Payment). turned_by w l choice o) none
+      | inl none ↦ ap (λ (o : Option Payment). turned_by w l choices o) none
       | inr held ↦ by_held held
     ]
   where
-    by_held : IsHeld s w l → happens s w (Turn l) choice ≡ nothing w
+    by_held : IsHeld s w l → happens s w (Turn l) choices ≡ nothing w
     by_held held =
-        ap (λ (o : Option Payment). turned_by w l choice o) held.is
+        ap (λ (o : Option Payment). turned_by w l choices o) held.is
         ∙ ap (λ (m : Moved). moved w l held.payment.planned.card m)
-        (held_still held.payment (part_of w l held.payment.planned.card) choice held.holder idle.rests held.held)
+        (held_still held.payment (part_of w l held.payment.planned.card) (choice_in choices 0) held.holder idle.rests held.held)
         ∙ moved_still w l held.payment.planned.card
 
 -- each of the first lanes is over
@@ -68,24 +69,8 @@ stuck_over s w sound idle = all_from s w (length s.lanes) each
           | inr held ↦ absurd (not_held l held)
         ]
 
--- the lanes alone count
-below_lanes : (s : ScenarioData) (v w : World) → v.lanes ≡ w.lanes → (n : ℕ) → all_below s v n ≡ all_below s w n
-below_lanes s v w same zero = refl
-below_lanes s v w same (suc n) =
-    ap (λ (lanes : List LaneRow). lane_over s (record { cards = v.cards; lanes = lanes; messages = v.messages }) n && all_below s v n) same
-    ∙ ap (λ b. lane_over s w n && b) (below_lanes s v w same n)
-
-pub settle_lanes : (s : ScenarioData) (w : World) (o : Option Settlement) → (settles s w o).world.lanes ≡ w.lanes
-settle_lanes s w None = refl
-settle_lanes s w (Some at) = refl
-
-pub audit_lanes : (w : World) (choice : Bool) (o : Option Check) → (audits w choice o).world.lanes ≡ w.lanes
-audit_lanes w choice None = refl
-audit_lanes w choice (Some (PowersUp i card)) = refl
-audit_lanes w choice (Some (Asks i card command)) = refl
-
-pub stays_over : (s : ScenarioData) (v w : World) → w.lanes ≡ v.lanes → all_over s v ≡ true → all_over s w ≡ true
-stays_over s v w same over_before = below_lanes s w v same (length s.lanes) ∙ over_before
+pub stays_over : (s : ScenarioData) (v w : World) → LanesLike w v → all_over s v ≡ true → all_over s w ≡ true
+stays_over s v w like over_before = all_like s w v like ∙ over_before
 
 pub calm_over : (s : ScenarioData) (place : Place) (n : ℕ) (choices : List Bool) (lines : List Line) (w : World)
     → Reached s place n choices lines w → IsCalm place → all_over s w ≡ true
@@ -96,8 +81,8 @@ calm_over s _ _ _ _ _ (round before inside on step) calm = absurd calm
 calm_over s _ _ _ _ _ (again before) calm = absurd calm
 calm_over s _ _ _ _ _ (settlement before is) calm = is
 calm_over s _ _ _ _ _ (settling {k} {c = c} {w = v} {w' = v'} before at step) calm =
-    stays_over s v v' (ap (λ (x : World). x.lanes) step.leads ∙ settle_lanes s v (slice_get (settlements s v) k)) (calm_over s _ _ _ _ v before tt)
+    stays_over s v v' (subst (λ (x : World). LanesLike x v) (sym step.leads) (settle_like s v (slice_get (settlements s v) k))) (calm_over s _ _ _ _ v before tt)
 calm_over s _ _ _ _ w (audit before past) calm = calm_over s _ _ _ _ w before tt
 calm_over s _ _ _ _ _ (auditing {k} {c = c} {w = v} {w' = v'} before at step) calm =
-    stays_over s v v' (ap (λ (x : World). x.lanes) step.leads ∙ audit_lanes v (first_of c) (slice_get (checks s) k)) (calm_over s _ _ _ _ v before tt)
+    stays_over s v v' (subst (λ (x : World). LanesLike x v) (sym step.leads) (audit_like v c (slice_get (checks s) k))) (calm_over s _ _ _ _ v before tt)
 calm_over s _ _ _ _ w (finished before past) calm = calm_over s _ _ _ _ w before tt

@@ -86,6 +86,7 @@ cut_once = record {
       aids = row ∷ [];
     };
     purchases = cut ∷ [];
+    iso = false;
   } ∷ [];
   schedule = [];
   copies = 1;
@@ -107,15 +108,15 @@ nothing_found = record {
 abbrev cut_lines : List Line
 cut_lines = PowerTorn 0 (record { items = codes "c1" }) ∷ End 0 1 nothing_found ∷ []
 
-cut_happens : (choice : Bool) → (happens cut_once (first_world cut_once) (Turn 0) choice).lines ≡ cut_lines
+cut_happens : (choices : List Bool) → (happens cut_once (first_world cut_once) (Turn 0) choices).lines ≡ cut_lines
 unfolding payment_in dialogue card_step listing
-cut_happens choice = refl
+cut_happens choices = refl
 
 abbrev cut_world : World
-cut_world = (happens cut_once (first_world cut_once) (Turn 0) false).world
+cut_world = (happens cut_once (first_world cut_once) (Turn 0) []).world
 
 abbrev audited : World
-audited = (happens cut_once cut_world (Audit 0) true).world
+audited = (happens cut_once cut_world (Audit 0) (true ∷ [])).world
 
 -- the only turn, then the audit, which finds a card without applications, and `done 1`
 cut_runs : Run cut_once (cut_lines ++ (AuditPower (record { items = codes "c1" }) (record { items = [] }) ∷ Done 1 ∷ [])) audited
@@ -144,15 +145,15 @@ abbrev silent_lines : List Line
 silent_lines =
     ToCard 0 (record { items = 0x00 ∷ 0xA4 ∷ 0x04 ∷ 0x00 ∷ 0x05 ∷ 0xA0 ∷ 0x00 ∷ 0x00 ∷ 0x00 ∷ 0x03 ∷ 0x00 ∷ [] }) ∷ Gone 0 ∷ End 0 1 nothing_found ∷ []
 
-silent_begins : (choice : Bool) → (happens silent_once (first_world silent_once) (Turn 0) choice).lines ≡ silent_power
+silent_begins : (choices : List Bool) → (happens silent_once (first_world silent_once) (Turn 0) choices).lines ≡ silent_power
 unfolding payment_in dialogue card_step listing
-silent_begins choice = refl
+silent_begins choices = refl
 
 abbrev silent_on : World
-silent_on = (happens silent_once (first_world silent_once) (Turn 0) false).world
+silent_on = (happens silent_once (first_world silent_once) (Turn 0) []).world
 
 abbrev silent_world : World
-silent_world = (happens silent_once silent_on (Turn 0) false).world
+silent_world = (happens silent_once silent_on (Turn 0) []).world
 
 -- both turns, then the audit, which passes the card over, and `done 1`
 silent_runs : Run silent_once (silent_power ++ silent_lines ++ (Done 1 ∷ [])) silent_world

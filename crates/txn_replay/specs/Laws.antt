@@ -80,7 +80,7 @@ WorldsAreSound =
 
 -- a lane that waits has no exchange: no line is made, and nothing changes
 abbrev pub IdleLanesStay : Type 0
-IdleLanesStay = (s : ScenarioData) (w : World) (l : ℕ) (choice : Bool) → IsIdle s w l → happens s w (Turn l) choice ≡ nothing w
+IdleLanesStay = (s : ScenarioData) (w : World) (l : ℕ) (choices : List Bool) → IsIdle s w l → happens s w (Turn l) choices ≡ nothing w
 
 -- an exchange of one lane leaves every other lane, and every card but that of its purchase
 pub record LeavesOthers (s : ScenarioData) (w after : World) (l : ℕ) : Type 0 where
@@ -88,7 +88,7 @@ pub record LeavesOthers (s : ScenarioData) (w after : World) (l : ℕ) : Type 0 
   pub cards : (i : ℕ) → ((p : Payment) → next_of s w l ≡ Some p → i ≢ p.planned.card) → card_at after i ≡ card_at w i
 
 abbrev pub LanesStayApart : Type 0
-LanesStayApart = (s : ScenarioData) (w : World) (l : ℕ) (choice : Bool) → LeavesOthers s w (happens s w (Turn l) choice).world l
+LanesStayApart = (s : ScenarioData) (w : World) (l : ℕ) (choices : List Bool) → LeavesOthers s w (happens s w (Turn l) choices).world l
 
 -- a line that tells that the power of a card was cut
 abbrev pub is_torn : Line → Bool
@@ -99,9 +99,9 @@ is_torn other = false
 -- an exchange counts a loss of its card exactly where its lines tell one
 abbrev pub LossesAreTold : Type 0
 LossesAreTold =
-    (s : ScenarioData) (w : World) (l : ℕ) (choice : Bool) (p : Payment) → IsSound s w → next_of s w l ≡ Some p
-    → (card_at (happens s w (Turn l) choice).world p.planned.card).losses
-    ≡ (card_at w p.planned.card).losses + count_by is_torn (happens s w (Turn l) choice).lines
+    (s : ScenarioData) (w : World) (l : ℕ) (choices : List Bool) (p : Payment) → IsSound s w → next_of s w l ≡ Some p
+    → (card_at (happens s w (Turn l) choices).world p.planned.card).losses
+    ≡ (card_at w p.planned.card).losses + count_by is_torn (happens s w (Turn l) choices).lines
 
 -- where every lane waits, every purchase is over
 abbrev pub StuckIsOver : Type 0

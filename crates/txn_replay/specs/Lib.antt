@@ -21,3 +21,4 @@ pub mod Slot
 pub mod SeenSlot
 pub mod Called
 pub mod PagesTell
+pub mod Respelled

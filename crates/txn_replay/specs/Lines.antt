@@ -1,10 +1,11 @@
 -- The lines of a report that a run makes (this project's own).
-use Rattle.std.specs.Prelude.{ℕ, List, [], ◌∷◌, map, Option, Some, None, option_map}
+use Rattle.std.specs.Prelude.{ℕ, Bool, List, [], ◌∷◌, map, Option, Some, None, option_map}
 use Rattle.card_files.specs.Files.{opening_of}
 use Rattle.card_state.specs.Decisions.{Decided}
 use Rattle.card_state.specs.Encoding.{flags_of}
 use Rattle.card_state.specs.Totals.{totals}
 use Rattle.card_state.specs.declared.state.AppState.{AppState}
+use Rattle.host_link.specs.Dialect.{call_in, reply_in}
 use Rattle.kernel.specs.Ended.{EndData}
 use Rattle.report_text.specs.declared.line.EndParts.{EndParts}
 use Rattle.report_text.specs.declared.line.Line.{Line}
@@ -47,13 +48,17 @@ torn_lines lane command = ToCard lane (record { items = command }) ∷ Torn lane
 abbrev pub gone_lines : ℕ → List ℕ → List Line
 gone_lines lane command = ToCard lane (record { items = command }) ∷ Gone lane ∷ []
 
--- a message to the host and its reply, or silence
-abbrev pub reply_line : ℕ → Option (List ℕ) → Line
-reply_line lane None = NoReply lane
-reply_line lane (Some reply) = FromHost lane (record { items = reply })
+-- what stood on the wire to the host, and what came back, or silence
+abbrev pub heard_line : ℕ → Option (List ℕ) → Line
+heard_line lane None = NoReply lane
+heard_line lane (Some bytes) = FromHost lane (record { items = bytes })
 
-abbrev pub host_lines : ℕ → List ℕ → Option (List ℕ) → List Line
-host_lines lane message reply = ToHost lane (record { items = message }) ∷ reply_line lane reply ∷ []
+abbrev pub wire_lines : ℕ → List ℕ → Option (List ℕ) → List Line
+wire_lines lane call reply = ToHost lane (record { items = call }) ∷ heard_line lane reply ∷ []
+
+-- a message to the host and its reply, both in the lane's dialect, or silence
+abbrev pub host_lines : Bool → ℕ → List ℕ → Option (List ℕ) → List Line
+host_lines iso lane message reply = wire_lines lane (call_in iso message) (option_map (reply_in iso message) reply)
 
 -- how a purchase ended
 abbrev pub end_parts : EndData → EndParts
@@ -72,8 +77,11 @@ abbrev pub end_line : ℕ → ℕ → EndData → Line
 end_line lane number end = End lane number (end_parts end)
 
 -- a message of a lane's settlement, and its reply
-abbrev pub settle_lines : ℕ → List ℕ → List ℕ → List Line
-settle_lines lane message reply = SettleCall lane (record { items = message }) ∷ SettleReply lane (record { items = reply }) ∷ []
+abbrev pub settle_wire_lines : ℕ → List ℕ → List ℕ → List Line
+settle_wire_lines lane call reply = SettleCall lane (record { items = call }) ∷ SettleReply lane (record { items = reply }) ∷ []
+
+abbrev pub settle_lines : Bool → ℕ → List ℕ → List ℕ → List Line
+settle_lines iso lane message reply = settle_wire_lines lane (call_in iso message) (reply_in iso message reply)
 
 -- the audit
 abbrev pub audit_power_line : CardData → List Decided → Line

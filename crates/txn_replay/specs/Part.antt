@@ -10,18 +10,17 @@ use Rattle.emv_dict.specs.declared.ending.Ending.{Ending}
 use Rattle.emv_dict.specs.declared.ending.Ending.TheVariants.{Approved, Declined, Terminated, CutOff}
 use Rattle.emv_dict.specs.declared.purchase.Logged.{Logged}
 use Rattle.emv_ports.specs.Cut.{is_named}
+use Rattle.host_link.specs.Delivery.{delivered, heard}
 use Rattle.issuer_host.specs.History.{host_reply}
 use Rattle.kernel.specs.Dialogue.{dialogue}
 use Rattle.kernel.specs.Ended.{EndData}
 use Rattle.kernel.specs.Reply.{Reply, CardSaid, CardGone, from_host, Deed, ToCard, ToHost, Over}
 use Rattle.object_lists.specs.CardRead.{ReadCard}
 use Rattle.report_text.specs.declared.line.Line.{Line}
-use Rattle.scenario_lanes.specs.declared.plan.Link.{Link}
-use Rattle.scenario_lanes.specs.declared.plan.Link.TheVariants.{Sound, RequestLost, ReplyLost, Twice}
 use Rattle.txn_replay.specs.Changes.{powered, exchanged, told_once, torn, lost, freed}
 use Rattle.txn_replay.specs.Lines.{power_line, power_canned_line, power_torn_line, answer_lines, torn_lines, gone_lines, host_lines, end_line}
 use Rattle.txn_replay.specs.Payment.{Payment, deal_for, end_at}
-use Rattle.txn_replay.specs.World.{Holder, CardRow, LaneRow}
+use Rattle.txn_replay.specs.World.{Holder, CardRow, LaneRow, with_sent}
 
 -- the lane, the card of its purchase, and the messages that came to the host
 pub record Part : Type 0 where
@@ -53,10 +52,12 @@ approval purchase (CutOff step) card = []
 -- the purchase has ended
 abbrev pub lane_ended : Payment → List Reply → EndData → LaneRow → LaneRow
 lane_ended p replies end lane = record {
-  ended = lane.ended ++ record { replies = replies; end = end } ∷ [];
+  ended = lane.ended ++ record { began = lane.began; replies = replies; end = end } ∷ [];
   running = None;
+  began = None;
   log = lane.log ++ approval p.planned.purchase end.ending end.card;
   captures = lane.captures ++ option_to_list end.capture;
+  sent = lane.sent;
 }
 
 abbrev pub ended_with : Payment → List Reply → EndData → Part → List Line → Moved
@@ -110,24 +111,17 @@ asked_by p replies command part (Some answers) = canned_by p replies command par
 abbrev pub asked_card : Payment → List Reply → List ℕ → Part → Moved
 asked_card p replies command part = asked_by p replies command part p.card.canned
 
--- how often a message comes to the host
-abbrev pub delivered : Link → List ℕ → List (List ℕ)
-delivered Sound message = message ∷ []
-delivered RequestLost message = []
-delivered ReplyLost message = message ∷ []
-delivered Twice message = message ∷ message ∷ []
-
--- which reply comes back: the first
-abbrev pub heard : Link → List ℕ → Option (List ℕ)
-heard Sound reply = Some reply
-heard RequestLost reply = None
-heard ReplyLost reply = None
-heard Twice reply = Some reply
+-- a message is made for the host, and comes to it or is lost
+abbrev pub sending : Payment → List ℕ → Part → Part
+sending p message part = record {
+  lane = with_sent message part.lane;
+  card = part.card;
+  messages = part.messages ++ delivered p.planned.link message;
+}
 
 abbrev pub host_by : Payment → List Reply → List ℕ → Part → Option (List ℕ) → Moved
 host_by p replies message part reply =
-    settled p (replies ++ from_host reply ∷ []) (record part { messages = part.messages ++ delivered p.planned.link message })
-    (host_lines p.lane message reply)
+    settled p (replies ++ from_host reply ∷ []) (sending p message part) (host_lines p.iso p.lane message reply)
 
 abbrev pub asked_host : Payment → List Reply → List ℕ → Part → Moved
 asked_host p replies message part =
@@ -140,12 +134,15 @@ asked p replies part (ToHost message) = asked_host p replies message part
 asked p replies part (Over ending) = still part
 
 -- a power-up that is completed, which finds these decisions
-abbrev pub on_with : Payment → Part → List Decided → Line → Moved
-on_with p part found line =
-    settled p [] (record part { card = powered part.card found (Some (record { lane = p.lane; number = length part.lane.ended })) }) (line ∷ [])
+abbrev pub on_for : Payment → Option (List Decided) → List Decided → Part → Part
+on_for p began found part = record {
+  lane = record part.lane { began = began };
+  card = powered part.card found (Some (record { lane = p.lane; number = length part.lane.ended }));
+  messages = part.messages;
+}
 
 abbrev pub powered_up : Payment → Part → List Decided → Moved
-powered_up p part found = chosen (on_with p part found (power_line p.lane p.card found))
+powered_up p part found = chosen (settled p [] (on_for p (Some found) found part) (power_line p.lane p.card found ∷ []))
 
 -- a tear in commit 0 cuts it, and leaves the card's decisions as they were
 abbrev pub begun_by : Payment → Part → Bool → Bool → Moved
@@ -154,7 +151,8 @@ begun_by p part choice false = powered_up p part (found_of part.card.kept part.c
 
 -- a card of canned answers decides nothing: no tear cuts its power-up, and no truth value is taken
 abbrev pub begun_canned : Payment → Part → Moved
-begun_canned p part = on_with p part (found_of part.card.kept part.card.pending false) (power_canned_line p.lane p.card)
+begun_canned p part =
+    settled p [] (on_for p None (found_of part.card.kept part.card.pending false) part) (power_canned_line p.lane p.card ∷ [])
 
 abbrev pub begun_with : Payment → Part → Bool → Option (List (List ℕ)) → Moved
 begun_with p part choice None = begun_by p part choice (is_named p.planned.tear 0)

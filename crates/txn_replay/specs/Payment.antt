@@ -1,5 +1,5 @@
 -- A purchase with all that its scenario says of it.
-use Rattle.std.specs.Prelude.{ℕ, List, length, slice_get, Option, option_map, option_and_then}
+use Rattle.std.specs.Prelude.{ℕ, Bool, false, List, length, slice_get, Option, Some, None, option_map, option_and_then}
 use Rattle.emv_dict.specs.Views.{SettingsData}
 use Rattle.issuer_host.specs.Account.{AccountData}
 use Rattle.issuer_host.specs.declared.keys.HostKeys.{HostKeys}
@@ -13,11 +13,13 @@ use Rattle.scenario_lanes.specs.declared.plan.Planned.{Planned}
 use Rattle.terminal_state.specs.Terminal.{Deal}
 use Rattle.txn_replay.specs.World.{World, lane_at}
 
--- the issuer, the lane's number and its terminal's settings, what is planned, and the card
+-- the issuer, the lane's number, whether it speaks ISO 8583 with the host, its terminal's settings, what is planned, and
+-- the card
 pub record Payment : Type 0 where
   pub issuer : HostKeys
   pub accounts : List AccountData
   pub lane : ℕ
+  pub iso : Bool
   pub settings : SettingsData
   pub planned : Planned
   pub card : CardData
@@ -27,6 +29,7 @@ payment_with s l lane planned card = record {
   issuer = s.issuer;
   accounts = s.accounts;
   lane = l;
+  iso = lane.iso;
   settings = lane.settings;
   planned = planned;
   card = card;
@@ -41,6 +44,14 @@ payment_on s l number lane = option_and_then (payment_of s l lane) (slice_get la
 -- the purchase of this number in a lane
 unfoldable pub payment_in : ScenarioData → ℕ → ℕ → Option Payment
 payment_in s l number = option_and_then (payment_on s l number) (slice_get s.lanes l)
+
+-- whether a lane speaks ISO 8583 with the host
+abbrev pub is_iso : Option LaneData → Bool
+is_iso None = false
+is_iso (Some lane) = lane.iso
+
+abbrev pub dialect_of : ScenarioData → ℕ → Bool
+dialect_of s l = is_iso (slice_get s.lanes l)
 
 -- the one that a lane begins next, or that runs in it
 abbrev pub next_of : ScenarioData → World → ℕ → Option Payment

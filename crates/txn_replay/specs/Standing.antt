@@ -2,6 +2,7 @@
 use Rattle.std.specs.Prelude.{◌≡◌, ⊤, ℕ, ◌+◌, ◌*◌, ◌-◌, ◌≤◌, Bool, true, false, List, ◌++◌, length, map, fold, Option, Some, None, option_and_then}
 use Rattle.std.specs.Global.{Box}
 use Rattle.std.specs.List.{All}
+use Rattle.auth_message.specs.Whole.{IsMessage}
 use Rattle.emv_dict.specs.Settings.{most_amount}
 use Rattle.emv_ports.specs.declared.tear.Tear.{Tear}
 use Rattle.issuer_host.specs.Account.{AccountData}
@@ -30,6 +31,7 @@ seen_payment issuer accounts at = record {
   issuer = issuer;
   accounts = accounts;
   lane = at.lane;
+  iso = at.iso;
   settings = at.settings.now;
   planned = at.planned.now;
   card = seen_card at.card.now;
@@ -53,6 +55,7 @@ pub record LaneKeeps (lane : Lane) (row : LaneRow) : Type 0 where
   pub log : lane.log.items ≡ row.log
   pub amounts : All (λ logged. logged.amount ≤ most_amount) row.log
   pub captures : map (λ message. message.items) lane.captures.items ≡ row.captures
+  pub messages : All IsMessage row.captures
   pub card : lane.running ≡ None → card_in lane.place ≡ option_and_then past_card (last_past row.ended)
   pub ending : lane.ending ≡ latest_ending row.ended
 
@@ -105,11 +108,6 @@ pub record MovedTo (p : Payment) (lane : Lane) (slot : SlotSeen) (lines : List L
 -- and the purchase that ended in it, if one did, is counted
 abbrev pub IsCounted : Counts → Counts → List Past → List Past → Type 0
 IsCounted before after earlier pasts = (ended : List Past) × (pasts ≡ earlier ++ ended) × (after ≡ counted before ended)
-
--- the reply that comes back
-abbrev pub reply_if : Bool → List ℕ → Option (List ℕ)
-reply_if false reply = None
-reply_if true reply = Some reply
 
 -- an exchange has led to this, and the purchase that ended in it, if one did, is counted
 pub record Led (p : Payment) (lane : Lane) (slot : SlotSeen) (before after : Counts) (lines : List Line) (part : Part) (m : Moved) : Type 0 where

@@ -1,5 +1,5 @@
 -- The events of a run: an exchange of a lane, a message of the settlement, a step of the audit (this project's own).
-use Rattle.std.specs.Prelude.{◌≡◌, ℕ, ◌+◌, Bool, false, List, [], ◌∷◌, ◌++◌, length, flat_map, replicate, slice_get, slice_set, Option, Some, None, unwrap_or}
+use Rattle.std.specs.Prelude.{◌≡◌, ℕ, ◌+◌, Bool, false, List, [], ◌∷◌, ◌++◌, length, flat_map, replicate, slice_get, slice_index_or, slice_set, Option, Some, None}
 use Rattle.app_select.specs.Said.{select_command}
 use Rattle.card_app.specs.Answering.{card_answer}
 use Rattle.card_files.specs.Views.{AppData}
@@ -13,8 +13,8 @@ use Rattle.scenario.specs.Plan.{ScenarioData}
 use Rattle.txn_replay.specs.Changes.{powered, exchanged}
 use Rattle.txn_replay.specs.Lines.{settle_lines, audit_power_line, audit_lines}
 use Rattle.txn_replay.specs.Part.{Part, Moved, piece}
-use Rattle.txn_replay.specs.Payment.{Payment, next_of}
-use Rattle.txn_replay.specs.World.{CardRow, LaneRow, World, card_at, lane_at}
+use Rattle.txn_replay.specs.Payment.{Payment, next_of, dialect_of}
+use Rattle.txn_replay.specs.World.{CardRow, LaneRow, World, card_at, lane_at, with_sent}
 use Rattle.txn_replay.specs.declared.event.Event.{Event}
 use Rattle.txn_replay.specs.declared.event.Event.TheVariants.{Turn, Settle, Audit}
 
@@ -38,13 +38,17 @@ moved w l i m = record {
   choices = m.choices;
 }
 
--- nothing happens where no purchase is left
-abbrev pub turned_by : World → ℕ → Bool → Option Payment → After
-turned_by w l choice None = nothing w
-turned_by w l choice (Some p) = moved w l p.planned.card (piece p (part_of w l p.planned.card) choice)
+-- the truth value of this number among those that an event takes: a card's is the first
+abbrev pub choice_in : List Bool → ℕ → Bool
+choice_in choices n = slice_index_or choices n false
 
-abbrev pub turned : ScenarioData → World → ℕ → Bool → After
-turned s w l choice = turned_by w l choice (next_of s w l)
+-- nothing happens where no purchase is left
+abbrev pub turned_by : World → ℕ → List Bool → Option Payment → After
+turned_by w l choices None = nothing w
+turned_by w l choices (Some p) = moved w l p.planned.card (piece p (part_of w l p.planned.card) (choice_in choices 0))
+
+abbrev pub turned : ScenarioData → World → ℕ → List Bool → After
+turned s w l choices = turned_by w l choices (next_of s w l)
 
 -- a message that a lane captured
 pub record Settlement : Type 0 where
@@ -62,16 +66,20 @@ abbrev pub settlements : ScenarioData → World → List Settlement
 settlements s w = settlements_from s.copies 0 w.lanes
 
 -- a message is delivered once
-abbrev pub settled_with : World → Settlement → List ℕ → After
-settled_with w at reply = record {
-  world = record w { messages = w.messages ++ at.message ∷ [] };
-  lines = settle_lines at.lane at.message reply;
+abbrev pub settled_with : Bool → World → Settlement → List ℕ → After
+settled_with iso w at reply = record {
+  world = record {
+    cards = w.cards;
+    lanes = slice_set w.lanes at.lane (with_sent at.message (lane_at w at.lane));
+    messages = w.messages ++ at.message ∷ [];
+  };
+  lines = settle_lines iso at.lane at.message reply;
   choices = 0;
 }
 
 abbrev pub settles : ScenarioData → World → Option Settlement → After
 settles s w None = nothing w
-settles s w (Some at) = settled_with w at (host_reply s.issuer s.accounts w.messages at.message)
+settles s w (Some at) = settled_with (dialect_of s at.lane) w at (host_reply s.issuer s.accounts w.messages at.message)
 
 -- a step of the audit: the card of this number is powered up, or asked a command
 pub data Check : Type 0 where
@@ -116,23 +124,20 @@ audits_ask w i card command said = record {
   choices = 0;
 }
 
-abbrev pub audits : World → Bool → Option Check → After
-audits w choice None = nothing w
-audits w choice (Some (PowersUp i card)) = audits_power w i card choice
-audits w choice (Some (Asks i card command)) =
+abbrev pub audits : World → List Bool → Option Check → After
+audits w choices None = nothing w
+audits w choices (Some (PowersUp i card)) = audits_power w i card (choice_in choices 0)
+audits w choices (Some (Asks i card command)) =
     audits_ask w i card command (card_answer card.image (card_at w i).kept (card_at w i).session command)
 
--- what happens, with this truth value where one is taken
-abbrev pub happens : ScenarioData → World → Event → Bool → After
-happens s w (Turn l) choice = turned s w l choice
-happens s w (Settle k) choice = settles s w (slice_get (settlements s w) k)
-happens s w (Audit k) choice = audits w choice (slice_get (checks s) k)
-
-abbrev pub first_of : List Bool → Bool
-first_of choices = unwrap_or (slice_get choices 0) false
+-- what happens, with these truth values where any are taken
+abbrev pub happens : ScenarioData → World → Event → List Bool → After
+happens s w (Turn l) choices = turned s w l choices
+happens s w (Settle k) choices = settles s w (slice_get (settlements s w) k)
+happens s w (Audit k) choices = audits w choices (slice_get (checks s) k)
 
 -- the event takes these truth values, makes these lines, and leads to this world
 pub record Step (s : ScenarioData) (w : World) (e : Event) (choices : List Bool) (lines : List Line) (after : World) : Type 0 where
-  pub taken : length choices ≡ (happens s w e (first_of choices)).choices
-  pub made : lines ≡ (happens s w e (first_of choices)).lines
-  pub leads : after ≡ (happens s w e (first_of choices)).world
+  pub taken : length choices ≡ (happens s w e choices).choices
+  pub made : lines ≡ (happens s w e choices).lines
+  pub leads : after ≡ (happens s w e choices).world

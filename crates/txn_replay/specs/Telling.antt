@@ -78,16 +78,16 @@ pub record Gives (p : Payment) (holder : Holder) (before after : CardRow) (lines
 -- an exchange of a lane adds to its purchase's card one row a GENERATE AC that is answered 9000
 abbrev pub GivenIsTold : Type 0
 GivenIsTold =
-    (s : ScenarioData) (w : World) (l : ℕ) (choice : Bool) (p : Payment) → IsSound s w → next_of s w l ≡ Some p
-    → Gives p (holder_in w l) (card_at w p.planned.card) (card_at (happens s w (Turn l) choice).world p.planned.card) (happens s w (Turn l) choice).lines
+    (s : ScenarioData) (w : World) (l : ℕ) (choices : List Bool) (p : Payment) → IsSound s w → next_of s w l ≡ Some p
+    → Gives p (holder_in w l) (card_at w p.planned.card) (card_at (happens s w (Turn l) choices).world p.planned.card) (happens s w (Turn l) choices).lines
 
 -- and nothing else adds one: the settlement and the audit leave the rows of each card
-pub record LeavesGiven (s : ScenarioData) (w : World) (k : ℕ) (choice : Bool) : Type 0 where
-  pub settle : (i : ℕ) → (card_at (happens s w (Settle k) choice).world i).given ≡ (card_at w i).given
-  pub audit : (i : ℕ) → (card_at (happens s w (Audit k) choice).world i).given ≡ (card_at w i).given
+pub record LeavesGiven (s : ScenarioData) (w : World) (k : ℕ) (choices : List Bool) : Type 0 where
+  pub settle : (i : ℕ) → (card_at (happens s w (Settle k) choices).world i).given ≡ (card_at w i).given
+  pub audit : (i : ℕ) → (card_at (happens s w (Audit k) choices).world i).given ≡ (card_at w i).given
 
 abbrev pub GivenIsLeft : Type 0
-GivenIsLeft = (s : ScenarioData) (w : World) (k : ℕ) (choice : Bool) → LeavesGiven s w k choice
+GivenIsLeft = (s : ScenarioData) (w : World) (k : ℕ) (choices : List Bool) → LeavesGiven s w k choices
 
 -- an answer rests on every decision that the card has kept
 pub record IsSure (card : CardRow) : Type 0 where
@@ -103,6 +103,6 @@ HeldIsSure =
 -- and behind an answer, also where that ends the purchase
 abbrev pub AnsweredIsSure : Type 0
 AnsweredIsSure =
-    (s : ScenarioData) (place : Place) (n : ℕ) (choices : List Bool) (lines : List Line) (w : World) (l : ℕ) (choice : Bool) (p : Payment)
-    → Reached s place n choices lines w → next_of s w l ≡ Some p → list_any is_answer (happens s w (Turn l) choice).lines ≡ true
-    → IsSure (card_at (happens s w (Turn l) choice).world p.planned.card)
+    (s : ScenarioData) (place : Place) (n : ℕ) (taken : List Bool) (lines : List Line) (w : World) (l : ℕ) (choices : List Bool) (p : Payment)
+    → Reached s place n taken lines w → next_of s w l ≡ Some p → list_any is_answer (happens s w (Turn l) choices).lines ≡ true
+    → IsSure (card_at (happens s w (Turn l) choices).world p.planned.card)

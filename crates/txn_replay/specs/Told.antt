@@ -1,16 +1,19 @@
 -- What the lines of a run tell: which card lost its power, what each terminal was told, and how each purchase ended (this
 -- project's own).
-use Rattle.std.specs.Prelude.{◌≡◌, ℕ, ◌+◌, ◌==◌, Bool, false, if◌then◌else◌, List, [], ◌∷◌, ◌++◌, map, fold, slice_get, Some}
+use Rattle.std.specs.Prelude.{◌≡◌, ℕ, ◌+◌, ◌==◌, Bool, false, if◌then◌else◌, List, [], ◌∷◌, ◌++◌, length, map, flat_map, fold, slice_get, Option, Some, None}
 use Rattle.std.specs.Str.{bytes_eq}
+use Rattle.host_link.specs.Dialect.{call_in, reply_in}
+use Rattle.kernel.specs.Dialogue.{dialogue}
+use Rattle.kernel.specs.Kernel.{told_bytes}
 use Rattle.kernel.specs.Reply.{Reply, CardSaid, CardGone, HostSaid, HostSilent}
 use Rattle.report_text.specs.declared.line.EndParts.{EndParts}
 use Rattle.report_text.specs.declared.line.Line.{Line}
-use Rattle.report_text.specs.declared.line.Line.TheVariants.{Power, PowerCanned, PowerTorn, FromCard, Torn, Gone, FromHost, NoReply, End}
+use Rattle.report_text.specs.declared.line.Line.TheVariants.{Power, PowerCanned, PowerTorn, FromCard, Torn, Gone, ToHost, FromHost, NoReply, SettleCall, End}
 use Rattle.scenario.specs.Cards.{CardData}
 use Rattle.scenario.specs.Plan.{ScenarioData, IsScenario}
 use Rattle.txn_replay.specs.Lines.{end_parts}
-use Rattle.txn_replay.specs.Payment.{Payment, payment_in, end_at}
-use Rattle.txn_replay.specs.Run.{Place, Reached}
+use Rattle.txn_replay.specs.Payment.{Payment, payment_in, dialect_of, deal_for, end_at}
+use Rattle.txn_replay.specs.Run.{Place, Reached, Run}
 use Rattle.txn_replay.specs.World.{Past, LaneRow, World, card_at, lane_at}
 
 -- the card that a power line of this lane names, else the one that was known
@@ -47,6 +50,10 @@ RunsTellLosses =
     (s : ScenarioData) (place : Place) (n : ℕ) (choices : List Bool) (lines : List Line) (w : World)
     → IsScenario s → Reached s place n choices lines w → HasLosses s lines w
 
+-- so it is of whole runs
+abbrev pub WholeRunsTellLosses : Type 0
+WholeRunsTellLosses = (s : ScenarioData) (lines : List Line) (w : World) → IsScenario s → Run s lines w → HasLosses s lines w
+
 -- what a terminal was told: a card's answer, that the card is gone, the host's reply, or none
 pub data Heard : Type 0 where
   Answered : (bytes : List ℕ) → Heard
@@ -54,11 +61,22 @@ pub data Heard : Type 0 where
   Replied : (bytes : List ℕ) → Heard
   Silence : Heard
 
-abbrev pub heard_of : Reply → Heard
-heard_of (CardSaid answer log) = Answered answer
-heard_of CardGone = Cut
-heard_of (HostSaid reply) = Replied reply
-heard_of HostSilent = Silence
+-- a reply as its line tells it: the host's is spelled in the lane's dialect, as an answer to this message
+abbrev pub heard_of : Bool → List ℕ → Reply → Heard
+heard_of iso message (CardSaid answer log) = Answered answer
+heard_of iso message CardGone = Cut
+heard_of iso message (HostSaid reply) = Replied (reply_in iso message reply)
+heard_of iso message HostSilent = Silence
+
+-- so each of these replies, behind others, to what the dialogue asks there
+abbrev pub heard_behind : Payment → List Reply → List Reply → List Heard
+heard_behind p before [] = []
+heard_behind p before (reply ∷ replies) =
+    heard_of p.iso (told_bytes (dialogue (deal_for p) before)) reply ∷ heard_behind p (before ++ reply ∷ []) replies
+
+abbrev pub heard_in : Option Payment → List Reply → List Heard
+heard_in None replies = []
+heard_in (Some p) replies = heard_behind p [] replies
 
 -- an end line, with what was told since the power line before it
 pub record EndTold : Type 0 where
@@ -95,21 +113,37 @@ told_next l t other = t
 unfoldable pub lane_told : ℕ → List Line → LaneTold
 lane_told l lines = fold (told_next l) (record { heard = []; ended = [] }) lines
 
--- the ended purchases of a lane, numbered from this on
-abbrev pub pasts_told : ℕ → List Past → List EndTold
-pasts_told n [] = []
-pasts_told n (past ∷ pasts) = record { heard = map heard_of past.replies; number = n; parts = end_parts past.end } ∷ pasts_told (n + 1) pasts
+-- the ended purchases of a lane, the first of which has this number, from 0; the lines' numbers are from 1
+abbrev pub pasts_told : ScenarioData → ℕ → ℕ → List Past → List EndTold
+pasts_told s l n [] = []
+pasts_told s l n (past ∷ pasts) =
+    record { heard = heard_in (payment_in s l n) past.replies; number = n + 1; parts = end_parts past.end } ∷ pasts_told s l (n + 1) pasts
 
 -- the lines between a power line and an end line are the replies of that purchase, and so are those behind the last power
 -- line where the purchase still runs
-pub record IsLaneTold (row : LaneRow) (t : LaneTold) : Type 0 where
-  pub ended : t.ended ≡ pasts_told 1 row.ended
-  pub heard : (replies : List Reply) → row.running ≡ Some replies → t.heard ≡ map heard_of replies
+pub record IsLaneTold (s : ScenarioData) (l : ℕ) (row : LaneRow) (t : LaneTold) : Type 0 where
+  pub ended : t.ended ≡ pasts_told s l 0 row.ended
+  pub heard : (replies : List Reply) → row.running ≡ Some replies → t.heard ≡ heard_in (payment_in s l (length row.ended)) replies
 
 abbrev pub RunsTellReplies : Type 0
 RunsTellReplies =
     (s : ScenarioData) (place : Place) (n : ℕ) (choices : List Bool) (lines : List Line) (w : World) (l : ℕ)
-    → Reached s place n choices lines w → IsLaneTold (lane_at w l) (lane_told l lines)
+    → Reached s place n choices lines w → IsLaneTold s l (lane_at w l) (lane_told l lines)
+
+-- the message that a line of a lane tells
+abbrev pub message_told : ℕ → Line → List (List ℕ)
+message_told l (ToHost lane bytes) = if lane == l then bytes.items ∷ [] else []
+message_told l (SettleCall lane bytes) = if lane == l then bytes.items ∷ [] else []
+message_told l other = []
+
+unfoldable pub messages_told : ℕ → List Line → List (List ℕ)
+messages_told l lines = flat_map (message_told l) lines
+
+-- the messages that a lane made for the host are those of its lines, in the lane's dialect
+abbrev pub RunsTellMessages : Type 0
+RunsTellMessages =
+    (s : ScenarioData) (place : Place) (n : ℕ) (choices : List Bool) (lines : List Line) (w : World) (l : ℕ)
+    → Reached s place n choices lines w → messages_told l lines ≡ map (call_in (dialect_of s l)) (lane_at w l).sent
 
 -- an ended purchase has the end record of its dialogue over its replies
 pub record EndsSo (s : ScenarioData) (l number : ℕ) (past : Past) : Type 0 where

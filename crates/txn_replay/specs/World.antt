@@ -1,6 +1,6 @@
 -- The world of a run: each card with what it decided, each lane with its purchases, and the messages that came to the
 -- issuer's host (this project's own).
-use Rattle.std.specs.Prelude.{ℕ, List, [], map, slice_index_or, Option, None}
+use Rattle.std.specs.Prelude.{ℕ, List, [], ◌∷◌, ◌++◌, map, slice_index_or, Option, None}
 use Rattle.card_app.specs.Session.{Exchange}
 use Rattle.card_state.specs.Decisions.{Decided}
 use Rattle.emv_dict.specs.declared.purchase.Logged.{Logged}
@@ -42,8 +42,9 @@ pub record CardRow : Type 0 where
   -- how often its power was cut
   pub losses : ℕ
 
--- a purchase that has ended: what the terminal was told, and its end record
+-- a purchase that has ended: what its card's power-up found, what the terminal was told, and its end record
 pub record Past : Type 0 where
+  pub began : Option (List Decided)
   pub replies : List Reply
   pub end : EndData
 
@@ -51,9 +52,13 @@ pub record LaneRow : Type 0 where
   pub ended : List Past
   -- what the terminal was told in the purchase behind these, where it runs
   pub running : Option (List Reply)
+  -- and the decisions that the power-up of its card found, where that has applications
+  pub began : Option (List Decided)
   pub log : List Logged
   -- the messages for settlement
   pub captures : List (List ℕ)
+  -- those that were made for the host, one a delivery at settlement, whether they came to it or were lost
+  pub sent : List (List ℕ)
 
 pub record World : Type 0 where
   pub cards : List CardRow
@@ -65,7 +70,7 @@ abbrev pub new_card : CardRow
 new_card = record { kept = []; pending = None; session = []; made = 0; told = 0; holder = None; given = []; acts = []; losses = 0 }
 
 abbrev pub new_lane : LaneRow
-new_lane = record { ended = []; running = None; log = []; captures = [] }
+new_lane = record { ended = []; running = None; began = None; log = []; captures = []; sent = [] }
 
 abbrev pub first_world : ScenarioData → World
 first_world s = record { cards = map (λ card. new_card) s.cards; lanes = map (λ lane. new_lane) s.lanes; messages = [] }
@@ -75,3 +80,7 @@ card_at w i = slice_index_or w.cards i new_card
 
 abbrev pub lane_at : World → ℕ → LaneRow
 lane_at w l = slice_index_or w.lanes l new_lane
+
+-- a message is made for the host
+abbrev pub with_sent : List ℕ → LaneRow → LaneRow
+with_sent message lane = record lane { sent = lane.sent ++ message ∷ [] }

@@ -4,6 +4,8 @@ ghost use Rattle.std.specs.List.{All};
 ghost use Rattle.std.specs.Vec.{vec_len, vec_capacity};
 ghost use Rattle.card_state.specs.Decisions.{Decided};
 ghost use Rattle.emv_dict.specs.Settings.{IsSettings, most_amount};
+ghost use Rattle.host_link.specs.Delivery.{delivered, heard, reply_if};
+ghost use Rattle.host_link.specs.Dialect.{call_in, reply_in};
 ghost use Rattle.issuer_host.specs.Account.{AccountData};
 ghost use Rattle.issuer_host.specs.declared.keys.HostKeys.{HostKeys};
 ghost use Rattle.kernel.specs.Dialogue.{dialogue};
@@ -13,21 +15,20 @@ ghost use Rattle.kernel.specs.Reply.{Reply, CardGone, from_host};
 ghost use Rattle.kernel.specs.declared.kernel.Next.TheVariants as next;
 ghost use Rattle.txn_replay.specs.Part as step;
 ghost use Rattle.scenario_lanes.specs.Plan.{IsPlanned};
-ghost use Rattle.txn_replay.specs.Lines.{host_lines};
-ghost use Rattle.txn_replay.specs.Part.{Part, delivered, heard, piece};
+ghost use Rattle.txn_replay.specs.Part.{Part, piece};
 ghost use Rattle.txn_replay.specs.Payment.{Payment as Paid, deal_for};
-ghost use Rattle.txn_replay.specs.Standing.{PartRests, PartRuns, PartStands, Led, SameLane, LaneStands, reply_if, rank_in, MovedTo, IsCounted, LaneFits, RunStands, lane_left, is_ended, is_over as over_test, seen_payment};
+ghost use Rattle.txn_replay.specs.Standing.{PartRests, PartRuns, PartStands, Led, SameLane, LaneStands, rank_in, MovedTo, IsCounted, LaneFits, RunStands, lane_left, is_ended, is_over as over_test, seen_payment};
 ghost use Rattle.txn_replay.specs.Slot.{SlotOff, is_on as has_power};
 ghost use Rattle.txn_replay.specs.World.{LaneRow};
 
 use crate::lane::{Lane, finish, make_room};
 use crate::lines::{Lines, add_answer, add_host, add_power_torn};
-use crate::link::deliver;
 use crate::payment::Payment;
 use crate::slot::Slot;
 use apdu_core::Answer;
 use auth_message::Message;
 use emv_ports::{Gone, Pages};
+use host_link::{Wire, deliver};
 use issuer_host::Host;
 use kernel::{Kernel, Next, Tally};
 use std::alloc::AllocError;
@@ -126,11 +127,12 @@ fn ask_card<'s, P: Pages>(
     }
 }
 
-/// The bytes of the terminal's message go to the host, as `deliver` does.
+/// The terminal's message goes to the host in the lane's dialect, as `deliver` does.
 fn send(
     at: &Payment<'_>,
     running: &Option<Box<Kernel<'_>>>,
     host: &mut Host<'_>,
+    wire: &mut Wire,
     reply: &mut Message,
 ) -> Result<bool, AllocError>
     requires waits { IsSomeAnd running.now (λ kernel. next_of kernel.value ≡ next.ToHost) }
@@ -142,6 +144,11 @@ fn send(
     ensures stands { OnOk result ((p : Paid) (replies : List Reply) (messages : List (List ℕ))
         → RunStands running.now p (Some replies) → HostStands host.old messages
         → HostStands host.new (messages ++ delivered at.now.planned.now.link (told_bytes (dialogue (deal_for p) replies)))) }
+    ensures call { (p : Paid) (replies : List Reply) → RunStands running.now p (Some replies)
+        → wire.new.call.items ≡ call_in at.now.iso (told_bytes (dialogue (deal_for p) replies)) }
+    ensures shown { IfOk result (λ comes. (p : Paid) (replies : List Reply) → RunStands running.now p (Some replies)
+        → reply_if comes wire.new.reply.items
+        ≡ option_map (reply_in at.now.iso (told_bytes (dialogue (deal_for p) replies))) (reply_if comes reply.new.items)) }
     ensures keys { host.new.keys ≡ host.old.keys }
     ensures accounts { host.new.accounts ≡ host.old.accounts }
     ensures err { OnErr result (host.new ≡ host.old) }
@@ -149,7 +156,7 @@ fn send(
     let Some(kernel) = running else {
         unreachable!();
     };
-    deliver(at.planned.link, kernel.bytes(), host, reply)
+    deliver(at.iso, at.planned.link, kernel.bytes(), host, wire, reply)
 }
 
 /// The reply that comes back, or none.
@@ -161,15 +168,12 @@ fn said(comes: bool, reply: &Message) -> Option<&[u8]>
 }
 
 /// The terminal takes the host's reply where it comes back, and else its silence.
-fn hear<'s>(at: &Payment<'s>, lane: &mut Lane<'s>, reply: Option<&[u8]>, lines: &mut Lines)
+fn hear(lane: &mut Lane<'_>, reply: Option<&[u8]>)
     requires waits { IsSomeAnd lane.old.running (λ kernel. next_of kernel.value ≡ next.ToHost) }
-    requires lines { lines.old.items ≡ [] }
     requires reply { IfSome reply (λ reply. length reply.now ≤ 2048) }
     ensures told { (p : Paid) (replies : List Reply) (row : LaneRow)
         → LaneStands lane.old p (record row { running = Some replies })
-        → LaneStands lane.new p (record row { running = Some (replies ++ from_host (option_map (λ reply. reply.now) reply.entry) ∷ []) })
-        × (lines.new.items ≡ host_lines at.now.lane (told_bytes (dialogue (deal_for p) replies)) (option_map (λ reply. reply.now) reply.entry)) }
-    ensures few { length lines.new.items < 8 }
+        → LaneStands lane.new p (record row { running = Some (replies ++ from_host (option_map (λ reply. reply.now) reply.entry) ∷ []) }) }
     ensures same { IsSomeAnd lane.new.running (λ kernel. lane.new ≡ record lane.old { running = Some kernel; place = lane.new.place }) }
     ensures fresh { IsSomeAnd lane.new.running (λ kernel. kernel.value.is_spent ≡ false) }
     ensures nearer { lane_left lane.new < lane_left lane.old }
@@ -177,7 +181,6 @@ fn hear<'s>(at: &Payment<'s>, lane: &mut Lane<'s>, reply: Option<&[u8]>, lines: 
     let Some(kernel) = &mut lane.running else {
         unreachable!();
     };
-    add_host(at.lane, kernel.bytes(), reply, lines);
     kernel.take_host(reply);
 }
 
@@ -214,9 +217,16 @@ fn ask_host<'s, P: Pages>(
     ensures nearer { OnOk result (lane_left lane.new < lane_left lane.old) }
     ensures err { OnErr result ((lane.new ≡ lane.old) × (slot.new ≡ slot.old) × (host.new ≡ host.old) × (tally.new ≡ tally.old) × (lines.new.items ≡ [])) }
 {
+    let mut wire = Wire::new();
     let mut reply = Message::new();
-    let comes = send(at, &lane.running, host, &mut reply)?;
-    hear(at, lane, said(comes, &reply), lines);
+    let comes = send(at, &lane.running, host, &mut wire, &mut reply)?;
+    add_host(
+        at.lane,
+        wire.call.as_slice(),
+        said(comes, &wire.reply),
+        lines,
+    );
+    hear(lane, said(comes, &reply));
     settle(at, lane, slot, tally, lines);
     Ok(())
 }

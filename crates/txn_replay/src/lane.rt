@@ -2,6 +2,7 @@
 ghost use Rattle.std.specs.Prelude.{◌≡◌, ◌+◌, ◌≤◌, ◌<◌, ◌^◌, ◌++◌, ◌∷◌, [], ℕ, List, length, map, false, IsSomeAnd, Some, None, Option, IsSome, IfOk, OnOk, sum_by, option_map, option_to_list};
 ghost use Rattle.std.specs.List.{All};
 ghost use Rattle.std.specs.Vec.{vec_len, vec_capacity};
+ghost use Rattle.auth_message.specs.Whole.{IsMessage};
 ghost use Rattle.emv_dict.specs.Settings.{IsSettings, most_amount};
 ghost use Rattle.emv_dict.specs.Views.{PurchaseData};
 ghost use Rattle.issuer_host.specs.Account.{AccountData};
@@ -151,7 +152,8 @@ fn add_approval(log: &mut Vec<Logged>, ending: Ending, pan: Option<Digits>, amou
 /// What is captured waits for settlement.
 fn add_capture(captures: &mut Vec<Message>, capture: Option<Capture>)
     requires room { vec_len captures.old < vec_capacity captures.old }
-    ensures { map (λ message. message.items) captures.new.items ≡ map (λ message. message.items) captures.old.items ++ option_to_list capture }
+    ensures added { map (λ message. message.items) captures.new.items ≡ map (λ message. message.items) captures.old.items ++ option_to_list capture }
+    ensures read { All IsMessage (option_to_list capture) }
 {
     let Some(capture) = capture else {
         return;

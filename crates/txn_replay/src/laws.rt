@@ -3,8 +3,9 @@ ghost use Rattle.txn_replay.specs.Bounds.{WorldsAreFew, SettlementsAreFew, Check
 ghost use Rattle.txn_replay.specs.Choices.{NoneIsOpen, RunIsOne};
 ghost use Rattle.txn_replay.specs.Laws.{RunsAreFair, WholeRunsAreFair, WorldsAreSound, IdleLanesStay, LanesStayApart, LossesAreTold, StuckIsOver, CalmIsOver};
 ghost use Rattle.txn_replay.specs.PagesTell.{PagesTellTotals};
+ghost use Rattle.txn_replay.specs.Respelled.{DialectsShow, WholeDialectsShow};
 ghost use Rattle.txn_replay.specs.Telling.{GivenIsTold, GivenIsLeft, HeldIsSure, AnsweredIsSure};
-ghost use Rattle.txn_replay.specs.Told.{RunsTellLosses, RunsTellReplies, PastsEnd};
+ghost use Rattle.txn_replay.specs.Told.{RunsTellLosses, WholeRunsTellLosses, RunsTellReplies, RunsTellMessages, PastsEnd};
 
 use host_histories::transactions_are_booked_once;
 
@@ -51,16 +52,26 @@ pub fn cards_are_told()
 
 /// The lines of a lane between a power line and an end line are the replies of that purchase, and those behind
 /// the last power line are the replies of the one that runs. The end line tells the end record of the dialogue
-/// over these replies.
+/// over these replies. The messages that a lane made for the host are those of its lines. Messages and replies of
+/// the host are in the lane's dialect there.
 pub fn replies_are_told()
     ensures replies { RunsTellReplies }
+    ensures messages { RunsTellMessages }
     ensures ends { PastsEnd }
+{}
+
+/// Where lanes speak other dialects with the host, a run with the same truth values comes to the same world in as
+/// many events, and its lines differ in the spelling of messages and replies alone.
+pub fn dialects_show()
+    ensures reached { DialectsShow }
+    ensures whole { WholeDialectsShow }
 {}
 
 /// Each card has lost its power as often as the lines tell: a `torn` line is of the card in its lane's last power
 /// line.
 pub fn losses_are_told()
-    ensures { RunsTellLosses }
+    ensures reached { RunsTellLosses }
+    ensures whole { WholeRunsTellLosses }
 {}
 
 /// Where no tear of a scenario leaves a choice, no card of a world that a run comes to has a decision that may be

@@ -8,7 +8,6 @@ mod exchange;
 mod lane;
 pub mod laws;
 pub mod lines;
-mod link;
 mod payment;
 mod settlement;
 mod slot;
@@ -16,8 +15,8 @@ pub mod world;
 
 pub use event::Event;
 pub use laws::{
-    cards_are_told, lanes_are_sound, losses_are_told, pages_tell_totals, replies_are_told,
-    run_is_one, runs_are_fair, runs_end,
+    cards_are_told, dialects_show, lanes_are_sound, losses_are_told, pages_tell_totals,
+    replies_are_told, run_is_one, runs_are_fair, runs_end,
 };
 pub use lines::Lines;
 pub use world::{NoWorld, World};

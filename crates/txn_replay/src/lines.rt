@@ -144,16 +144,17 @@ pub(crate) fn add_gone(lane: u8, command: &[u8], lines: &mut Lines)
     lines.push(Line::Gone { lane });
 }
 
-/// A message to the host, and its reply or silence.
-pub(crate) fn add_host(lane: u8, message: &[u8], reply: Option<&[u8]>, lines: &mut Lines)
+/// What stood on the wire to the host, and what came back, or silence.
+pub(crate) fn add_host(lane: u8, call: &[u8], reply: Option<&[u8]>, lines: &mut Lines)
     requires room { length lines.old.items < 7 }
-    requires message { length message.now ≤ 2048 }
+    requires call { length call.now ≤ 2048 }
     requires reply { IfSome reply (λ reply. length reply.now ≤ 2048) }
-    ensures { lines.new.items ≡ lines.old.items ++ spec.host_lines lane message.now (option_map (λ reply. reply.now) reply.entry) }
+    ensures lines { lines.new.items ≡ lines.old.items ++ spec.wire_lines lane call.now (option_map (λ reply. reply.now) reply.entry) }
+    ensures count { length lines.new.items ≡ length lines.old.items + 2 }
 {
     lines.push(Line::ToHost {
         lane,
-        bytes: bytes_of(message),
+        bytes: bytes_of(call),
     });
     lines.push(match reply {
         Some(reply) => Line::FromHost {
@@ -201,16 +202,16 @@ pub(crate) fn add_power_torn(lane: u8, name: &[u8], lines: &mut Lines)
     });
 }
 
-/// A settlement message, and the host's reply to it.
-pub(crate) fn add_settlement(lane: u8, message: &[u8], reply: &[u8], lines: &mut Lines)
+/// What stood on the wire for a settlement message, and for the host's reply to it.
+pub(crate) fn add_settlement(lane: u8, call: &[u8], reply: &[u8], lines: &mut Lines)
     requires room { length lines.old.items < 7 }
-    requires message { length message.now ≤ 2048 }
+    requires call { length call.now ≤ 2048 }
     requires reply { length reply.now ≤ 2048 }
-    ensures { lines.new.items ≡ lines.old.items ++ spec.settle_lines lane message.now reply.now }
+    ensures { lines.new.items ≡ lines.old.items ++ spec.settle_wire_lines lane call.now reply.now }
 {
     lines.push(Line::SettleCall {
         lane,
-        bytes: bytes_of(message),
+        bytes: bytes_of(call),
     });
     lines.push(Line::SettleReply {
         lane,

@@ -3,17 +3,19 @@ ghost use Rattle.std.specs.Prelude.{◌≡◌, ◌≤◌, ◌<◌, length, optio
 ghost use Rattle.emv_dict.specs.Settings.{IsSettings};
 ghost use Rattle.scenario.specs.Plan.{IsScenario};
 ghost use Rattle.scenario_lanes.specs.Plan.{IsPlanned};
-ghost use Rattle.txn_replay.specs.Payment.{payment_in};
+ghost use Rattle.txn_replay.specs.Payment.{payment_in, dialect_of};
 ghost use Rattle.txn_replay.specs.Standing.{seen_payment};
 
 use emv_dict::Settings;
 use scenario::{NamedCard, Scenario};
 use scenario_lanes::Planned;
 
-/// The lane's index, its terminal's settings, what is planned, and the card.
+/// The lane's index, whether it speaks ISO 8583 with the host, its terminal's settings, what is planned, and the
+/// card.
 #[derive(Clone, Copy)]
 pub(crate) struct Payment<'s> {
     pub lane: u8,
+    pub iso: bool,
     pub settings: &'s Settings,
     pub planned: &'s Planned,
     pub card: &'s NamedCard,
@@ -33,10 +35,21 @@ pub(crate) fn payment_at(scenario: &Scenario, lane: usize, number: u32) -> Optio
     match terminal.purchases.get(number as usize) {
         Some(planned) => Some(Payment {
             lane: lane as u8,
+            iso: terminal.iso,
             settings: &terminal.settings,
             planned,
             card: &scenario.cards[planned.card],
         }),
         None => None,
+    }
+}
+
+/// Whether the lane speaks ISO 8583 with the host.
+pub(crate) fn dialect_at(scenario: &Scenario, lane: u8) -> bool
+    ensures { result ≡ dialect_of scenario.now lane }
+{
+    match scenario.lanes.get(lane as usize) {
+        Some(terminal) => terminal.iso,
+        None => false,
     }
 }

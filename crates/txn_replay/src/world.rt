@@ -19,16 +19,18 @@ use crate::bank::{give_pages, take_pages};
 use crate::exchange::{exchange, is_held};
 use crate::lane::{Lane, all_ended, are_done, data_in, new_lanes};
 use crate::lines::{Lines, add_settlement};
-use crate::payment::payment_at;
+use crate::payment::{dialect_at, payment_at};
 use crate::settlement::settlement;
 use crate::slot::Slot;
 use auth_message::Message;
 use emv_dict::{Digits, Ending};
 use emv_ports::Pages;
+use host_link::{Wire, deliver};
 use issuer_host::{Host, HostKeys};
 use kernel::Tally;
 use object_lists::CardData;
 use scenario::Scenario;
+use scenario_lanes::Link;
 use std::alloc::{AllocError, Global};
 use std::marker::Model;
 
@@ -173,9 +175,19 @@ impl<'s, P: Pages> World<'s, P> {
         else {
             return Ok(false);
         };
+        let iso = dialect_at(scenario, lane);
+        let mut wire = Wire::new();
         let mut reply = Message::new();
-        self.host.answer(message.as_slice(), &mut reply)?;
-        add_settlement(lane, message.as_slice(), reply.as_slice(), lines);
+        let sent = message.as_slice();
+        let _ = deliver(
+            iso,
+            Link::Sound,
+            sent,
+            &mut self.host,
+            &mut wire,
+            &mut reply,
+        )?;
+        add_settlement(lane, wire.call.as_slice(), wire.reply.as_slice(), lines);
         Ok(true)
     }
 

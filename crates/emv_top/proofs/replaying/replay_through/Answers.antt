@@ -1,6 +1,6 @@
 use Rattle.std.proofs.Common.{refl}
 use Rattle.std.proofs.lemmas.Result.{on_ok_weaker, on_err_weaker}
-use Rattle.emv_top.specs.Courses.{Replays}
+use Rattle.emv_top.specs.Courses.{Replays, all_lines}
 use Rattle.emv_top.proofs.Going.{begins, completes, stops_behind}
 use Rattle.txn_replay.specs.Run.{Reached, Scheduled, Finished, Run, closing, start}
 use Rattle.txn_replay.specs.World.{first_world}
@@ -28,7 +28,7 @@ returns-in-Ok-clause-err g c =
     on_err_weaker c.close.result
     (λ behind.
     stops_behind (Reached c.args.scenario.now Finished) (closing c.args.scenario.now) (WorldStands c.events.new.world) _ _ _ (c.in-Ok.ensures.ok (g.K.Sink.held c.args.sink.now) begun)
-    (Replays c.args.scenario.now) (λ n cs ls w reached stands. (Finished, reached, refl)) behind)
+    c.args.scenario.now all_lines (Replays c.args.scenario.now) (λ n cs ls w reached stands. (Finished, reached, refl)) behind)
     c.close.ensures.front
 
 pub returns-in-Err-clause-err : goal.returns-in-Err-clause-err

@@ -8,7 +8,8 @@ use Rattle.emv_top.proofs.replaying.replay_whole.Goals as goal
 
 pub returns-in-Ok-replay_through-clause-whole : goal.returns-in-Ok-replay_through-clause-whole
 returns-in-Ok-replay_through-clause-whole g c =
-    decided_whole c.args.scenario.now c.replay_through.new.world _ _ c.runs_are_fair.ensures.whole c.runs_are_decided.ensures c.requires.rules
+    decided_whole c.args.scenario.now c.replay_through.new.world _ _ c.runs_are_fair.ensures.whole c.runs_are_decided.ensures
+    c.losses_are_told.ensures.whole c.dialects_show.ensures.whole c.requires.rules
     c.in-Ok-replay_through.ensures.ok
 
 pub returns-in-Ok-replay_through-clause-spare : goal.returns-in-Ok-replay_through-clause-spare
@@ -20,13 +21,15 @@ pub returns-in-Err-Sink-clause-cut : goal.returns-in-Err-Sink-clause-cut
 returns-in-Err-Sink-clause-cut g c =
     subst (λ (st : Status). Plays Replay c.args.scenario.now (g.K.Sink.held c.args.sink.now) (g.K.Sink.held c.replay_through.new.sink)
     (map g.P.Pages.memory c.end_world.result.bank.items) c.end_world.result.tally st) (sym c.end_world.ensures.status)
-    (cut_replay c.args.scenario.now c.replay_through.new.world c.replay_through.ensures.told _ _ _ _ c.end_world.ensures.leaves c.runs_are_fair.ensures.reached c.in-Err-Sink.ensures.err)
+    (cut_replay c.args.scenario.now c.replay_through.new.world c.replay_through.ensures.told _ _ _ _ c.end_world.ensures.leaves c.runs_are_fair.ensures.reached
+    c.losses_are_told.ensures.reached c.requires.rules c.in-Err-Sink.ensures.err)
 
 pub returns-in-Err-OutOfMemory-clause-cut : goal.returns-in-Err-OutOfMemory-clause-cut
 returns-in-Err-OutOfMemory-clause-cut g c =
     subst (λ (st : Status). Plays Replay c.args.scenario.now (g.K.Sink.held c.args.sink.now) (g.K.Sink.held c.replay_through.new.sink)
     (map g.P.Pages.memory c.end_world-in-Err-OutOfMemory.result.bank.items) c.end_world-in-Err-OutOfMemory.result.tally st) (sym c.end_world-in-Err-OutOfMemory.ensures.status)
-    (inr (cut_replay c.args.scenario.now c.replay_through.new.world c.replay_through.ensures.told _ _ _ _ c.end_world-in-Err-OutOfMemory.ensures.leaves c.runs_are_fair.ensures.reached c.in-Err-OutOfMemory.ensures.err))
+    (inr (cut_replay c.args.scenario.now c.replay_through.new.world c.replay_through.ensures.told _ _ _ _ c.end_world-in-Err-OutOfMemory.ensures.leaves c.runs_are_fair.ensures.reached
+    c.losses_are_told.ensures.reached c.requires.rules c.in-Err-OutOfMemory.ensures.err))
 
 pub end_world-requires : goal.end_world-requires
 end_world-requires g c =

@@ -1,6 +1,8 @@
 use Rattle.std.proofs.Common.{◌≡◌, ℕ, ◌+◌, ◌≤◌, List, [], ◌∷◌, ◌++◌, length, Option, Some, sym, ap, ◌∙◌, subst, arith, length-append}
 use Rattle.std.specs.List.{All}
+use Rattle.std.proofs.lemmas.List.Elements.{All-append}
 use Rattle.std.specs.Prelude.{option_map, option_and_then, option_to_list}
+use Rattle.auth_message.specs.Whole.{IsMessage}
 use Rattle.emv_dict.specs.Settings.{most_amount}
 use Rattle.emv_dict.specs.declared.ending.Ending.{Ending}
 use Rattle.emv_dict.specs.declared.purchase.Logged.{Logged}
@@ -29,7 +31,7 @@ returns-clause-stands c = λ issuer accounts replies row stands.
     let one = some_shown (end_at p replies) c.end-ended.result given in
     let end : EndData = one.0 in
     let same : shown end ≡ c.end-ended.result = one.2 in
-    let past : Past = record { replies = replies; end = end } in
+    let past : Past = record { began = row.began; replies = replies; end = end } in
     let view : (shown end).ending ≡ c.end-ended.result.ending = ap (λ (x : EndShown). x.ending) same in
     let ending : c.ended.inside.ending ≡ end.ending = ap (λ (x : EndShown). x.ending) c.ended.view_is ∙ ap (λ (x : EndShown). x.ending) (sym same) in
     let pan : c.ended.inside.pan ≡ option_map (λ card. card.pan) end.card = ap (λ (x : EndShown). x.pan) c.ended.view_is ∙ ap (λ (x : EndShown). x.pan) (sym same) in
@@ -52,9 +54,11 @@ returns-clause-stands c = λ issuer accounts replies row stands.
           amounts = subst (λ (xs : List Logged). All (λ logged. logged.amount ≤ most_amount) xs) log
               (c.add_approval.ensures.amounts c.requires.amounts (subst (λ n. n ≤ most_amount) amount c.requires.amount));
           captures =
-              c.add_capture.ensures
+              c.add_capture.ensures.added
               ∙ ap (λ (xs : List (List ℕ)). xs ++ option_to_list c.ended.inside.capture) stands.keeps.captures
               ∙ ap (λ (o : Option (List ℕ)). row.captures ++ option_to_list o) capture;
+          messages = All-append IsMessage row.captures (option_to_list end.capture) stands.keeps.messages
+              (subst (λ (o : Option (List ℕ)). All IsMessage (option_to_list o)) capture c.add_capture.ensures.read);
           card = λ none. card ∙ ap (λ (o : Option Past). option_and_then past_card o) (sym (last_past-push row.ended past));
           ending =
               ap (λ (e : Ending). Some e) ending

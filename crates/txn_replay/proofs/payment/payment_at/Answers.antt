@@ -14,7 +14,7 @@ use Rattle.txn_replay.proofs.payment.payment_at.Goals as goal
 
 pub returns-in-Some-clause-payment : goal.returns-in-Some-clause-payment
 returns-in-Some-clause-payment c =
-    let terminal : LaneData = record { settings = c.terminal.inside.settings; purchases = c.terminal.inside.purchases.items } in
+    let terminal : LaneData = record { settings = c.terminal.inside.settings; purchases = c.terminal.inside.purchases.items; iso = c.terminal.inside.iso } in
     let lanes : c.scenario.inside.lanes.items ≡ c.args.scenario.now.lanes = ap (λ (s : ScenarioData). s.lanes) c.scenario.view_is in
     let cards : seen_cards c.scenario.inside.cards.items ≡ c.args.scenario.now.cards = ap (λ (s : ScenarioData). s.cards) c.scenario.view_is in
     let within : c.args.lane < length c.scenario.inside.lanes.items = subst (λ (xs : List LaneData). c.args.lane < length xs) (sym lanes) c.requires.lane in
@@ -38,7 +38,7 @@ returns-in-Some-clause-payment c =
 pub returns-in-Some-clause-name : goal.returns-in-Some-clause-name
 unfolding seen_card
 returns-in-Some-clause-name c =
-    let terminal : LaneData = record { settings = c.terminal.inside.settings; purchases = c.terminal.inside.purchases.items } in
+    let terminal : LaneData = record { settings = c.terminal.inside.settings; purchases = c.terminal.inside.purchases.items; iso = c.terminal.inside.iso } in
     let lanes : c.scenario.inside.lanes.items ≡ c.args.scenario.now.lanes = ap (λ (s : ScenarioData). s.lanes) c.scenario.view_is in
     let cards : seen_cards c.scenario.inside.cards.items ≡ c.args.scenario.now.cards = ap (λ (s : ScenarioData). s.cards) c.scenario.view_is in
     let within : c.args.lane < length c.scenario.inside.lanes.items = subst (λ (xs : List LaneData). c.args.lane < length xs) (sym lanes) c.requires.lane in
@@ -61,7 +61,7 @@ returns-in-Some-clause-name c =
 
 pub returns-in-None-clause-payment : goal.returns-in-None-clause-payment
 returns-in-None-clause-payment c =
-    let terminal : LaneData = record { settings = c.terminal.inside.settings; purchases = c.terminal.inside.purchases.items } in
+    let terminal : LaneData = record { settings = c.terminal.inside.settings; purchases = c.terminal.inside.purchases.items; iso = c.terminal.inside.iso } in
     let lanes : c.scenario.inside.lanes.items ≡ c.args.scenario.now.lanes = ap (λ (s : ScenarioData). s.lanes) c.scenario.view_is in
     let cards : seen_cards c.scenario.inside.cards.items ≡ c.args.scenario.now.cards = ap (λ (s : ScenarioData). s.cards) c.scenario.view_is in
     let within : c.args.lane < length c.scenario.inside.lanes.items = subst (λ (xs : List LaneData). c.args.lane < length xs) (sym lanes) c.requires.lane in

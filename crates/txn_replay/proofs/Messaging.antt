@@ -1,0 +1,219 @@
+-- The messages that a lane made for the host are those of its lines.
+use Rattle.std.proofs.Common.{◌≡◌, ◌≢◌, ℕ, ◌⊎◌, ◌+◌, ◌<◌, Bool, true, false, cond, List, [], ◌∷◌, ◌++◌, length, map, slice_get, Option, Some, None, refl, sym, ap, ◌∙◌, subst, inl, inr, arith, append-nil}
+use Rattle.std.specs.Prelude.{◌==◌}
+use Rattle.std.specs.List.{flat_map}
+use Rattle.std.proofs.lemmas.Bool.{eqb-true, eq-eqb, cases_eq}
+use Rattle.std.proofs.lemmas.List.{map-append, get_or-set_same, get_or-set_other}
+use Rattle.std.proofs.lemmas.List.Concat.{flat_map-append}
+use Rattle.host_link.specs.Delivery.{delivered}
+use Rattle.host_link.specs.Dialect.{call_in}
+use Rattle.kernel.specs.Ended.{EndData}
+use Rattle.kernel.specs.Reply.{Reply, from_host}
+use Rattle.report_text.specs.declared.line.Line.{Line}
+use Rattle.scenario.specs.Plan.{ScenarioData}
+use Rattle.txn_replay.specs.Changes.{freed}
+use Rattle.txn_replay.specs.Lines.{host_lines, settle_lines, end_line}
+use Rattle.txn_replay.specs.Part.{Part, Moved, lane_ended, piece}
+use Rattle.txn_replay.specs.Payment.{Payment, dialect_of, next_of}
+use Rattle.txn_replay.specs.Sound.{IsSound}
+use Rattle.txn_replay.specs.Steps.{Check, PowersUp, Asks, Settlement, settlements, settles, checks, audits, part_of, choice_in, turned_by, happens}
+use Rattle.txn_replay.specs.Told.{message_told, messages_told, RunsTellMessages}
+use Rattle.txn_replay.specs.World.{LaneRow, CardRow, World, new_lane, first_world, lane_at, with_sent}
+use Rattle.txn_replay.specs.declared.event.Event.{Event}
+use Rattle.txn_replay.specs.declared.event.Event.TheVariants.{Turn, Settle, Audit}
+use Rattle.txn_replay.proofs.Exchanging.{Tells, piece_tells}
+use Rattle.txn_replay.proofs.Folding.{event_sound}
+use Rattle.txn_replay.proofs.Lining.{reached_lines, lane_behind}
+use Rattle.txn_replay.proofs.Lists.{get_or-map_const}
+use Rattle.txn_replay.proofs.Payments.{payment_facts}
+use Rattle.txn_replay.proofs.Sending.{Later}
+use Rattle.txn_replay.proofs.Settling.{settles_inside}
+use Rattle.txn_replay.proofs.Sounding.{first_sound}
+
+pub messages-append : (l : ℕ) (xs ys : List Line) → messages_told l (xs ++ ys) ≡ messages_told l xs ++ messages_told l ys
+unfolding messages_told
+messages-append l xs ys = flat_map-append (message_told l) xs ys
+
+apart : (k l : ℕ) → k ≢ l → (l == k) ≡ false
+apart k l other = by (l == k) refl
+  where
+    by : (b : Bool) → (l == k) ≡ b → b ≡ false
+    by true is = absurd (other (sym (eqb-true l k is)))
+    by false is = refl
+
+-- the messages of a dialect
+abbrev spelled : Bool → List (List ℕ) → List (List ℕ)
+spelled iso messages = map (call_in iso) messages
+
+module _ (p : Payment) (part : Part) where
+  -- the lines tell what the lane has made since, and nothing of other lanes
+  abbrev Told : LaneRow → List Line → Type 0
+  Told lane lines =
+      (spelled p.iso lane.sent ≡ spelled p.iso part.lane.sent ++ messages_told p.lane lines)
+      × ((k : ℕ) → k ≢ p.lane → messages_told k lines ≡ [])
+
+  abbrev Came : LaneRow → List Reply → CardRow → List (List ℕ) → List Line → Type 0
+  Came lane replies card messages lines = Told lane lines
+
+  abbrev Behind : Part → List Line → Type 0
+  Behind after lines = Told after.lane lines
+
+  end_untold : (k lane number : ℕ) (end : EndData) (lines : List Line) → messages_told k (lines ++ end_line lane number end ∷ []) ≡ messages_told k lines
+  unfolding messages_told
+  end_untold k lane number end lines =
+      flat_map-append (message_told k) lines (end_line lane number end ∷ []) ∙ append-nil (flat_map (message_told k) lines)
+
+  ends_so : (lane after : LaneRow) (lines : List Line) (number : ℕ) (end : EndData) → after.sent ≡ lane.sent → Told lane lines
+      → Told after (lines ++ end_line p.lane number end ∷ [])
+  ends_so lane after lines number end same told = (
+    ap (spelled p.iso) same ∙ told.0
+        ∙ ap (λ (xs : List (List ℕ)). spelled p.iso part.lane.sent ++ xs) (sym (end_untold p.lane p.lane number end lines)),
+    λ k other. end_untold k p.lane number end lines ∙ told.1 k other,
+  )
+
+  host_told : (k : ℕ) (message : List ℕ) (reply : Option (List ℕ))
+      → messages_told k (host_lines p.iso p.lane message reply) ≡ cond (p.lane == k) (call_in p.iso message ∷ []) []
+  unfolding messages_told
+  host_told k message None = append-nil _
+  host_told k message (Some reply) = append-nil _
+
+  tells_messages : Tells p part Came Behind
+  unfolding messages_told
+  tells_messages = record {
+    still = (sym (append-nil (spelled p.iso part.lane.sent)), λ k other. refl);
+    goes = λ lane later replies card messages lines came. came;
+    ends = λ lane later replies card messages lines came end is.
+        ends_so lane (lane_ended p replies end lane) lines (length lane.ended + 1) end refl came;
+    powers = λ rests free apps choice. (sym (append-nil (spelled p.iso part.lane.sent)), λ k other. refl);
+    power_cut = λ rests free apps is. (sym (append-nil (spelled p.iso part.lane.sent)), λ k other. refl);
+    powers_canned = λ rests free answers canned. (sym (append-nil (spelled p.iso part.lane.sent)), λ k other. refl);
+    answers = λ replies runs apps command asks. (sym (append-nil (spelled p.iso part.lane.sent)), λ k other. refl);
+    cuts = λ replies runs command cut at. (sym (append-nil (spelled p.iso part.lane.sent)), λ k other. refl);
+    tells = λ replies runs answers canned command answer. (sym (append-nil (spelled p.iso part.lane.sent)), λ k other. refl);
+    gone = λ replies runs answers canned command. (sym (append-nil (spelled p.iso part.lane.sent)), λ k other. refl);
+    hosts = λ replies runs message asks reply is. (
+      map-append (call_in p.iso) part.lane.sent (message ∷ [])
+          ∙ ap (λ (xs : List (List ℕ)). spelled p.iso part.lane.sent ++ xs)
+          (sym (host_told p.lane message reply ∙ ap (λ b. cond b (call_in p.iso message ∷ []) []) (eq-eqb p.lane p.lane refl))),
+      λ k other. host_told k message reply ∙ ap (λ b. cond b (call_in p.iso message ∷ []) []) (apart k p.lane other),
+    );
+  }
+
+-- over the events of a run
+pub record AreMade (s : ScenarioData) (w : World) (lines : List Line) : Type 0 where
+  pub sound : IsSound s w
+  pub lanes : (l : ℕ) → messages_told l lines ≡ spelled (dialect_of s l) (lane_at w l).sent
+
+module _ (s : ScenarioData) (w : World) (lines : List Line) (choices : List Bool) (made : AreMade s w lines) where
+  abbrev Made : World → List Line → Type 0
+  Made after new = (k : ℕ) → messages_told k (lines ++ new) ≡ spelled (dialect_of s k) (lane_at after k).sent
+
+  -- an event that makes no message
+  unmade : (after : World) (new : List Line) → ((k : ℕ) → lane_at after k ≡ lane_at w k) → ((k : ℕ) → messages_told k new ≡ []) → Made after new
+  unmade after new same none k =
+      messages-append k lines new ∙ ap (λ (xs : List (List ℕ)). messages_told k lines ++ xs) (none k) ∙ append-nil (messages_told k lines)
+      ∙ made.lanes k ∙ ap (λ (row : LaneRow). spelled (dialect_of s k) row.sent) (sym (same k))
+
+  turn_made : (l : ℕ) (o : Option Payment) → next_of s w l ≡ o → Made (turned_by w l choices o).world (turned_by w l choices o).lines
+  unfolding messages_told
+  turn_made l None is = unmade w [] (λ k. refl) (λ k. refl)
+  turn_made l (Some p) is = λ k. by_lane k (cases_eq k l)
+    where
+      part : Part
+      part = part_of w l p.planned.card
+
+      m : Moved
+      m = piece p part (choice_in choices 0)
+
+      lane : p.lane ≡ l
+      lane = (payment_facts s l _ p is).lane
+
+      iso : p.iso ≡ dialect_of s l
+      iso = (payment_facts s l _ p is).iso
+
+      behind : Behind p part m.part m.lines
+      behind = piece_tells p part (Came p part) (Behind p part) (tells_messages p part) (choice_in choices 0)
+
+      own : messages_told l (lines ++ m.lines) ≡ spelled (dialect_of s l) m.part.lane.sent
+      own =
+          messages-append l lines m.lines
+          ∙ ap (λ (xs : List (List ℕ)). xs ++ messages_told l m.lines) (made.lanes l)
+          ∙ ap (λ b. spelled b (lane_at w l).sent ++ messages_told l m.lines) (sym iso)
+          ∙ ap (λ j. spelled p.iso (lane_at w l).sent ++ messages_told j m.lines) (sym lane)
+          ∙ sym behind.0
+          ∙ ap (λ b. spelled b m.part.lane.sent) iso
+
+      by_lane : (k : ℕ) → (k ≡ l) ⊎ (k ≢ l)
+          → messages_told k (lines ++ m.lines) ≡ spelled (dialect_of s k) (lane_at (turned_by w l choices (Some p)).world k).sent
+      by_lane k (inl this) =
+          subst (λ j. messages_told j (lines ++ m.lines) ≡ spelled (dialect_of s j) (lane_at (turned_by w l choices (Some p)).world j).sent) (sym this)
+          (own ∙ ap (λ (row : LaneRow). spelled (dialect_of s l) row.sent) (sym (lane_behind s w l p made.sound is m)))
+      by_lane k (inr other) =
+          messages-append k lines m.lines
+          ∙ ap (λ (xs : List (List ℕ)). messages_told k lines ++ xs) (behind.1 k (λ same. other (same ∙ lane)))
+          ∙ append-nil (messages_told k lines)
+          ∙ made.lanes k
+          ∙ ap (λ (row : LaneRow). spelled (dialect_of s k) row.sent) (sym (get_or-set_other w.lanes l k m.part.lane new_lane other))
+
+  settle_made : (n : ℕ) (o : Option Settlement) → slice_get (settlements s w) n ≡ o → Made (settles s w o).world (settles s w o).lines
+  unfolding messages_told
+  settle_made n None is = unmade w [] (λ k. refl) (λ k. refl)
+  settle_made n (Some at) is = λ k. by_lane k (cases_eq k at.lane)
+    where
+      row : LaneRow
+      row = with_sent at.message (lane_at w at.lane)
+
+      new : List Line
+      new = (settles s w (Some at)).lines
+
+      inside : at.lane < length w.lanes
+      inside = let below : at.lane < 0 + length w.lanes = settles_inside s.copies 0 w.lanes n at is in omega arith
+
+      told : (k : ℕ) → messages_told k new ≡ cond (at.lane == k) (call_in (dialect_of s at.lane) at.message ∷ []) []
+      told k = append-nil _
+
+      by_lane : (k : ℕ) → (k ≡ at.lane) ⊎ (k ≢ at.lane)
+          → messages_told k (lines ++ new) ≡ spelled (dialect_of s k) (lane_at (settles s w (Some at)).world k).sent
+      by_lane k (inl this) =
+          subst (λ j. messages_told j (lines ++ new) ≡ spelled (dialect_of s j) (lane_at (settles s w (Some at)).world j).sent) (sym this)
+          (messages-append at.lane lines new
+          ∙ ap (λ (xs : List (List ℕ)). xs ++ messages_told at.lane new) (made.lanes at.lane)
+          ∙ ap (λ (xs : List (List ℕ)). spelled (dialect_of s at.lane) (lane_at w at.lane).sent ++ xs)
+          (told at.lane ∙ ap (λ b. cond b (call_in (dialect_of s at.lane) at.message ∷ []) []) (eq-eqb at.lane at.lane refl))
+          ∙ sym (map-append (call_in (dialect_of s at.lane)) (lane_at w at.lane).sent (at.message ∷ []))
+          ∙ ap (λ (x : LaneRow). spelled (dialect_of s at.lane) x.sent) (sym (get_or-set_same w.lanes at.lane row new_lane inside)))
+      by_lane k (inr other) =
+          messages-append k lines new
+          ∙ ap (λ (xs : List (List ℕ)). messages_told k lines ++ xs)
+          (told k ∙ ap (λ b. cond b (call_in (dialect_of s at.lane) at.message ∷ []) []) (apart k at.lane other))
+          ∙ append-nil (messages_told k lines)
+          ∙ made.lanes k
+          ∙ ap (λ (x : LaneRow). spelled (dialect_of s k) x.sent) (sym (get_or-set_other w.lanes at.lane k row new_lane other))
+
+  audit_made : (o : Option Check) → Made (audits w choices o).world (audits w choices o).lines
+  unfolding messages_told
+  audit_made None = unmade w [] (λ k. refl) (λ k. refl)
+  audit_made (Some (PowersUp i card)) =
+      unmade (audits w choices (Some (PowersUp i card))).world (audits w choices (Some (PowersUp i card))).lines (λ k. refl) (λ k. refl)
+  audit_made (Some (Asks i card command)) =
+      unmade (audits w choices (Some (Asks i card command))).world (audits w choices (Some (Asks i card command))).lines (λ k. refl) (λ k. refl)
+
+  event_made : (e : Event) → Made (happens s w e choices).world (happens s w e choices).lines
+  event_made (Turn l) = turn_made l (next_of s w l) refl
+  event_made (Settle n) = settle_made n (slice_get (settlements s w) n) refl
+  event_made (Audit n) = audit_made (slice_get (checks s) n)
+
+next_made : (s : ScenarioData) (w : World) (lines : List Line) (e : Event) (choices : List Bool) → AreMade s w lines
+    → AreMade s (happens s w e choices).world (lines ++ (happens s w e choices).lines)
+next_made s w lines e choices made = record { sound = event_sound s w e choices made.sound; lanes = event_made s w lines choices made e }
+
+first_made : (s : ScenarioData) → AreMade s (first_world s) []
+unfolding messages_told
+first_made s = record {
+  sound = first_sound s;
+  lanes = λ l. ap (λ (row : LaneRow). spelled (dialect_of s l) row.sent) (sym (get_or-map_const s.lanes l new_lane));
+}
+
+pub messages_are_told : RunsTellMessages
+messages_are_told s place n choices lines w l reached =
+    (reached_lines s (AreMade s) (first_made s) (next_made s) place n choices lines w reached).lanes l

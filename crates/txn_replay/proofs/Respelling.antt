@@ -1,0 +1,342 @@
+-- A run with lanes in other dialects, event by event: the same world, and the lines of host and settlement spelled anew.
+use Rattle.std.proofs.Common.{◌≡◌, ℕ, zero, suc, ◌+◌, ◌<◌, Bool, true, false, ◌&&◌, List, [], ◌∷◌, ◌++◌, length, map, slice_get, Option, Some, None, option_map, refl, sym, ap, ◌∙◌, subst, arith}
+use Rattle.std.specs.List.{flat_map}
+use Rattle.std.specs.Prelude.{is_none, option_and_then, ℤ}
+use Rattle.card_app.specs.Answering.{card_answer}
+use Rattle.card_pages.specs.Cuts.{Cut, cut_of}
+use Rattle.card_pages.specs.Pages.{found_of}
+use Rattle.card_pages.specs.Replies.{CardAnswer}
+use Rattle.card_state.specs.Decisions.{Decided}
+use Rattle.emv_ports.specs.Cut.{is_named}
+use Rattle.host_link.specs.Delivery.{heard}
+use Rattle.issuer_host.specs.Account.{AccountData}
+use Rattle.issuer_host.specs.History.{host_reply, balance_after}
+use Rattle.kernel.specs.Dialogue.{dialogue}
+use Rattle.kernel.specs.Ended.{EndData}
+use Rattle.kernel.specs.Reply.{Reply, CardSaid, CardGone, from_host, Deed, ToCard, ToHost, Over}
+use Rattle.report_text.specs.declared.line.Line.{Line}
+use Rattle.report_text.specs.declared.line.Line.TheVariants.{Done}
+use Rattle.scenario.specs.Cards.{CardData}
+use Rattle.scenario.specs.Plan.{ScenarioData}
+use Rattle.scenario_lanes.specs.Plan.{LaneData}
+use Rattle.scenario_lanes.specs.declared.plan.Planned.{Planned}
+use Rattle.txn_replay.specs.Changes.{exchanged, told_once, torn, lost}
+use Rattle.txn_replay.specs.Lines.{power_line, power_canned_line, power_torn_line, answer_lines, torn_lines, gone_lines, host_lines, end_line}
+use Rattle.txn_replay.specs.Part.{Part, Moved, still, settled_by, sending, on_for, cut_ends, answered, canned_by, asked_by, asked, begun, begun_by, begun_with, piece_by, piece}
+use Rattle.txn_replay.specs.Payment.{Payment, payment_with, payment_of, payment_on, payment_in, is_iso, dialect_of, next_of, deal_for, end_at}
+use Rattle.txn_replay.specs.Respelled.{lanes_in, in_dialects, is_host, Respelled, same, call, reply, settle_call, settle_reply, AreRespelled, DialectsShow, WholeDialectsShow}
+use Rattle.txn_replay.specs.Run.{Place, Scheduled, Round, Finished, Reached, start, scheduled, rounds, round, again, settlement, settling, audit, auditing, finished, lane_over, all_below, all_over, balance_line, account_lines, ended_count, closing, Run}
+use Rattle.txn_replay.specs.Steps.{After, Settlement, Check, PowersUp, Asks, part_of, moved, choice_in, turned_by, settlements, settles, checks, audits, happens, Step}
+use Rattle.txn_replay.specs.World.{Holder, CardRow, LaneRow, World, new_lane, first_world, lane_at}
+use Rattle.txn_replay.specs.declared.event.Event.{Event}
+use Rattle.txn_replay.specs.declared.event.Event.TheVariants.{Turn, Settle, Audit}
+use Rattle.txn_replay.proofs.Payments.{payment_facts}
+
+module _ (before after : ℕ → Bool) where
+  respelled-append : (xs ys us vs : List Line) → AreRespelled before after xs ys → AreRespelled before after us vs
+      → AreRespelled before after (xs ++ us) (ys ++ vs)
+  respelled-append [] [] us vs first second = second
+  respelled-append [] (y ∷ ys) us vs first second = absurd first
+  respelled-append (x ∷ xs) [] us vs first second = absurd first
+  respelled-append (x ∷ xs) (y ∷ ys) us vs first second = (first.0, respelled-append xs ys us vs first.1 second)
+
+  -- one exchange of a purchase, in both dialects
+  record SameMoved (m n : Moved) : Type 0 where
+    pub part : m.part ≡ n.part
+    pub choices : m.choices ≡ n.choices
+    pub lines : AreRespelled before after m.lines n.lines
+
+  module _ (p : Payment) where
+    abbrev one : Payment
+    one = record p { iso = before p.lane }
+
+    abbrev two : Payment
+    two = record p { iso = after p.lane }
+
+    settled_same : (replies : List Reply) (part : Part) (xs ys : List Line) (e : Option EndData) → AreRespelled before after xs ys
+        → SameMoved (settled_by one replies part xs e) (settled_by two replies part ys e)
+    settled_same replies part xs ys None lines = record { part = refl; choices = refl; lines = lines }
+    settled_same replies part xs ys (Some end) lines = record {
+      part = refl;
+      choices = refl;
+      lines = respelled-append xs ys (end_line p.lane (length part.lane.ended + 1) end ∷ []) (end_line p.lane (length part.lane.ended + 1) end ∷ []) lines
+          (same (end_line p.lane (length part.lane.ended + 1) end) refl, tt);
+    }
+
+    cut_same : (replies : List Reply) (part cut : Part) (xs : List Line) (e : Option EndData) → AreRespelled before after xs xs
+        → SameMoved (cut_ends one replies part cut xs e) (cut_ends two replies part cut xs e)
+    cut_same replies part cut xs None lines = record { part = refl; choices = refl; lines = tt }
+    cut_same replies part cut xs (Some end) lines = record {
+      part = refl;
+      choices = refl;
+      lines = respelled-append xs xs (end_line p.lane (length cut.lane.ended + 1) end ∷ []) (end_line p.lane (length cut.lane.ended + 1) end ∷ []) lines
+          (same (end_line p.lane (length cut.lane.ended + 1) end) refl, tt);
+    }
+
+    answered_same : (replies : List Reply) (command : List ℕ) (part : Part) (said : CardAnswer) (cut : Option Cut)
+        → SameMoved (answered one replies command part said cut) (answered two replies command part said cut)
+    answered_same replies command part said None =
+        settled_same (replies ++ CardSaid said.answer part.lane.log ∷ []) (record part { card = exchanged p.card.image part.card command said })
+        (answer_lines p.lane command said.answer) (answer_lines p.lane command said.answer)
+        (end_at p (replies ++ CardSaid said.answer part.lane.log ∷ [])) (same _ refl, (same _ refl, tt))
+    answered_same replies command part said (Some cut) =
+        cut_same (replies ++ CardGone ∷ []) part (record part { card = torn part.card p.planned.tear cut }) (torn_lines p.lane command)
+        (end_at p (replies ++ CardGone ∷ [])) (same _ refl, (same _ refl, tt))
+
+    canned_same : (replies : List Reply) (command : List ℕ) (part : Part) (o : Option (List ℕ))
+        → SameMoved (canned_by one replies command part o) (canned_by two replies command part o)
+    canned_same replies command part (Some answer) =
+        settled_same (replies ++ CardSaid answer part.lane.log ∷ []) (record part { card = told_once part.card })
+        (answer_lines p.lane command answer) (answer_lines p.lane command answer) (end_at p (replies ++ CardSaid answer part.lane.log ∷ []))
+        (same _ refl, (same _ refl, tt))
+    canned_same replies command part None =
+        cut_same (replies ++ CardGone ∷ []) part (record part { card = part.card }) (gone_lines p.lane command) (end_at p (replies ++ CardGone ∷ []))
+        (same _ refl, (same _ refl, tt))
+
+    kind_same : (replies : List Reply) (command : List ℕ) (part : Part) (o : Option (List (List ℕ)))
+        → SameMoved (asked_by one replies command part o) (asked_by two replies command part o)
+    kind_same replies command part None =
+        answered_same replies command part (card_answer p.card.image part.card.kept part.card.session command)
+        (cut_of p.planned.tear part.card.made (card_answer p.card.image part.card.kept part.card.session command).new)
+    kind_same replies command part (Some answers) = canned_same replies command part (slice_get answers part.card.told)
+
+    host_same : (message : List ℕ) (o : Option (List ℕ))
+        → AreRespelled before after (host_lines (before p.lane) p.lane message o) (host_lines (after p.lane) p.lane message o)
+    host_same message None = (call p.lane message, (same _ refl, tt))
+    host_same message (Some answer) = (call p.lane message, (reply p.lane message answer, tt))
+
+    asked_same : (replies : List Reply) (part : Part) (deed : Deed) → SameMoved (asked one replies part deed) (asked two replies part deed)
+    asked_same replies part (ToCard command) = kind_same replies command part p.card.canned
+    asked_same replies part (ToHost message) =
+        settled_same (replies ++ from_host answer ∷ []) (sending p message part) (host_lines (before p.lane) p.lane message answer)
+        (host_lines (after p.lane) p.lane message answer) (end_at p (replies ++ from_host answer ∷ [])) (host_same message answer)
+      where
+        answer : Option (List ℕ)
+        answer = heard p.planned.link (host_reply p.issuer p.accounts part.messages message)
+    asked_same replies part (Over ending) = record { part = refl; choices = refl; lines = tt }
+
+    tear_same : (part : Part) (choice is_cut : Bool) → SameMoved (begun_by one part choice is_cut) (begun_by two part choice is_cut)
+    tear_same part choice true =
+        cut_same (CardGone ∷ []) part (record part { card = lost part.card }) (power_torn_line p.lane p.card ∷ []) (end_at p (CardGone ∷ []))
+        (same _ refl, tt)
+    tear_same part choice false =
+        let found : List Decided = found_of part.card.kept part.card.pending choice in
+        let on : SameMoved (settled_by one [] (on_for p (Some found) found part) (power_line p.lane p.card found ∷ []) (end_at p []))
+        (settled_by two [] (on_for p (Some found) found part) (power_line p.lane p.card found ∷ []) (end_at p [])) =
+        settled_same [] (on_for p (Some found) found part) (power_line p.lane p.card found ∷ []) (power_line p.lane p.card found ∷ []) (end_at p [])
+        (same _ refl, tt) in
+        record { part = on.part; choices = refl; lines = on.lines }
+
+    begun_same : (part : Part) (choice : Bool) (o : Option (List (List ℕ))) → SameMoved (begun_with one part choice o) (begun_with two part choice o)
+    begun_same part choice None = tear_same part choice (is_named p.planned.tear 0)
+    begun_same part choice (Some answers) =
+        settled_same [] (on_for p None (found_of part.card.kept part.card.pending false) part) (power_canned_line p.lane p.card ∷ [])
+        (power_canned_line p.lane p.card ∷ []) (end_at p []) (same _ refl, tt)
+
+    holder_same : (part : Part) (choice : Bool) (o : Option Holder) → SameMoved (begun one part choice o) (begun two part choice o)
+    holder_same part choice None = begun_same part choice p.card.canned
+    holder_same part choice (Some holder) = record { part = refl; choices = refl; lines = tt }
+
+    lane_same : (part : Part) (choice : Bool) (o : Option (List Reply)) → SameMoved (piece_by one part choice o) (piece_by two part choice o)
+    lane_same part choice None = holder_same part choice part.card.holder
+    lane_same part choice (Some replies) = asked_same replies part (dialogue (deal_for p) replies).deed
+
+    piece_same : (part : Part) (choice : Bool) → SameMoved (piece one part choice) (piece two part choice)
+    piece_same part choice = lane_same part choice part.lane.running
+
+module _ (s : ScenarioData) (iso : ℕ → Bool) where
+  abbrev other : ScenarioData
+  other = in_dialects iso s
+
+  abbrev before : ℕ → Bool
+  before = dialect_of s
+
+  abbrev after : ℕ → Bool
+  after = dialect_of other
+
+  -- the lanes
+  lane_there : (n : ℕ) (lanes : List LaneData) (l : ℕ)
+      → slice_get (lanes_in iso n lanes) l ≡ option_map (λ (lane : LaneData). record lane { iso = iso (n + l) }) (slice_get lanes l)
+  lane_there n [] l = refl
+  lane_there n (lane ∷ lanes) zero =
+      let here : n ≡ n + 0 = omega arith in ap (λ k. Some (record lane { iso = iso k })) here
+  lane_there n (lane ∷ lanes) (suc l) =
+      let place : n + 1 + l ≡ n + suc l = omega arith in
+      lane_there (n + 1) lanes l ∙ ap (λ k. option_map (λ (x : LaneData). record x { iso = iso k }) (slice_get lanes l)) place
+
+  lane_count : (n : ℕ) (lanes : List LaneData) → length (lanes_in iso n lanes) ≡ length lanes
+  lane_count n [] = refl
+  lane_count n (lane ∷ lanes) = ap (λ k. suc k) (lane_count (n + 1) lanes)
+
+  new_lanes : (n : ℕ) (lanes : List LaneData) → map (λ lane. new_lane) (lanes_in iso n lanes) ≡ map (λ lane. new_lane) lanes
+  new_lanes n [] = refl
+  new_lanes n (lane ∷ lanes) = ap (λ (rows : List LaneRow). new_lane ∷ rows) (new_lanes (n + 1) lanes)
+
+  abbrev with_iso : Bool → Payment → Payment
+  with_iso b p = record p { iso = b }
+
+  -- a purchase, in its lane's other dialect
+  payment_same : (l n : ℕ) → payment_in other l n ≡ option_map (with_iso (after l)) (payment_in s l n)
+  unfolding payment_in
+  payment_same l n = by (slice_get s.lanes l) (slice_get other.lanes l) (lane_there 0 s.lanes l)
+    where
+      by_card : (lane : LaneData) (planned : Planned) (b : Bool) (o : Option CardData)
+          → option_map (payment_with other l (record lane { iso = b }) planned) o ≡ option_map (with_iso b) (option_map (payment_with s l lane planned) o)
+      by_card lane planned b None = refl
+      by_card lane planned b (Some card) = refl
+
+      by_planned : (lane : LaneData) (b : Bool) (o : Option Planned)
+          → option_and_then (payment_of other l (record lane { iso = b })) o ≡ option_map (with_iso b) (option_and_then (payment_of s l lane) o)
+      by_planned lane b None = refl
+      by_planned lane b (Some planned) = by_card lane planned b (slice_get s.cards planned.card)
+
+      by : (o q : Option LaneData) → q ≡ option_map (λ (lane : LaneData). record lane { iso = iso (0 + l) }) o
+          → option_and_then (payment_on other l n) q ≡ option_map (with_iso (is_iso q)) (option_and_then (payment_on s l n) o)
+      by None q is = ap (λ (x : Option LaneData). option_and_then (payment_on other l n) x) is
+      by (Some lane) q is =
+          subst (λ (x : Option LaneData). option_and_then (payment_on other l n) x ≡ option_map (with_iso (is_iso x)) (payment_on s l n lane)) (sym is)
+          (by_planned lane (iso (0 + l)) (slice_get lane.purchases n))
+
+  next_same : (w : World) (l : ℕ) → next_of other w l ≡ option_map (with_iso (after l)) (next_of s w l)
+  next_same w l = payment_same l (length (lane_at w l).ended)
+
+  over_same : (w : World) (l : ℕ) → lane_over other w l ≡ lane_over s w l
+  over_same w l = ap (λ b. is_none (lane_at w l).running && b) (ap is_none (next_same w l) ∙ by (next_of s w l))
+    where
+      by : (o : Option Payment) → is_none (option_map (with_iso (after l)) o) ≡ is_none o
+      by None = refl
+      by (Some p) = refl
+
+  below_same : (w : World) (n : ℕ) → all_below other w n ≡ all_below s w n
+  below_same w zero = refl
+  below_same w (suc n) = ap (λ b. b && all_below other w n) (over_same w n) ∙ ap (λ b. lane_over s w n && b) (below_same w n)
+
+  all_same : (w : World) → all_over other w ≡ all_over s w
+  all_same w = ap (λ n. all_below other w n) (lane_count 0 s.lanes) ∙ below_same w (length s.lanes)
+
+  -- an event in both
+  record SameAfter (a b : After) : Type 0 where
+    pub world : a.world ≡ b.world
+    pub choices : a.choices ≡ b.choices
+    pub lines : AreRespelled before after a.lines b.lines
+
+  turn_same : (w : World) (l : ℕ) (choices : List Bool) → SameAfter (happens s w (Turn l) choices) (happens other w (Turn l) choices)
+  turn_same w l choices =
+      subst (λ (o : Option Payment). SameAfter (happens s w (Turn l) choices) (turned_by w l choices o)) (sym (next_same w l)) (by (next_of s w l) refl)
+    where
+      by : (o : Option Payment) → next_of s w l ≡ o → SameAfter (turned_by w l choices o) (turned_by w l choices (option_map (with_iso (after l)) o))
+      by None is = record { world = refl; choices = refl; lines = tt }
+      by (Some p) is =
+          let part : Part = part_of w l p.planned.card in
+          let m : Moved = piece p part (choice_in choices 0) in
+          let n : Moved = piece (with_iso (after l) p) part (choice_in choices 0) in
+          let lane : p.lane ≡ l = (payment_facts s l _ p is).lane in
+          let own : before p.lane ≡ p.iso = ap before lane ∙ sym (payment_facts s l _ p is).iso in
+          let both : SameMoved before after m n =
+          subst (λ b. SameMoved before after m (piece (with_iso b p) part (choice_in choices 0))) (ap after lane)
+          (subst (λ b. SameMoved before after (piece (with_iso b p) part (choice_in choices 0)) (piece (with_iso (after p.lane) p) part (choice_in choices 0))) own
+          (piece_same before after p part (choice_in choices 0))) in
+          record {
+            world = ap (λ (x : Part). (moved w l p.planned.card (record { part = x; lines = []; choices = 0 })).world) both.part;
+            choices = both.choices;
+            lines = both.lines;
+          }
+
+  settle_same : (w : World) (o : Option Settlement) → SameAfter (settles s w o) (settles other w o)
+  settle_same w None = record { world = refl; choices = refl; lines = tt }
+  settle_same w (Some at) = record {
+    world = refl;
+    choices = refl;
+    lines = (settle_call at.lane at.message, (settle_reply at.lane at.message (host_reply s.issuer s.accounts w.messages at.message), tt));
+  }
+
+  audit_same : (w : World) (choices : List Bool) (o : Option Check) → SameAfter (audits w choices o) (audits w choices o)
+  audit_same w choices None = record { world = refl; choices = refl; lines = tt }
+  audit_same w choices (Some (PowersUp i card)) = record { world = refl; choices = refl; lines = (same _ refl, tt) }
+  audit_same w choices (Some (Asks i card command)) = record { world = refl; choices = refl; lines = (same _ refl, (same _ refl, tt)) }
+
+  event_same : (w : World) (e : Event) (choices : List Bool) → SameAfter (happens s w e choices) (happens other w e choices)
+  event_same w (Turn l) choices = turn_same w l choices
+  event_same w (Settle k) choices = settle_same w (slice_get (settlements s w) k)
+  event_same w (Audit k) choices = audit_same w choices (slice_get (checks s) k)
+
+  -- and so each run
+  record Other (place : Place) (n : ℕ) (choices : List Bool) (lines : List Line) (w : World) : Type 0 where
+    pub others : List Line
+    pub reached : Reached other place n choices others w
+    pub respelled : AreRespelled before after lines others
+
+  goes : (here there : Place) (n : ℕ) (cs c : List Bool) (ls new : List Line) (w w' : World) (e : Event) → Other here n cs ls w → Step s w e c new w'
+      → ((others made : List Line) → Reached other here n cs others w → Step other w e c made w' → Reached other there (n + 1) (cs ++ c) (others ++ made) w')
+      → Other there (n + 1) (cs ++ c) (ls ++ new) w'
+  goes here there n cs c ls new w w' e far step grows =
+      let both : SameAfter (happens s w e c) (happens other w e c) = event_same w e c in
+      let made : List Line = (happens other w e c).lines in
+      record {
+        others = far.others ++ made;
+        reached = grows far.others made far.reached (record { taken = step.taken ∙ both.choices; made = refl; leads = step.leads ∙ both.world });
+        respelled = respelled-append before after ls far.others new made far.respelled
+            (subst (λ (xs : List Line). AreRespelled before after xs made) (sym step.made) both.lines);
+      }
+
+  stands_at : (here there : Place) (n : ℕ) (cs : List Bool) (ls : List Line) (w : World) → Other here n cs ls w
+      → ((others : List Line) → Reached other here n cs others w → Reached other there n cs others w) → Other there n cs ls w
+  stands_at here there n cs ls w far moves = record { others = far.others; reached = moves far.others far.reached; respelled = far.respelled }
+
+  other_run : (place : Place) (n : ℕ) (choices : List Bool) (lines : List Line) (w : World) → Reached s place n choices lines w → Other place n choices lines w
+  other_run _ _ _ _ _ start = record {
+    others = [];
+    reached =
+        subst (λ (rows : List LaneRow). Reached other (Scheduled 0) 0 [] [] (record { cards = (first_world s).cards; lanes = rows; messages = [] }))
+        (new_lanes 0 s.lanes) start;
+    respelled = tt;
+  }
+  other_run _ _ _ _ _ (scheduled {k} {l} {n} {cs} {c} {ls} {new} {w = v} {w' = v'} before_it at step) =
+      goes _ _ n cs c ls new v v' (Turn l) (other_run _ n cs ls v before_it) step (λ others made far next. scheduled far at next)
+  other_run _ _ _ _ _ (rounds {n} {cs} {ls} {w = v} before_it) = stands_at _ _ n cs ls v (other_run _ n cs ls v before_it) (λ others far. rounds far)
+  other_run _ _ _ _ _ (round {l} {n} {cs} {c} {ls} {new} {w = v} {w' = v'} before_it inside busy step) =
+      goes _ _ n cs c ls new v v' (Turn l) (other_run _ n cs ls v before_it) step
+      (λ others made far next. round far (subst (λ m. l < m) (sym (lane_count 0 s.lanes)) inside) (λ first. all_same v ∙ busy first) next)
+  other_run _ _ _ _ _ (again {n} {cs} {ls} {w = v} before_it) =
+      stands_at _ _ n cs ls v (other_run _ n cs ls v before_it)
+      (λ others far. again (subst (λ m. Reached other (Round m) n cs others v) (sym (lane_count 0 s.lanes)) far))
+  other_run _ _ _ _ _ (settlement {n} {cs} {ls} {w = v} before_it over) =
+      stands_at _ _ n cs ls v (other_run _ n cs ls v before_it) (λ others far. settlement far (all_same v ∙ over))
+  other_run _ _ _ _ _ (settling {k} {n} {cs} {c} {ls} {new} {w = v} {w' = v'} before_it at step) =
+      goes _ _ n cs c ls new v v' (Settle k) (other_run _ n cs ls v before_it) step (λ others made far next. settling far at next)
+  other_run _ _ _ _ _ (audit {k} {n} {cs} {ls} {w = v} before_it past) = stands_at _ _ n cs ls v (other_run _ n cs ls v before_it) (λ others far. audit far past)
+  other_run _ _ _ _ _ (auditing {k} {n} {cs} {c} {ls} {new} {w = v} {w' = v'} before_it at step) =
+      goes _ _ n cs c ls new v v' (Audit k) (other_run _ n cs ls v before_it) step (λ others made far next. auditing far at next)
+  other_run _ _ _ _ _ (finished {k} {n} {cs} {ls} {w = v} before_it past) =
+      stands_at _ _ n cs ls v (other_run _ n cs ls v before_it) (λ others far. finished far past)
+
+  -- the lines at the end are no messages
+  balance_same : (pan : List ℕ) (o : Option ℤ) → AreRespelled before after (balance_line pan o) (balance_line pan o)
+  balance_same pan None = tt
+  balance_same pan (Some amount) = (same _ refl, tt)
+
+  accounts_same : (w : World) (accounts : List AccountData)
+      → AreRespelled before after (flat_map (account_lines s w) accounts) (flat_map (account_lines s w) accounts)
+  accounts_same w [] = tt
+  accounts_same w (account ∷ accounts) =
+      respelled-append before after (account_lines s w account) (account_lines s w account) (flat_map (account_lines s w) accounts)
+      (flat_map (account_lines s w) accounts) (balance_same account.pan (balance_after s.issuer s.accounts w.messages account.pan)) (accounts_same w accounts)
+
+  closing_same : (w : World) → AreRespelled before after (closing s w) (closing s w)
+  closing_same w =
+      respelled-append before after (flat_map (account_lines s w) s.accounts) (flat_map (account_lines s w) s.accounts) (Done (ended_count w) ∷ [])
+      (Done (ended_count w) ∷ []) (accounts_same w s.accounts) (same _ refl, tt)
+
+pub dialects_show : DialectsShow
+dialects_show s iso place n choices lines w reached =
+    let one : Other s iso place n choices lines w = other_run s iso place n choices lines w reached in (one.others, one.reached, one.respelled)
+
+pub whole_dialects_show : WholeDialectsShow
+whole_dialects_show s iso lines w run =
+    let one : Other s iso Finished run.count run.choices run.reported w = other_run s iso Finished run.count run.choices run.reported w run.reached in (
+      one.others ++ closing s w,
+      record { count = run.count; choices = run.choices; reported = one.others; reached = one.reached; whole = refl },
+      subst (λ (xs : List Line). AreRespelled (dialect_of s) (dialect_of (in_dialects iso s)) xs (one.others ++ closing s w)) (sym run.whole)
+          (respelled-append (dialect_of s) (dialect_of (in_dialects iso s)) run.reported one.others (closing s w) (closing s w) one.respelled
+          (closing_same s iso w)),
+    )

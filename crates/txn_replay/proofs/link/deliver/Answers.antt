@@ -1,6 +1,0 @@
-use Rattle.txn_replay.proofs.Again.{not_new}
-use Rattle.txn_replay.proofs.link.deliver.Goals as goal
-
-pub repeat-requires-clause-kept : goal.repeat-requires-clause-kept
-repeat-requires-clause-kept c =
-    not_new c.answer-in-Twice.new.self c.requires.stands.0 c.args.message.now (c.in_ok-answer-in-Twice.ensures.stands c.requires.stands.0 c.requires.stands.1)

@@ -1,0 +1,63 @@
+-- A run in which lanes speak other dialects with the host: its lines are the other dialects' spellings of the same messages
+-- and replies (this project's own).
+use Rattle.std.specs.Prelude.{◌≡◌, ⊤, ℕ, ◌+◌, Bool, true, false, List, [], ◌∷◌}
+use Rattle.host_link.specs.Dialect.{call_in, reply_in}
+use Rattle.report_text.specs.declared.line.Line.{Line}
+use Rattle.report_text.specs.declared.line.Line.TheVariants.{ToHost, FromHost, SettleCall, SettleReply}
+use Rattle.scenario.specs.Plan.{ScenarioData}
+use Rattle.scenario_lanes.specs.Plan.{LaneData}
+use Rattle.txn_replay.specs.Payment.{dialect_of}
+use Rattle.txn_replay.specs.Run.{Place, Reached, Run}
+use Rattle.txn_replay.specs.World.{World}
+
+-- the scenario with these dialects for its lanes, the first of which has this number
+abbrev pub lanes_in : (ℕ → Bool) → ℕ → List LaneData → List LaneData
+lanes_in iso l [] = []
+lanes_in iso l (lane ∷ lanes) = record lane { iso = iso l } ∷ lanes_in iso (l + 1) lanes
+
+abbrev pub in_dialects : (ℕ → Bool) → ScenarioData → ScenarioData
+in_dialects iso s = record s { lanes = lanes_in iso 0 s.lanes }
+
+-- a line with the bytes of a message or of a reply
+abbrev pub is_host : Line → Bool
+is_host (ToHost lane bytes) = true
+is_host (FromHost lane bytes) = true
+is_host (SettleCall lane bytes) = true
+is_host (SettleReply lane bytes) = true
+is_host other = false
+
+-- a line with such bytes spells the same message, or the same reply to it, in the lane's other dialect; each other line stays
+pub data Respelled (before after : ℕ → Bool) : Line → Line → Type 0 where
+  same : (line : Line) → is_host line ≡ false → Respelled before after line line
+  call : (lane : ℕ) (message : List ℕ)
+      → Respelled before after (ToHost lane (record { items = call_in (before lane) message })) (ToHost lane (record { items = call_in (after lane) message }))
+  reply : (lane : ℕ) (message answer : List ℕ)
+      → Respelled before after (FromHost lane (record { items = reply_in (before lane) message answer }))
+      (FromHost lane (record { items = reply_in (after lane) message answer }))
+  settle_call : (lane : ℕ) (message : List ℕ)
+      → Respelled before after (SettleCall lane (record { items = call_in (before lane) message }))
+      (SettleCall lane (record { items = call_in (after lane) message }))
+  settle_reply : (lane : ℕ) (message answer : List ℕ)
+      → Respelled before after (SettleReply lane (record { items = reply_in (before lane) message answer }))
+      (SettleReply lane (record { items = reply_in (after lane) message answer }))
+
+-- line by line
+abbrev pub AreRespelled : (ℕ → Bool) → (ℕ → Bool) → List Line → List Line → Type 0
+AreRespelled before after [] [] = ⊤
+AreRespelled before after (x ∷ xs) (y ∷ ys) = Respelled before after x y × AreRespelled before after xs ys
+AreRespelled before after [] (y ∷ ys) = ⊥
+AreRespelled before after (x ∷ xs) [] = ⊥
+
+-- with the same truth values the same world is reached in as many events, and with it each ending and each balance
+abbrev pub DialectsShow : Type 0
+DialectsShow =
+    (s : ScenarioData) (iso : ℕ → Bool) (place : Place) (n : ℕ) (choices : List Bool) (lines : List Line) (w : World)
+    → Reached s place n choices lines w
+    → (others : List Line) × Reached (in_dialects iso s) place n choices others w
+    × AreRespelled (dialect_of s) (dialect_of (in_dialects iso s)) lines others
+
+-- so it is of whole runs
+abbrev pub WholeDialectsShow : Type 0
+WholeDialectsShow =
+    (s : ScenarioData) (iso : ℕ → Bool) (lines : List Line) (w : World) → Run s lines w
+    → (others : List Line) × Run (in_dialects iso s) others w × AreRespelled (dialect_of s) (dialect_of (in_dialects iso s)) lines others
