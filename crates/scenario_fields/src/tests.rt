@@ -4,7 +4,7 @@ use std::alloc::Global;
 use std::test::Fail;
 use toml::Table;
 
-const PLACES: [(Place, &str); 13] = [
+const PLACES: [(Place, &str); 11] = [
     (Place::Top, "copies"),
     (Place::Issuer, "issuer.copies"),
     (Place::Account(1), "account[1].copies"),
@@ -22,8 +22,6 @@ const PLACES: [(Place, &str); 13] = [
         Place::Tear(LaneAt::Numbered(2), 3),
         "lane[2].purchase[3].tear.copies",
     ),
-    (Place::Lane(LaneAt::Only), "lane.copies"),
-    (Place::Aid(LaneAt::Only, 15), "lane.aid[15].copies"),
 ];
 
 #[test]
@@ -34,6 +32,15 @@ fn a_path_names_each_table_with_its_index(rt: HostRuntime) -> Result<(), Fail> {
     }
     let item = item_text(rt.alloc(), "commands", 2)?;
     assert!(rt; item.as_str() == "commands[2]");
+    Ok(())
+}
+
+#[test]
+fn a_lane_alone_has_no_index(rt: HostRuntime) -> Result<(), Fail> {
+    let lane = path_text(rt.alloc(), Place::Lane(LaneAt::Only), "copies")?;
+    assert!(rt; lane.as_str() == "lane.copies");
+    let row = path_text(rt.alloc(), Place::Aid(LaneAt::Only, 15), "name")?;
+    assert!(rt; row.as_str() == "lane.aid[15].name");
     Ok(())
 }
 
