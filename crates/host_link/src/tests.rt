@@ -34,7 +34,9 @@ fn a_message_and_its_reply_go_in_the_dialect_of_the_lane(rt: HostRuntime) -> Res
 fn send(rt: &impl Abort, alloc: Global, iso: bool, call: &[u8], reply: &[u8]) -> Result<(), Fail> {
     let mut message = Message::new();
     write_reversal(&reversal(rt), &mut message);
-    let mut host = Host::new(alloc, keys(), &[]).ok().ok_or("a host")?;
+    let Ok(mut host) = Host::new(alloc, keys(), &[]) else {
+        panic!(rt; "a host");
+    };
     let mut wire = Wire::new();
     let mut taken = Message::new();
     let comes = deliver(

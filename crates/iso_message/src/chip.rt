@@ -5,6 +5,9 @@ ghost use Rattle.iso_message.specs.Items.{chip_at, request_in as request_items, 
 use crate::front::{Acceptor, PresentFront, RequestFront, ReversalFront};
 use auth_message::{Fields, MessageFault, PresentFields, Reply, RequestFields, ReversalFields};
 
+/// What reading items gives, or why they are none of a message.
+type Found<T> = Result<T, MessageFault>;
+
 /// What the items of a request and of a presentment share, but 9F10: the other amount, where and when it is
 /// paid, and the card's cryptogram.
 #[derive(Drop)]
@@ -21,7 +24,7 @@ pub struct ChipData {
 
 /// Reads these items.
 #[tactic(auto, unfolding(crate::specs::Items::chip_at))]
-fn read_chip(fields: &mut Fields) -> Result<ChipData, MessageFault>
+fn read_chip(fields: &mut Fields) -> Found<ChipData>
     ensures { MatchResult result (λ chip. chip_at fields.old.left ≡ Ok (chip, fields.new.left)) (λ fault. chip_at fields.old.left ≡ Err fault) }
 {
     let t9f03 = fields.fixed(0x9F03, true)?;
@@ -46,21 +49,13 @@ fn read_chip(fields: &mut Fields) -> Result<ChipData, MessageFault>
 
 /// The request whose other fields are these.
 #[tactic(auto, unfolding(crate::specs::Items::request_in))]
-pub fn request_in<'a>(
-    front: RequestFront,
-    fields: &mut Fields<'a>,
-) -> Result<RequestFields<'a>, MessageFault>
+pub fn request_in<'a>(front: RequestFront, fields: &mut Fields<'a>) -> Found<RequestFields<'a>>
     ensures { MatchResult result (λ found. request_items front fields.old.left ≡ Ok found) (λ fault. request_items front fields.old.left ≡ Err fault) }
 {
-    let RequestFront {
-        pan,
-        t9c,
-        numbers,
-        acceptor,
-        tdf11,
-    } = front;
-    let Acceptor { t9f1c, t5f2a } = acceptor;
-    let t9f02 = numbers.t9f02;
+    let Acceptor { t9f1c, t5f2a } = front.acceptor;
+    let t9f02 = front.numbers.t9f02;
+    let t9c = front.t9c;
+    let tdf11 = front.tdf11;
     let t5f34 = fields.fixed_if_there(0x5F34, true)?;
     let t5f24 = fields.fixed(0x5F24, true)?;
     let ChipData {
@@ -77,7 +72,7 @@ pub fn request_in<'a>(
     fields.end()?;
     Ok(RequestFields {
         t9f1c,
-        pan,
+        pan: front.pan.copy(),
         t5f34,
         t5f24,
         t9f02,
@@ -98,21 +93,13 @@ pub fn request_in<'a>(
 
 /// The presentment whose other fields are these.
 #[tactic(auto, unfolding(crate::specs::Items::present_in))]
-pub fn present_in<'a>(
-    front: PresentFront,
-    fields: &mut Fields<'a>,
-) -> Result<PresentFields<'a>, MessageFault>
+pub fn present_in<'a>(front: PresentFront, fields: &mut Fields<'a>) -> Found<PresentFields<'a>>
     ensures { MatchResult result (λ found. present_items front fields.old.left ≡ Ok found) (λ fault. present_items front fields.old.left ≡ Err fault) }
 {
-    let PresentFront {
-        pan,
-        t9c,
-        numbers,
-        t8a,
-        acceptor,
-    } = front;
-    let Acceptor { t9f1c, t5f2a } = acceptor;
-    let t9f02 = numbers.t9f02;
+    let Acceptor { t9f1c, t5f2a } = front.acceptor;
+    let t9f02 = front.numbers.t9f02;
+    let t9c = front.t9c;
+    let t8a = front.t8a;
     let t5f34 = fields.fixed_if_there(0x5F34, true)?;
     let ChipData {
         t9f03,
@@ -128,7 +115,7 @@ pub fn present_in<'a>(
     fields.end()?;
     Ok(PresentFields {
         t9f1c,
-        pan,
+        pan: front.pan.copy(),
         t5f34,
         t9f02,
         t9f03,
@@ -148,10 +135,7 @@ pub fn present_in<'a>(
 
 /// The reversal whose other fields are these.
 #[tactic(auto, unfolding(crate::specs::Items::reversal_in))]
-pub fn reversal_in(
-    front: &ReversalFront,
-    fields: &mut Fields,
-) -> Result<ReversalFields, MessageFault>
+pub fn reversal_in(front: &ReversalFront, fields: &mut Fields) -> Found<ReversalFields>
     ensures { MatchResult result (λ found. reversal_items front.now fields.old.left ≡ Ok found) (λ fault. reversal_items front.now fields.old.left ≡ Err fault) }
 {
     let t5f34 = fields.fixed_if_there(0x5F34, true)?;
@@ -170,7 +154,7 @@ pub fn reversal_in(
 
 /// The reply whose code is this one.
 #[tactic(auto, unfolding(crate::specs::Items::reply_in))]
-pub fn reply_in<'a>(code: [u8; 2], fields: &mut Fields<'a>) -> Result<Reply<'a>, MessageFault>
+pub fn reply_in<'a>(code: [u8; 2], fields: &mut Fields<'a>) -> Found<Reply<'a>>
     ensures { MatchResult result (λ found. reply_items code fields.old.bytes fields.old.left ≡ Ok found) (λ fault. reply_items code fields.old.bytes fields.old.left ≡ Err fault) }
 {
     let auth = fields.auth()?;

@@ -18,7 +18,7 @@ pub struct Numbers {
 }
 
 /// The terminal of field 41 and the currency of field 49.
-#[derive(Drop)]
+#[derive(Clone, Copy)]
 pub struct Acceptor {
     pub t9f1c: [u8; 8],
     pub t5f2a: [u8; 2],
