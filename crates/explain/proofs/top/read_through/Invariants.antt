@@ -1,0 +1,17 @@
+use Rattle.std.proofs.Common.{◌≡◌, ℕ, List, []}
+use Rattle.std.specs.declared.option.Option.{Option}
+use Rattle.explain.specs.Course.{SoFar}
+use Rattle.explain.proofs.Reading.{IsReading}
+use Rattle.explain.proofs.top.read_through.Given as goal
+
+abbrev pub invariant-loop-left : goal.invariant-loop-left
+invariant-loop-left g l = record {
+  reading : (first : Option (List ℕ)) → SoFar l.fn.teller.all l.fn.teller.line.items l.fn.teller.long [] first (g.K.Sink.held l.fn.sink)
+      → IsReading l.teller.all l.teller.line.items l.teller.long (g.S.Source.left l.fn.source) (g.S.Source.left l.source) first (g.K.Sink.held l.sink) l.left;
+  all : l.teller.all ≡ l.fn.teller.all;
+  source : g.S.Source.faults l.source ≡ g.S.Source.faults l.fn.source;
+  sink : g.K.Sink.faults l.sink ≡ g.K.Sink.faults l.fn.sink;
+}
+
+abbrev pub decreases-loop-left : goal.decreases-loop-left
+decreases-loop-left g l = l.left

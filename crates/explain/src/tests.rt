@@ -1,0 +1,183 @@
+use crate::top::run;
+use emv_ports::{MemorySink, MemorySource};
+use std::alloc::Global;
+use std::test::Fail;
+
+/// Two lanes with a purchase each, and what stands behind them.
+const REPORT: &str = "\
+L0 power c1 10,9,0,0,3,0
+L1 power c2 1,0,0,0,3,0
+L0 > 80ca9f1700
+L0 < 9f1701039000
+L0 end 1 cut read tvr=0000000000 tsi=0000 cvm=000000 arc=-- atc=---- ac=---------------- scripts=-
+L0 power c1 torn
+S1 > e4098a025a339f3602000b
+done 2
+no newline";
+
+/// The exit status, and what the sink holds. The calls of source and sink with these numbers fail.
+fn run_of(
+    alloc: Global,
+    words: &[&str],
+    text: &str,
+    fails: (&[u32], &[u32]),
+) -> Result<(u8, Vec<u8>), Fail> {
+    let mut list = Vec::new(alloc);
+    for word in words {
+        list.push(String::from_str(alloc, word)?)?;
+    }
+    let bytes = text.as_bytes().to_vec(alloc)?;
+    let mut source = MemorySource::slow(bytes, fails.0.to_vec(alloc)?, 5);
+    let mut sink = MemorySink::new(alloc, 10_000, fails.1.to_vec(alloc)?)?;
+    let status = run(alloc, &list, &mut source, &mut sink);
+    Ok((status, sink.bytes().to_vec(alloc)?))
+}
+
+#[test]
+fn filters_leave_lines_and_brief_leaves_out_words(rt: HostRuntime) -> Result<(), Fail> {
+    let rows: [(&[&str], &str); 5] = [
+        (
+            &["--brief"],
+            "\
+L0 power c1 10,9,0,0,3,0
+  transaction counter 10, last online 9, offline approvals 0, sum 0, PIN tries 3
+L1 power c2 1,0,0,0,3,0
+  transaction counter 1, last online 0, offline approvals 0, sum 0, PIN tries 3
+L0 > 80ca9f1700
+  GET DATA 9F17 Personal Identification Number (PIN) Try Counter
+L0 < 9f1701039000
+L0 end 1 cut read tvr=0000000000 tsi=0000 cvm=000000 arc=-- atc=---- ac=---------------- scripts=-
+  the card was pulled out: reading the records
+L0 power c1 torn
+  the card was pulled out while it was powered up
+S1 > e4098a025a339f3602000b
+  reversal
+done 2
+no newline",
+        ),
+        (
+            &["--lane", "1"],
+            "\
+L1 power c2 1,0,0,0,3,0
+  transaction counter 1, last online 0, offline approvals 0, sum 0, PIN tries 3
+S1 > e4098a025a339f3602000b
+  reversal
+    8A Authorisation Response Code: Z3, unable to go online, offline declined
+    9F36 Application Transaction Counter (ATC): 11
+",
+        ),
+        (
+            &["--purchase", "2"],
+            "\
+L0 power c1 torn
+  the card was pulled out while it was powered up
+",
+        ),
+        (
+            &["--ends", "--lane", "0", "--purchase", "1"],
+            "\
+L0 power c1 10,9,0,0,3,0
+  transaction counter 10, last online 9, offline approvals 0, sum 0, PIN tries 3
+L0 end 1 cut read tvr=0000000000 tsi=0000 cvm=000000 arc=-- atc=---- ac=---------------- scripts=-
+  the card was pulled out: reading the records
+",
+        ),
+        (&["--ends", "--lane", "3"], ""),
+    ];
+    for (words, wanted) in rows {
+        let (status, text) = run_of(rt.alloc(), words, REPORT, (&[], &[]))?;
+        assert_eq!(rt; status, 0);
+        assert_eq!(rt; text.as_slice(), wanted.as_bytes());
+    }
+    Ok(())
+}
+
+/// A card with a list 8C of 95 alone, an online code with 2.7 and an empty default code; its terminal
+/// approves an expired application.
+const EXPIRED: &str = "\
+L0 > 00a4040007a000000003101000
+L0 > 00b2010c00
+L0 < 70148c0295059f0f0500400000009f0d0500000000009000
+L0 > 80ae400005804000000000
+";
+
+#[test]
+fn the_terminals_codes_come_as_words(rt: HostRuntime) -> Result<(), Fail> {
+    let rows: [(&[&str], &str); 3] = [
+        (
+            &[],
+            "
+      1.8 offline data authentication was not performed: in no code of the card
+      2.7 expired application: in online 9F0F
+  because no denial code has a set bit, and the terminal is offline only, since an online code has 2.7: no default code has one
+",
+        ),
+        (
+            &[
+                "--terminal",
+                "0,23,A000000003,1,0000000000,0000000000,0000000000",
+            ],
+            "
+      1.8 offline data authentication was not performed: in no code
+      2.7 expired application: in online 9F0F
+  because an offline-only terminal, and no denial or default code has a set bit
+",
+        ),
+        (
+            &[
+                "--terminal",
+                "0,22,a0000000031010,0,0000000000,0000000000,0040000000",
+            ],
+            "
+      1.8 offline data authentication was not performed: in no code
+      2.7 expired application: in online 9F0F, terminal default
+  because not explained by the codes
+",
+        ),
+    ];
+    for (words, wanted) in rows {
+        let (_, text) = run_of(rt.alloc(), words, EXPIRED, (&[], &[]))?;
+        assert!(rt; text.as_slice().ends_with(wanted.as_bytes()));
+    }
+    Ok(())
+}
+
+#[test]
+fn other_words_give_the_usage_line(rt: HostRuntime) -> Result<(), Fail> {
+    let rows: [&[&str]; 8] = [
+        &["x"],
+        &["--lane"],
+        &["--lane", "16"],
+        &["--lane", "1", "--lane", "1"],
+        &["--purchase", "one"],
+        &["--brief", "--brief"],
+        &[
+            "--terminal",
+            "0,27,A000000003,0,0000000000,0000000000,0000000000",
+        ],
+        &[
+            "--terminal",
+            "0,22,A0000000,0,0000000000,0000000000,0000000000",
+        ],
+    ];
+    for words in rows {
+        let (status, text) = run_of(rt.alloc(), words, REPORT, (&[1], &[]))?;
+        assert_eq!(rt; status, 2);
+        assert_eq!(rt;
+            text.as_slice(),
+            b"usage: explain [--brief] [--ends] [--lane N] [--purchase N] [--terminal T]...\n".as_slice()
+        );
+    }
+    Ok(())
+}
+
+#[test]
+fn faults_of_source_and_sink_are_told(rt: HostRuntime) -> Result<(), Fail> {
+    let (status, text) = run_of(rt.alloc(), &[], "done 1\ndone 2\n", (&[3], &[]))?;
+    assert_eq!(rt; status, 3);
+    assert_eq!(rt; text.as_slice(), b"done 1\n".as_slice());
+    let (status, text) = run_of(rt.alloc(), &[], "done 1\ndone 2\n", (&[], &[3]))?;
+    assert_eq!(rt; status, 4);
+    assert_eq!(rt; text.as_slice(), b"done 1\n".as_slice());
+    Ok(())
+}

@@ -1,0 +1,266 @@
+//! The lines of a report as they come, each handed on with its words.
+ghost use Rattle.std.specs.Prelude.{◌≡◌, ◌≢◌, ◌∷◌, ◌++◌, ◌≤◌, ℕ, List, [], false, OnOk, OnErr, IfOk, take, if◌then◌else◌};
+ghost use Rattle.std.specs.declared.option.Option.{Option};
+ghost use Rattle.std.specs.Io.KnownBytes.{Appends};
+ghost use Rattle.arrayvec.specs.ArrayVec.{array_vec_len};
+ghost use Rattle.emv_ports.specs.Growth.{AppendsFront};
+ghost use Rattle.word_lines.specs.Lines.{AreWordLines};
+ghost use Rattle.explain.specs.Course.{SoFar, Stopped, Ended, HasStop};
+ghost use Rattle.explain.specs.Told.{rest_of};
+
+use arrayvec::ArrayVec;
+use emv_ports::{Failed, Sink, write_all};
+use narrator::Narrator;
+use std::alloc::AllocError;
+use word_lines::WordLines;
+
+/// Why the lines stop before their end.
+#[derive(Clone, Copy, PartialEq, Eq, Debug)]
+pub enum Stop {
+    /// The sink failed.
+    Sink,
+    /// There was no memory.
+    OutOfMemory,
+}
+
+/// The most bytes of a line that is told in words.
+const MOST: usize = 8192;
+
+/// The line that is coming, and the teller of its words.
+#[derive(Drop)]
+pub struct Teller {
+    pub narrator: Narrator,
+    pub words: WordLines,
+    /// The bytes of the line that were not handed on.
+    pub line: ArrayVec<u8, 8192>,
+    /// Whether bytes of the line were handed on, since it is too long to be told.
+    pub long: bool,
+    /// Whether no filter is given.
+    pub all: bool,
+}
+
+/// Hands a text to the sink.
+fn put<K: Sink>(sink: &mut K, text: &[u8]) -> Result<(), Stop>
+    ensures all { OnOk result (Appends (K.held sink.old) (K.held sink.new) text.now) }
+    ensures front { OnErr result (AppendsFront (K.held sink.old) (K.held sink.new) text.now) }
+    ensures stop { HasStop (K.faults sink.old) (K.faults sink.new) result }
+{
+    match write_all(sink, text) {
+        Ok(()) => Ok(()),
+        Err(Failed) => Err(Stop::Sink),
+    }
+}
+
+/// Hands a text to the sink where no filter is given.
+fn put_rest<K: Sink>(sink: &mut K, all: bool, text: &[u8]) -> Result<(), Stop>
+    ensures all { OnOk result (Appends (K.held sink.old) (K.held sink.new) (rest_of all text.now)) }
+    ensures front { OnErr result (AppendsFront (K.held sink.old) (K.held sink.new) (rest_of all text.now)) }
+    ensures stop { HasStop (K.faults sink.old) (K.faults sink.new) result }
+{
+    if all { put(sink, text) } else { Ok(()) }
+}
+
+/// Hands a text and a newline to the sink.
+fn put_line<K: Sink>(sink: &mut K, text: &[u8]) -> Result<(), Stop>
+    ensures all { OnOk result (Appends (K.held sink.old) (K.held sink.new) (text.now ++ 10 ∷ [])) }
+    ensures front { OnErr result (AppendsFront (K.held sink.old) (K.held sink.new) (text.now ++ 10 ∷ [])) }
+    ensures stop { HasStop (K.faults sink.old) (K.faults sink.new) result }
+{
+    match put(sink, text) {
+        Ok(()) => put(sink, b"\n"),
+        Err(stop) => Err(stop),
+    }
+}
+
+/// Hands a text and a newline to the sink where no filter is given.
+fn put_end<K: Sink>(sink: &mut K, all: bool, text: &[u8]) -> Result<(), Stop>
+    ensures all { OnOk result (Appends (K.held sink.old) (K.held sink.new) (rest_of all (text.now ++ 10 ∷ []))) }
+    ensures front { OnErr result (AppendsFront (K.held sink.old) (K.held sink.new) (rest_of all (text.now ++ 10 ∷ []))) }
+    ensures stop { HasStop (K.faults sink.old) (K.faults sink.new) result }
+{
+    if all { put_line(sink, text) } else { Ok(()) }
+}
+
+/// Hands a line and its words to the sink.
+fn put_told<K: Sink>(sink: &mut K, text: &[u8], words: &[u8]) -> Result<(), Stop>
+    ensures all { OnOk result (Appends (K.held sink.old) (K.held sink.new) ((text.now ++ 10 ∷ []) ++ words.now)) }
+    ensures front { OnErr result (AppendsFront (K.held sink.old) (K.held sink.new) ((text.now ++ 10 ∷ []) ++ words.now)) }
+    ensures stop { HasStop (K.faults sink.old) (K.faults sink.new) result }
+{
+    match put_line(sink, text) {
+        Ok(()) => put(sink, words),
+        Err(stop) => Err(stop),
+    }
+}
+
+/// The same, where the line is left by the filters.
+fn put_shown<K: Sink>(sink: &mut K, shown: bool, text: &[u8], words: &[u8]) -> Result<(), Stop>
+    ensures all { OnOk result (Appends (K.held sink.old) (K.held sink.new) (if shown then (text.now ++ 10 ∷ []) ++ words.now else [])) }
+    ensures front { OnErr result (AppendsFront (K.held sink.old) (K.held sink.new) (if shown then (text.now ++ 10 ∷ []) ++ words.now else [])) }
+    ensures stop { HasStop (K.faults sink.old) (K.faults sink.new) result }
+{
+    if shown {
+        put_told(sink, text, words)
+    } else {
+        Ok(())
+    }
+}
+
+/// Hands on what came of a line that is too long to be told.
+fn flush<K: Sink>(teller: &mut Teller, sink: &mut K) -> Result<(), Stop>
+    ensures ok { OnOk result ((seen : List ℕ) (first : Option (List ℕ)) → SoFar teller.old.all teller.old.line.items teller.old.long seen first (K.held sink.old)
+        → SoFar teller.new.all teller.new.line.items teller.new.long seen first (K.held sink.new)) }
+    ensures front { OnErr result (AppendsFront (K.held sink.old) (K.held sink.new) (rest_of teller.old.all teller.old.line.items)) }
+    ensures empty { OnOk result (array_vec_len teller.new.line ≡ 0) }
+    ensures all { teller.new.all ≡ teller.old.all }
+    ensures stop { HasStop (K.faults sink.old) (K.faults sink.new) result }
+{
+    match put_rest(sink, teller.all, teller.line.as_slice()) {
+        Ok(()) => {
+            teller.line.clear();
+            teller.long = true;
+            Ok(())
+        }
+        Err(stop) => Err(stop),
+    }
+}
+
+/// Makes room for a byte of the line.
+fn make_room<K: Sink>(teller: &mut Teller, sink: &mut K) -> Result<(), Stop>
+    ensures ok { OnOk result ((seen : List ℕ) (first : Option (List ℕ)) → SoFar teller.old.all teller.old.line.items teller.old.long seen first (K.held sink.old)
+        → SoFar teller.new.all teller.new.line.items teller.new.long seen first (K.held sink.new)) }
+    ensures front { OnErr result (AppendsFront (K.held sink.old) (K.held sink.new) (rest_of teller.old.all teller.old.line.items)) }
+    ensures room { OnOk result (array_vec_len teller.new.line ≤ 8191) }
+    ensures all { teller.new.all ≡ teller.old.all }
+    ensures stop { HasStop (K.faults sink.old) (K.faults sink.new) result }
+{
+    if teller.line.len() < MOST {
+        return Ok(());
+    }
+    flush(teller, sink)
+}
+
+/// Takes a byte of the line.
+fn take_inner<K: Sink>(teller: &mut Teller, byte: u8, sink: &mut K) -> Result<(), Stop>
+    requires { byte ≢ 10 }
+    ensures ok { OnOk result ((seen : List ℕ) (first : Option (List ℕ)) → SoFar teller.old.all teller.old.line.items teller.old.long seen first (K.held sink.old)
+        → SoFar teller.new.all teller.new.line.items teller.new.long (seen ++ byte ∷ []) first (K.held sink.new)) }
+    ensures err { OnErr result ((seen : List ℕ) (first : Option (List ℕ)) → SoFar teller.old.all teller.old.line.items teller.old.long seen first (K.held sink.old)
+        → Stopped teller.old.all (seen ++ byte ∷ []) first (K.held sink.new)) }
+    ensures all { teller.new.all ≡ teller.old.all }
+    ensures stop { HasStop (K.faults sink.old) (K.faults sink.new) result }
+{
+    match make_room(teller, sink) {
+        Ok(()) => {
+            teller.line.push(byte);
+            Ok(())
+        }
+        Err(stop) => Err(stop),
+    }
+}
+
+/// Ends a line that is too long to be told.
+fn end_long<K: Sink>(teller: &mut Teller, sink: &mut K) -> Result<(), Stop>
+    ensures ok { OnOk result ((seen : List ℕ) (first : Option (List ℕ)) → SoFar teller.old.all teller.old.line.items teller.old.long seen first (K.held sink.old)
+        → SoFar teller.new.all teller.new.line.items teller.new.long (seen ++ 10 ∷ []) first (K.held sink.new)) }
+    ensures err { OnErr result ((seen : List ℕ) (first : Option (List ℕ)) → SoFar teller.old.all teller.old.line.items teller.old.long seen first (K.held sink.old)
+        → Stopped teller.old.all (seen ++ 10 ∷ []) first (K.held sink.new)) }
+    ensures all { teller.new.all ≡ teller.old.all }
+    ensures stop { HasStop (K.faults sink.old) (K.faults sink.new) result }
+{
+    match put_end(sink, teller.all, teller.line.as_slice()) {
+        Ok(()) => {
+            teller.line.clear();
+            teller.long = false;
+            Ok(())
+        }
+        Err(stop) => Err(stop),
+    }
+}
+
+/// The words of the line that has come, and whether it is left by the filters.
+fn tell(teller: &mut Teller) -> Result<bool, AllocError>
+    ensures words { OnOk result (AreWordLines teller.new.words.bytes) }
+    ensures kept { IfOk result (λ shown. shown ≡ false → teller.old.all ≡ false) }
+    ensures line { teller.new.line.items ≡ teller.old.line.items }
+    ensures long { teller.new.long ≡ teller.old.long }
+    ensures all { teller.new.all ≡ teller.old.all }
+{
+    match teller
+        .narrator
+        .tell(teller.line.as_slice(), &mut teller.words)
+    {
+        Ok(shown) => Ok(shown || teller.all),
+        Err(AllocError) => Err(AllocError),
+    }
+}
+
+/// Ends a line, and hands it on with its words.
+fn end_short<K: Sink>(teller: &mut Teller, sink: &mut K) -> Result<(), Stop>
+    requires { teller.old.long ≡ false }
+    ensures ok { OnOk result ((seen : List ℕ) (first : Option (List ℕ)) → SoFar teller.old.all teller.old.line.items teller.old.long seen first (K.held sink.old)
+        → SoFar teller.new.all teller.new.line.items teller.new.long (seen ++ 10 ∷ []) first (K.held sink.new)) }
+    ensures err { OnErr result ((seen : List ℕ) (first : Option (List ℕ)) → SoFar teller.old.all teller.old.line.items teller.old.long seen first (K.held sink.old)
+        → Stopped teller.old.all (seen ++ 10 ∷ []) first (K.held sink.new)) }
+    ensures all { teller.new.all ≡ teller.old.all }
+    ensures stop { HasStop (K.faults sink.old) (K.faults sink.new) result }
+{
+    let shown = match tell(teller) {
+        Ok(shown) => shown,
+        Err(AllocError) => return Err(Stop::OutOfMemory),
+    };
+    match put_shown(sink, shown, teller.line.as_slice(), teller.words.as_slice()) {
+        Ok(()) => {
+            teller.line.clear();
+            Ok(())
+        }
+        Err(stop) => Err(stop),
+    }
+}
+
+/// Takes a byte of the report.
+fn take_byte<K: Sink>(teller: &mut Teller, byte: u8, sink: &mut K) -> Result<(), Stop>
+    ensures ok { OnOk result ((seen : List ℕ) (first : Option (List ℕ)) → SoFar teller.old.all teller.old.line.items teller.old.long seen first (K.held sink.old)
+        → SoFar teller.new.all teller.new.line.items teller.new.long (seen ++ byte ∷ []) first (K.held sink.new)) }
+    ensures err { OnErr result ((seen : List ℕ) (first : Option (List ℕ)) → SoFar teller.old.all teller.old.line.items teller.old.long seen first (K.held sink.old)
+        → Stopped teller.old.all (seen ++ byte ∷ []) first (K.held sink.new)) }
+    ensures all { teller.new.all ≡ teller.old.all }
+    ensures stop { HasStop (K.faults sink.old) (K.faults sink.new) result }
+{
+    if byte != b'\n' {
+        take_inner(teller, byte, sink)
+    } else if teller.long {
+        end_long(teller, sink)
+    } else {
+        end_short(teller, sink)
+    }
+}
+
+/// Takes bytes of the report.
+pub fn take_bytes<K: Sink>(teller: &mut Teller, bytes: &[u8], sink: &mut K) -> Result<(), Stop>
+    ensures ok { OnOk result ((seen : List ℕ) (first : Option (List ℕ)) → SoFar teller.old.all teller.old.line.items teller.old.long seen first (K.held sink.old)
+        → SoFar teller.new.all teller.new.line.items teller.new.long (seen ++ bytes.now) first (K.held sink.new)) }
+    ensures err { OnErr result ((seen : List ℕ) (first : Option (List ℕ)) → SoFar teller.old.all teller.old.line.items teller.old.long seen first (K.held sink.old)
+        → (taken : ℕ) × Stopped teller.old.all (seen ++ take taken bytes.now) first (K.held sink.new)) }
+    ensures all { teller.new.all ≡ teller.old.all }
+    ensures stop { HasStop (K.faults sink.old) (K.faults sink.new) result }
+{
+    for byte in bytes {
+        match take_byte(teller, *byte, sink) {
+            Ok(()) => {}
+            Err(stop) => return Err(stop),
+        }
+    }
+    Ok(())
+}
+
+/// Hands on what stands behind the last newline.
+pub fn end<K: Sink>(teller: &mut Teller, sink: &mut K) -> Result<(), Stop>
+    ensures ok { OnOk result ((seen : List ℕ) (first : Option (List ℕ)) → SoFar teller.old.all teller.old.line.items teller.old.long seen first (K.held sink.old)
+        → Ended teller.old.all seen first (K.held sink.new)) }
+    ensures err { OnErr result ((seen : List ℕ) (first : Option (List ℕ)) → SoFar teller.old.all teller.old.line.items teller.old.long seen first (K.held sink.old)
+        → Stopped teller.old.all seen first (K.held sink.new)) }
+    ensures stop { HasStop (K.faults sink.old) (K.faults sink.new) result }
+{
+    put_rest(sink, teller.all, teller.line.as_slice())
+}

@@ -1,0 +1,180 @@
+//! The top call.
+ghost use Rattle.std.specs.Prelude.{◌≡◌, ◌≢◌, ◌≤◌, ◌⊎◌, ℕ, Bool, List, [], true, false, OnOk, OnErr, IfOk};
+ghost use Rattle.std.specs.declared.option.Option.{Option};
+ghost use Rattle.std.specs.Io.KnownBytes.{Appends};
+ghost use Rattle.emv_ports.specs.Causes.{Rose};
+ghost use Rattle.emv_ports.specs.Growth.{AppendsFront};
+ghost use Rattle.explain.specs.Course.{SoFar};
+ghost use Rattle.explain.specs.Reading.{ReadAll, ReadSome, SourceCount, SinkCount, usage_line};
+ghost use Rattle.explain.specs.Told.{Explained, BrokenOff};
+ghost use Rattle.narrator.specs.Shown.{shows_all};
+
+use crate::options::{NoOptions, Options, read_options};
+use crate::told::{Stop, Teller, end, take_bytes};
+use arrayvec::ArrayVec;
+use emv_ports::{Failed, Sink, Source, write_all};
+use narrator::Narrator;
+use std::alloc::{AllocError, Global};
+use word_lines::WordLines;
+
+/// The line that answers words which are not in the grammar.
+const USAGE: &[u8] =
+    b"usage: explain [--brief] [--ends] [--lane N] [--purchase N] [--terminal T]...\n";
+
+/// The most bytes that are read.
+const MOST_READ: u64 = 4_611_686_018_427_387_904;
+
+/// Why a report was not explained to its end.
+#[derive(Clone, Copy, PartialEq, Eq, Debug)]
+pub enum Broken {
+    /// The source failed.
+    Source,
+    /// The sink failed.
+    Sink,
+    /// There was no memory.
+    OutOfMemory,
+}
+
+/// Reads a source to its end, and hands on what comes.
+fn read_through<S: Source, K: Sink>(
+    teller: &mut Teller,
+    source: &mut S,
+    sink: &mut K,
+) -> Result<(), Broken>
+    ensures ok { OnOk result ((first : Option (List ℕ)) → SoFar teller.old.all teller.old.line.items teller.old.long [] first (K.held sink.old)
+        → ReadAll teller.new.all teller.new.line.items teller.new.long (S.left source.old) (S.left source.new) first (K.held sink.new)) }
+    ensures err { OnErr result ((first : Option (List ℕ)) → SoFar teller.old.all teller.old.line.items teller.old.long [] first (K.held sink.old)
+        → ReadSome teller.old.all (S.left source.old) (S.left source.new) first (K.held sink.new)) }
+    ensures all { teller.new.all ≡ teller.old.all }
+    ensures source { SourceCount (S.faults source.old) (S.faults source.new) result }
+    ensures sink { SinkCount (K.faults sink.old) (K.faults sink.new) result }
+{
+    let mut chunk = [0u8; 4096];
+    let mut left = MOST_READ;
+    while left > 0 {
+        match source.read(&mut chunk) {
+            Ok(0) => return Ok(()),
+            Ok(count) => match take_bytes(teller, &chunk[..count], sink) {
+                Ok(()) => left = left.saturating_sub(count as u64),
+                Err(Stop::Sink) => return Err(Broken::Sink),
+                Err(Stop::OutOfMemory) => return Err(Broken::OutOfMemory),
+            },
+            Err(Failed) => return Err(Broken::Source),
+        }
+    }
+    Ok(())
+}
+
+/// Explains what a source gives, and what stands behind its last newline.
+fn explain<S: Source, K: Sink>(
+    teller: &mut Teller,
+    source: &mut S,
+    sink: &mut K,
+) -> Result<(), Broken>
+    requires line { teller.old.line.items ≡ [] }
+    requires short { teller.old.long ≡ false }
+    ensures ok { OnOk result (Explained teller.old.all (S.left source.old) (S.left source.new) (K.held sink.old) (K.held sink.new)) }
+    ensures err { OnErr result (BrokenOff teller.old.all (S.left source.old) (S.left source.new) (K.held sink.old) (K.held sink.new)) }
+    ensures source { SourceCount (S.faults source.old) (S.faults source.new) result }
+    ensures sink { SinkCount (K.faults sink.old) (K.faults sink.new) result }
+{
+    match read_through(teller, source, sink) {
+        Ok(()) => match end(teller, sink) {
+            Ok(()) => Ok(()),
+            Err(Stop::Sink) => Err(Broken::Sink),
+            Err(Stop::OutOfMemory) => Err(Broken::OutOfMemory),
+        },
+        Err(broken) => Err(broken),
+    }
+}
+
+/// A teller before the first byte.
+fn begin(alloc: Global, options: Options) -> Result<Teller, AllocError>
+    ensures line { IfOk result (λ teller. teller.line.items ≡ []) }
+    ensures short { IfOk result (λ teller. teller.long ≡ false) }
+    ensures all { IfOk result (λ teller. teller.all ≡ shows_all options.filter) }
+{
+    let all = options.filter.shows_all();
+    let narrator = Narrator::new(alloc, options.filter, options.terminals)?;
+    Ok(Teller {
+        narrator,
+        words: WordLines::new(alloc),
+        line: ArrayVec::new(),
+        long: false,
+        all,
+    })
+}
+
+/// Explains what a source gives, by these options.
+fn explain_by<S: Source, K: Sink>(
+    alloc: Global,
+    options: Options,
+    source: &mut S,
+    sink: &mut K,
+) -> Result<(), Broken>
+    ensures ok { OnOk result (Explained (shows_all options.filter) (S.left source.old) (S.left source.new) (K.held sink.old) (K.held sink.new)) }
+    ensures err { OnErr result (BrokenOff (shows_all options.filter) (S.left source.old) (S.left source.new) (K.held sink.old) (K.held sink.new)) }
+    ensures source { SourceCount (S.faults source.old) (S.faults source.new) result }
+    ensures sink { SinkCount (K.faults sink.old) (K.faults sink.new) result }
+{
+    match begin(alloc, options) {
+        Ok(teller) => {
+            let mut teller = teller;
+            explain(&mut teller, source, sink)
+        }
+        Err(AllocError) => Err(Broken::OutOfMemory),
+    }
+}
+
+/// The usage line, and its status.
+fn answer_usage<K: Sink>(sink: &mut K) -> u8
+    ensures usage { result ≡ 2 → Appends (K.held sink.old) (K.held sink.new) usage_line }
+    ensures front { result ≡ 4 → AppendsFront (K.held sink.old) (K.held sink.new) usage_line }
+    ensures fault { result ≡ 4 → Rose (K.faults sink.old) (K.faults sink.new) }
+    ensures calm { result ≢ 4 → K.faults sink.new ≡ K.faults sink.old }
+    ensures known { (result ≡ 2) ⊎ (result ≡ 4) }
+{
+    match write_all(sink, USAGE) {
+        Ok(()) => 2,
+        Err(Failed) => 4,
+    }
+}
+
+/// Answers these words: explains the report that `source` gives, line by line, to `sink`, and gives the
+/// exit status. The words are `[--brief] [--ends] [--lane N] [--purchase N] [--terminal T]...`, in any
+/// order. Each line is handed on as soon as its words are made. A line of more than 8,192 bytes, one of
+/// another form than a report's, and what stands behind the last newline have no words.
+pub fn run<S: Source, K: Sink>(alloc: Global, words: &[String], source: &mut S, sink: &mut K) -> u8
+    // 0: all that the source had left was read, and the sink got its lines in order and unchanged, each with
+    // none or some lines of words that begin with two blanks, or left out by a filter. Without words none is
+    // left out.
+    ensures done { result ≡ 0 → (all : Bool) × (words.now ≡ [] → all ≡ true)
+        × Explained all (S.left source.old) (S.left source.new) (K.held sink.old) (K.held sink.new) }
+    // 2: the words are not in the grammar; the sink got the usage line, and nothing was read.
+    ensures usage { result ≡ 2 → Appends (K.held sink.old) (K.held sink.new) usage_line }
+    ensures unread { result ≡ 2 → source.new ≡ source.old }
+    // 3: the source failed, 4: the sink failed, 5: there was no memory. What the first bytes that were read
+    // are explained as was written, or a front of it; where the sink failed, it may be a front of the usage
+    // line.
+    ensures read_fault { result ≡ 3 → Rose (S.faults source.old) (S.faults source.new) }
+    ensures read_front { result ≡ 3 → (all : Bool) × BrokenOff all (S.left source.old) (S.left source.new) (K.held sink.old) (K.held sink.new) }
+    ensures write_fault { result ≡ 4 → Rose (K.faults sink.old) (K.faults sink.new) }
+    ensures write_front { result ≡ 4 → AppendsFront (K.held sink.old) (K.held sink.new) usage_line
+        ⊎ ((all : Bool) × BrokenOff all (S.left source.old) (S.left source.new) (K.held sink.old) (K.held sink.new)) }
+    ensures memory { result ≡ 5 → (all : Bool) × BrokenOff all (S.left source.old) (S.left source.new) (K.held sink.old) (K.held sink.new) }
+    // The source's count stays but for 3, the sink's but for 4.
+    ensures source_calm { result ≢ 3 → S.faults source.new ≡ S.faults source.old }
+    ensures sink_calm { result ≢ 4 → K.faults sink.new ≡ K.faults sink.old }
+    ensures known { (result ≤ 5) × (result ≢ 1) }
+{
+    match read_options(alloc, words) {
+        Ok(options) => match explain_by(alloc, options, source, sink) {
+            Ok(()) => 0,
+            Err(Broken::Source) => 3,
+            Err(Broken::Sink) => 4,
+            Err(Broken::OutOfMemory) => 5,
+        },
+        Err(NoOptions::Words) => answer_usage(sink),
+        Err(NoOptions::OutOfMemory) => 5,
+    }
+}
