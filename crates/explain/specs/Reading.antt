@@ -3,7 +3,7 @@ use Rattle.std.specs.Prelude.{ℕ, ◌≡◌, ◌<◌, ◌++◌, Bool, List, cod
 use Rattle.std.specs.declared.option.Option.{Option}
 use Rattle.std.specs.Io.KnownBytes.{Consumes, IsAtEnd}
 use Rattle.emv_ports.specs.Causes.{Rose}
-use Rattle.explain.specs.Course.{SoFar, Stopped, Ended}
+use Rattle.explain.specs.Course.{SoFar, Stopped}
 use Rattle.explain.specs.Told.{most_read}
 use Rattle.explain.specs.declared.top.Broken.{Broken}
 use Rattle.explain.specs.declared.top.Broken.TheVariants.{Source, Sink, OutOfMemory}

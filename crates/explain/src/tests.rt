@@ -33,12 +33,8 @@ fn run_of(
     Ok((status, sink.bytes().to_vec(alloc)?))
 }
 
-#[test]
-fn filters_leave_lines_and_brief_leaves_out_words(rt: HostRuntime) -> Result<(), Fail> {
-    let rows: [(&[&str], &str); 5] = [
-        (
-            &["--brief"],
-            "\
+/// Without the words of objects.
+const BRIEF: &str = "\
 L0 power c1 10,9,0,0,3,0
   transaction counter 10, last online 9, offline approvals 0, sum 0, PIN tries 3
 L1 power c2 1,0,0,0,3,0
@@ -53,35 +49,39 @@ L0 power c1 torn
 S1 > e4098a025a339f3602000b
   reversal
 done 2
-no newline",
-        ),
-        (
-            &["--lane", "1"],
-            "\
+no newline";
+
+/// The lines of lane 1.
+const OF_LANE: &str = "\
 L1 power c2 1,0,0,0,3,0
   transaction counter 1, last online 0, offline approvals 0, sum 0, PIN tries 3
 S1 > e4098a025a339f3602000b
   reversal
     8A Authorisation Response Code: Z3, unable to go online, offline declined
     9F36 Application Transaction Counter (ATC): 11
-",
-        ),
-        (
-            &["--purchase", "2"],
-            "\
+";
+
+/// The lines of the second purchases.
+const OF_PURCHASE: &str = "\
 L0 power c1 torn
   the card was pulled out while it was powered up
-",
-        ),
-        (
-            &["--ends", "--lane", "0", "--purchase", "1"],
-            "\
+";
+
+/// Where lane 0's first purchase begins and ends.
+const ENDS: &str = "\
 L0 power c1 10,9,0,0,3,0
   transaction counter 10, last online 9, offline approvals 0, sum 0, PIN tries 3
 L0 end 1 cut read tvr=0000000000 tsi=0000 cvm=000000 arc=-- atc=---- ac=---------------- scripts=-
   the card was pulled out: reading the records
-",
-        ),
+";
+
+#[test]
+fn filters_leave_lines_and_brief_leaves_out_words(rt: HostRuntime) -> Result<(), Fail> {
+    let rows: [(&[&str], &str); 5] = [
+        (&["--brief"], BRIEF),
+        (&["--lane", "1"], OF_LANE),
+        (&["--purchase", "2"], OF_PURCHASE),
+        (&["--ends", "--lane", "0", "--purchase", "1"], ENDS),
         (&["--ends", "--lane", "3"], ""),
     ];
     for (words, wanted) in rows {

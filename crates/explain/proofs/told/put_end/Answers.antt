@@ -1,4 +1,4 @@
-use Rattle.std.proofs.Common.{List, ℕ, [], ◌∷◌, ◌++◌, subst, sym, Bool}
+use Rattle.std.proofs.Common.{[], ◌∷◌, ◌++◌, subst, sym, Bool}
 use Rattle.std.specs.Io.KnownBytes.{Appends}
 use Rattle.emv_ports.specs.Growth.{AppendsFront}
 use Rattle.emv_ports.proofs.Growth.{Appends-none}

@@ -1,4 +1,4 @@
-use Rattle.std.proofs.Common.{List, ℕ, [], ◌∷◌, ◌++◌, cond, subst, sym, Bool}
+use Rattle.std.proofs.Common.{[], ◌∷◌, ◌++◌, cond, subst, sym, Bool}
 use Rattle.std.specs.Io.KnownBytes.{Appends}
 use Rattle.emv_ports.specs.Growth.{AppendsFront}
 use Rattle.emv_ports.proofs.Growth.{Appends-none}

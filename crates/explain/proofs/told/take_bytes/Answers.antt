@@ -1,4 +1,4 @@
-use Rattle.std.proofs.Common.{ℕ, List, Bool, ◌++◌, ◌+◌, take, refl, sym, ap, subst, ◌∙◌}
+use Rattle.std.proofs.Common.{ℕ, List, Bool, ◌++◌, ◌+◌, take, refl, sym, subst, ◌∙◌}
 use Rattle.std.proofs.lemmas.List.{append-nil, take_all}
 use Rattle.explain.specs.Course.{SoFar, Stopped}
 use Rattle.explain.proofs.Coming.{so_far_take, stopped_take}

@@ -1,4 +1,4 @@
-use Rattle.std.proofs.Common.{ℕ, List, Bool, ◌≡◌, ◌∙◌, take, refl, sym, subst, arith}
+use Rattle.std.proofs.Common.{ℕ, Bool, ◌≡◌, ◌∙◌, take, refl, sym, subst, arith}
 use Rattle.std.specs.Io.KnownBytes.{Consumes}
 use Rattle.std.proofs.lemmas.List.{length-take-le}
 use Rattle.emv_ports.specs.Causes.{Rose}
