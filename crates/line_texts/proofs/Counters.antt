@@ -1,0 +1,90 @@
+-- The counters of applications are read from the front of a text.
+use Rattle.std.proofs.Common.{◌≡◌, ℕ, ◌<◌, List, [], ◌∷◌, ◌++◌, refl, sym, ap, ◌∙◌, arith, append_assoc}
+use Rattle.std.specs.Prelude.{slice_index, decimal, length}
+use Rattle.std.specs.List.{All}
+use Rattle.std.proofs.lemmas.List.Elements.{All-head, All-tail}
+use Rattle.std.proofs.lemmas.Fmt.{decimal_is_IsNumeral}
+use Rattle.std.proofs.lemmas.Str.Parse.{digit_at}
+use Rattle.report_text.specs.Text.{shown_text, all_shown}
+use Rattle.report_text.specs.declared.line.Shown.{Shown}
+use Rattle.line_texts.specs.Told.{IsCount, AreCounters}
+use Rattle.line_texts.proofs.Fronts.{behind, number, first_same}
+
+shown_of : ℕ → ℕ → ℕ → ℕ → ℕ → ℕ → Shown
+shown_of counter last_online count sum tries flags =
+    record { counter = counter; last_online = last_online; count = count; sum = sum; tries = tries; flags = flags }
+
+shown_by : {a b c d e f u v w x y z : ℕ} → a ≡ u → b ≡ v → c ≡ w → d ≡ x → e ≡ y → f ≡ z → shown_of a b c d e f ≡ shown_of u v w x y z
+shown_by p q r s t o = cc
+
+shown_same : (a b : Shown) → a.counter ≡ b.counter → a.last_online ≡ b.last_online → a.count ≡ b.count → a.sum ≡ b.sum → a.tries ≡ b.tries → a.flags ≡ b.flags → a ≡ b
+unfolding shown_of
+shown_same a b p q r s t o = shown_by p q r s t o
+
+-- what follows the first counter
+abbrev behind_first : Shown → List ℕ → List ℕ
+behind_first app rest =
+    44 ∷ (decimal app.last_online ++ 44 ∷ (decimal app.count ++ 44 ∷ (decimal app.sum ++ 44 ∷ (decimal app.tries ++ 44 ∷ (decimal app.flags ++ rest)))))
+
+shown_flat : (app : Shown) (rest : List ℕ) → shown_text app ++ rest ≡ 32 ∷ (decimal app.counter ++ behind_first app rest)
+unfolding shown_text
+shown_flat app rest = simp append_assoc
+
+shown_front : (a b : Shown) (c d : ℕ) (r s : List ℕ) → shown_text a ++ c ∷ r ≡ shown_text b ++ d ∷ s → AreCounters a → AreCounters b → c < 48 → d < 48 → (a ≡ b) × (c ∷ r ≡ d ∷ s)
+shown_front a b c d r s e ta tb hc hd =
+    let flat : 32 ∷ (decimal a.counter ++ behind_first a (c ∷ r)) ≡ 32 ∷ (decimal b.counter ++ behind_first b (d ∷ s)) = sym (shown_flat a (c ∷ r)) ∙ e ∙ shown_flat b (d ∷ s) in
+    let one = number a.counter b.counter 44 44 _ _ (behind 1 flat) ta.counter tb.counter (omega arith) (omega arith) in
+    let two = number a.last_online b.last_online 44 44 _ _ (behind 1 one.1) ta.last_online tb.last_online (omega arith) (omega arith) in
+    let three = number a.count b.count 44 44 _ _ (behind 1 two.1) ta.count tb.count (omega arith) (omega arith) in
+    let four = number a.sum b.sum 44 44 _ _ (behind 1 three.1) ta.sum tb.sum (omega arith) (omega arith) in
+    let five = number a.tries b.tries 44 44 _ _ (behind 1 four.1) ta.tries tb.tries (omega arith) (omega arith) in
+    let six = number a.flags b.flags c d r s (behind 1 five.1) ta.flags tb.flags hc hd in
+    (shown_same a b one.0 two.0 three.0 four.0 five.0 six.0, six.1)
+
+-- a number begins with a digit
+first_digit : (digits rest : List ℕ) → 0 < length digits → slice_index digits 0 < 58 → slice_index (digits ++ rest) 0 < 58
+first_digit [] rest some low = absurd (omega arith)
+first_digit (d ∷ digits) rest some low = low
+
+decimal_first : (n : ℕ) (rest : List ℕ) → IsCount n → slice_index (decimal n ++ rest) 0 < 58
+decimal_first n rest h =
+    let is = decimal_is_IsNumeral n h in
+    let range = digit_at (decimal n) 0 is.0.1 is.0.0 in
+    first_digit (decimal n) rest is.0.0 (omega (arith, range.1))
+
+-- what begins here is the newline, or a blank and an application
+pub record Begun (text : List ℕ) : Type 0 where
+  pub first : ℕ
+  pub rest : List ℕ
+  pub is : text ≡ first ∷ rest
+  pub low : first < 33
+  pub digit : slice_index rest 0 < 58
+
+pub begun : (apps : List Shown) → All AreCounters apps → Begun (all_shown apps ++ 10 ∷ [])
+begun [] all = record { first = 10; rest = []; is = refl; low = omega arith; digit = omega arith }
+begun (app ∷ apps) all =
+    let told : AreCounters app = All-head AreCounters app apps all in
+    record {
+      first = 32;
+      rest = decimal app.counter ++ behind_first app (all_shown apps ++ 10 ∷ []);
+      is = append_assoc (shown_text app) (all_shown apps) (10 ∷ []) ∙ shown_flat app (all_shown apps ++ 10 ∷ []);
+      low = omega arith;
+      digit = decimal_first app.counter (behind_first app (all_shown apps ++ 10 ∷ [])) told.counter;
+    }
+
+pub counters_same : (xs ys : List Shown) → all_shown xs ++ 10 ∷ [] ≡ all_shown ys ++ 10 ∷ [] → All AreCounters xs → All AreCounters ys → xs ≡ ys
+counters_same [] [] e tx ty = refl
+counters_same [] (y ∷ ys) e tx ty = let no : ◌≡◌ {A = ℕ} 10 32 = first_same 10 32 _ _ (e ∙ append_assoc (shown_text y) (all_shown ys) (10 ∷ []) ∙ shown_flat y (all_shown ys ++ 10 ∷ [])) in absurd (omega arith)
+counters_same (x ∷ xs) [] e tx ty = let no : ◌≡◌ {A = ℕ} 10 32 = first_same 10 32 _ _ (sym e ∙ append_assoc (shown_text x) (all_shown xs) (10 ∷ []) ∙ shown_flat x (all_shown xs ++ 10 ∷ [])) in absurd (omega arith)
+counters_same (x ∷ xs) (y ∷ ys) e tx ty =
+    let one = begun xs (All-tail AreCounters x xs tx) in
+    let two = begun ys (All-tail AreCounters y ys ty) in
+    let flat : shown_text x ++ (all_shown xs ++ 10 ∷ []) ≡ shown_text y ++ (all_shown ys ++ 10 ∷ []) = sym (append_assoc (shown_text x) _ _) ∙ e ∙ append_assoc (shown_text y) _ _ in
+    let joined : shown_text x ++ one.first ∷ one.rest ≡ shown_text y ++ two.first ∷ two.rest =
+    ap (λ (t : List ℕ). shown_text x ++ t) (sym one.is) ∙ flat ∙ ap (λ (t : List ℕ). shown_text y ++ t) two.is in
+    let low : one.first < 33 = one.low in
+    let low' : two.first < 33 = two.low in
+    let same = shown_front x y one.first two.first one.rest two.rest joined (All-head AreCounters x xs tx) (All-head AreCounters y ys ty) (omega arith) (omega arith) in
+    let here : x ≡ y = same.0 in
+    let there : xs ≡ ys = counters_same xs ys (one.is ∙ same.1 ∙ sym two.is) (All-tail AreCounters x xs tx) (All-tail AreCounters y ys ty) in
+    cc

@@ -1,0 +1,86 @@
+-- Steps, causes and endings are read from the front of a text.
+use Rattle.std.proofs.Common.{◌≡◌, ℕ, ◌<◌, Bool, true, false, List, [], ◌∷◌, ◌++◌, refl, ap, append_assoc}
+use Rattle.ber_tlv.specs.declared.tag.Tag.{Tag}
+use Rattle.emv_dict.specs.declared.ending.Step.{Step}
+use Rattle.emv_dict.specs.declared.ending.Step.TheVariants as step
+use Rattle.emv_dict.specs.declared.ending.Cause.{Cause}
+use Rattle.emv_dict.specs.declared.ending.Cause.TheVariants as cause
+use Rattle.emv_dict.specs.declared.ending.Ending.{Ending}
+use Rattle.emv_dict.specs.declared.ending.Ending.TheVariants as ending
+use Rattle.report_text.specs.Words.{step_word, cause_text, side_word, ending_text}
+use Rattle.line_texts.specs.Told.{IsCauseTold, IsEndingTold}
+use Rattle.line_texts.proofs.Fronts.{behind, number, hex, tag, two, apart, one_byte, first_same}
+
+abbrev tag_of : ℕ → Tag
+tag_of n = record { 0 = n }
+
+step_front : (a b : Step) {r s : List ℕ} → step_word a ++ r ≡ step_word b ++ s → (a ≡ b) × (r ≡ s)
+unfolding step_word
+step_front step.Power step.Power e = (refl, behind 5 e)
+step_front step.Select step.Select e = (refl, behind 6 e)
+step_front step.Initiate step.Initiate e = (refl, behind 8 e)
+step_front step.Read step.Read e = (refl, behind 4 e)
+step_front step.Verify step.Verify e = (refl, behind 6 e)
+step_front step.Risk step.Risk e = (refl, behind 4 e)
+step_front step.First step.First e = (refl, behind 5 e)
+step_front step.Authenticate step.Authenticate e = (refl, behind 12 e)
+step_front step.Second step.Second e = (refl, behind 6 e)
+step_front step.Script step.Script e = (refl, behind 6 e)
+step_front a b e = absurd (apart e refl)
+
+side_front : (a b : Bool) {r s : List ℕ} → side_word a ++ r ≡ side_word b ++ s → (a ≡ b) × (r ≡ s)
+side_front true true e = (refl, behind 6 e)
+side_front false false e = (refl, behind 7 e)
+side_front a b e = absurd (apart e refl)
+
+cause_front : (a b : Cause) (c d : ℕ) (r s : List ℕ) → cause_text a ++ c ∷ r ≡ cause_text b ++ d ∷ s → IsCauseTold a → IsCauseTold b → c < 48 → d < 48 → (a ≡ b) × (c ∷ r ≡ d ∷ s)
+unfolding cause_text IsCauseTold
+cause_front cause.NoCandidate cause.NoCandidate c d r s e ta tb hc hd = (refl, behind 12 e)
+cause_front cause.CardBlocked cause.CardBlocked c d r s e ta tb hc hd = (refl, behind 12 e)
+cause_front cause.Answer cause.Answer c d r s e ta tb hc hd = (refl, behind 6 e)
+cause_front (cause.Status m) (cause.Status n) c d r s e ta tb hc hd =
+    let same = two m n c d r s (behind 7 e) ta tb hc hd in
+    (ap cause.Status same.0, same.1)
+cause_front (cause.Coding m) (cause.Coding n) c d r s e ta tb hc hd =
+    let same = number m n c d r s (behind 7 e) ta tb hc hd in
+    (ap cause.Coding same.0, same.1)
+cause_front (cause.Repeated m) (cause.Repeated n) c d r s e ta tb hc hd =
+    let same = tag m.0 n.0 c d r s (behind 9 e) ta tb hc hd in
+    (ap (λ (t : ℕ). cause.Repeated (tag_of t)) same.0, same.1)
+cause_front (cause.Missing m) (cause.Missing n) c d r s e ta tb hc hd =
+    let same = tag m.0 n.0 c d r s (behind 8 e) ta tb hc hd in
+    (ap (λ (t : ℕ). cause.Missing (tag_of t)) same.0, same.1)
+cause_front (cause.Value m) (cause.Value n) c d r s e ta tb hc hd =
+    let same = tag m.0 n.0 c d r s (behind 6 e) ta tb hc hd in
+    (ap (λ (t : ℕ). cause.Value (tag_of t)) same.0, same.1)
+cause_front (cause.Afl m) (cause.Afl n) c d r s e ta tb hc hd =
+    let same = number m n c d r s (behind 4 e) ta tb hc hd in
+    (ap cause.Afl same.0, same.1)
+cause_front (cause.Dol m) (cause.Dol n) c d r s e ta tb hc hd =
+    let same = tag m.0 n.0 c d r s (behind 4 e) ta tb hc hd in
+    (ap (λ (t : ℕ). cause.Dol (tag_of t)) same.0, same.1)
+cause_front cause.TooMuch cause.TooMuch c d r s e ta tb hc hd = (refl, behind 8 e)
+cause_front (cause.Kind m) (cause.Kind n) c d r s e ta tb hc hd =
+    let same = hex (m ∷ []) (n ∷ []) c d r s (behind 5 e) (one_byte m ta) (one_byte n tb) hc hd in
+    (ap cause.Kind (first_same m n [] [] same.0), same.1)
+cause_front a b c d r s e ta tb hc hd = absurd (apart e refl)
+
+pub ending_front : (a b : Ending) (c d : ℕ) (r s : List ℕ) → ending_text a ++ c ∷ r ≡ ending_text b ++ d ∷ s → IsEndingTold a → IsEndingTold b → c < 48 → d < 48 → (a ≡ b) × (c ∷ r ≡ d ∷ s)
+unfolding ending_text IsEndingTold
+ending_front (ending.Approved m) (ending.Approved n) c d r s e ta tb hc hd =
+    let same = side_front m n (behind 9 e) in
+    (ap ending.Approved same.0, same.1)
+ending_front (ending.Declined m) (ending.Declined n) c d r s e ta tb hc hd =
+    let same = side_front m n (behind 9 e) in
+    (ap ending.Declined same.0, same.1)
+ending_front (ending.Terminated at why) (ending.Terminated by how) c d r s e ta tb hc hd =
+    let one : step_word at ++ 32 ∷ (cause_text why ++ c ∷ r) ≡ step_word by ++ 32 ∷ (cause_text how ++ d ∷ s) = simp append_assoc at (behind 11 e) in
+    let steps = step_front at by one in
+    let causes = cause_front why how c d r s (behind 1 steps.1) ta tb hc hd in
+    let here : at ≡ by = steps.0 in
+    let there : why ≡ how = causes.0 in
+    (cc, causes.1)
+ending_front (ending.CutOff m) (ending.CutOff n) c d r s e ta tb hc hd =
+    let same = step_front m n (behind 4 e) in
+    (ap ending.CutOff same.0, same.1)
+ending_front a b c d r s e ta tb hc hd = absurd (apart e refl)

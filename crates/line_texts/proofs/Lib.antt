@@ -1,0 +1,7 @@
+mod Fronts
+mod Counters
+mod Endings
+mod Parts
+mod Flat
+mod Marks
+mod Lines

@@ -1,0 +1,164 @@
+-- Which kind of line a text is of, by its first words.
+use Rattle.std.proofs.Common.{◌≡◌, ℕ, ◌<◌, ◌≤◌, ◌==◌, nat_lt, true, false, List, [], ◌∷◌, ◌++◌, drop, refl, sym, ap, ◌∙◌, arith}
+use Rattle.std.specs.Prelude.{slice_index, if◌then◌else◌, codes, decimal, IsTrue}
+use Rattle.std.proofs.lemmas.Bool.Decides.{nat_tests}
+use Rattle.std.proofs.lemmas.List.Elements.{All-weaker}
+use Rattle.emv_dict.specs.declared.ending.Ending.{Ending}
+use Rattle.emv_dict.specs.declared.ending.Ending.TheVariants as ending
+use Rattle.report_text.specs.Words.{ending_text}
+use Rattle.report_text.specs.declared.line.Line.{Line}
+use Rattle.report_text.specs.declared.line.Line.TheVariants.{Power, PowerCanned, PowerTorn, ToCard, FromCard, Torn, Gone, ToHost, FromHost, NoReply, End, SettleCall, SettleReply, AuditPower, AuditAsk, AuditAnswer, Balance, Done, Object, ReadOk, ReadEnded}
+use Rattle.line_texts.specs.Told.{IsCount, IsName, IsTold}
+use Rattle.line_texts.proofs.Fronts.{AtLeast, high_head, high_tail, decimal_high, dash_first}
+use Rattle.line_texts.proofs.Counters.{begun}
+use Rattle.line_texts.proofs.Flat.{flat_text}
+
+-- what follows a word
+rest_of : ℕ → List ℕ → List ℕ
+rest_of bound [] = []
+rest_of bound (c ∷ rest) = if nat_lt c bound then c ∷ rest else rest_of bound rest
+
+rest_word : (bound : ℕ) (word : List ℕ) (c : ℕ) (rest : List ℕ) → AtLeast bound word → c < bound → rest_of bound (word ++ c ∷ rest) ≡ c ∷ rest
+unfolding rest_of
+rest_word bound [] c rest all low =
+    let yes : nat_lt c bound ≡ true = grind (arith, nat_tests) in
+    rw yes refl
+rest_word bound (x ∷ word) c rest all low =
+    let high : bound ≤ x = high_head bound x word all in
+    let no : nat_lt x bound ≡ false = grind (arith, nat_tests) in
+    rw no (rest_word bound word c rest (high_tail bound x word all) low)
+
+pub name_high : (name : List ℕ) → IsName name → AtLeast 33 name
+name_high name all = All-weaker (λ (c : ℕ). 32 < c) (λ (c : ℕ). 33 ≤ c) (λ c h. omega arith) name all
+
+-- the kinds, numbered
+abbrev pub kind : Line → ℕ
+kind (Power lane card apps) = 1
+kind (PowerCanned lane card) = 2
+kind (PowerTorn lane card) = 3
+kind (ToCard lane bytes) = 4
+kind (FromCard lane bytes) = 5
+kind (Torn lane) = 6
+kind (Gone lane) = 7
+kind (ToHost lane bytes) = 8
+kind (FromHost lane bytes) = 9
+kind (NoReply lane) = 10
+kind (End lane number parts) = 11
+kind (SettleCall lane bytes) = 12
+kind (SettleReply lane bytes) = 13
+kind (AuditPower card apps) = 14
+kind (AuditAsk card bytes) = 15
+kind (AuditAnswer card bytes) = 16
+kind (Balance pan amount) = 17
+kind (Done number) = 18
+kind (Object tag value) = 19
+kind ReadOk = 20
+kind (ReadEnded ending) = 21
+
+-- behind `power` and a name
+power_mark : List ℕ → ℕ
+power_mark text = if slice_index text 1 == 99 then 2 else if slice_index text 1 == 116 then 3 else 1
+
+-- by the first character of an answer
+answer_mark : ℕ → ℕ
+answer_mark c = if c == 116 then 6 else if c == 103 then 7 else 5
+
+reply_mark : ℕ → ℕ
+reply_mark c = if c == 110 then 10 else 9
+
+-- behind a lane's number
+lane_mark : List ℕ → ℕ
+lane_mark text =
+    if slice_index text 1 == 112 then power_mark (rest_of 33 (drop 7 text))
+    else if slice_index text 1 == 62 then 4
+    else if slice_index text 1 == 60 then answer_mark (slice_index text 3)
+    else if slice_index text 1 == 104 then (if slice_index text 6 == 62 then 8 else reply_mark (slice_index text 8))
+    else 11
+
+settle_mark : List ℕ → ℕ
+settle_mark text = if slice_index text 1 == 62 then 12 else 13
+
+audit_mark : List ℕ → ℕ
+audit_mark text = if slice_index text 1 == 112 then 14 else if slice_index text 1 == 62 then 15 else 16
+
+read_mark : ℕ → ℕ
+read_mark c = if c == 111 then 20 else 21
+
+line_mark : List ℕ → ℕ
+line_mark text =
+    if slice_index text 0 == 76 then lane_mark (rest_of 48 (drop 1 text))
+    else if slice_index text 0 == 83 then settle_mark (rest_of 48 (drop 1 text))
+    else if slice_index text 0 == 65 then audit_mark (rest_of 33 (drop 2 text))
+    else if slice_index text 0 == 98 then 17
+    else if slice_index text 0 == 100 then 18
+    else if slice_index text 0 == 111 then 19
+    else read_mark (slice_index text 5)
+
+lane_line : (lane : ℕ) (rest : List ℕ) → IsCount lane → line_mark (76 ∷ (decimal lane ++ 32 ∷ rest)) ≡ lane_mark (32 ∷ rest)
+unfolding line_mark
+lane_line lane rest h = ap lane_mark (rest_word 48 (decimal lane) 32 rest (decimal_high lane h) (omega arith))
+
+settle_line : (lane : ℕ) (rest : List ℕ) → IsCount lane → line_mark (83 ∷ (decimal lane ++ 32 ∷ rest)) ≡ settle_mark (32 ∷ rest)
+unfolding line_mark
+settle_line lane rest h = ap settle_mark (rest_word 48 (decimal lane) 32 rest (decimal_high lane h) (omega arith))
+
+audit_line : (card rest : List ℕ) → IsName card → line_mark (65 ∷ 32 ∷ (card ++ 32 ∷ rest)) ≡ audit_mark (32 ∷ rest)
+unfolding line_mark
+audit_line card rest h = ap audit_mark (rest_word 33 card 32 rest (name_high card h) (omega arith))
+
+power_line : (lane : ℕ) (card : List ℕ) (c : ℕ) (rest : List ℕ) → IsCount lane → IsName card → c < 33
+    → line_mark (76 ∷ (decimal lane ++ (codes " power " ++ (card ++ c ∷ rest)))) ≡ power_mark (c ∷ rest)
+unfolding lane_mark
+power_line lane card c rest h name low = lane_line lane _ h ∙ ap power_mark (rest_word 33 card c rest (name_high card name) low)
+
+power_low : (text : List ℕ) → slice_index text 1 < 58 → power_mark text ≡ 1
+unfolding power_mark
+power_low text low = grind (arith, nat_tests)
+
+answer_low : (c : ℕ) → c < 103 → answer_mark c ≡ 5
+unfolding answer_mark
+answer_low c low = grind (arith, nat_tests)
+
+reply_low : (c : ℕ) → c < 103 → reply_mark c ≡ 9
+unfolding reply_mark
+reply_low c low = grind (arith, nat_tests)
+
+ending_mark : (ending : Ending) → line_mark (codes "read " ++ (ending_text ending ++ 10 ∷ [])) ≡ 21
+unfolding line_mark read_mark ending_text
+ending_mark (ending.Approved online) = refl
+ending_mark (ending.Declined online) = refl
+ending_mark (ending.Terminated step cause) = refl
+ending_mark (ending.CutOff step) = refl
+
+marked : (line : Line) → IsTold line → line_mark (flat_text line) ≡ kind line
+unfolding IsTold line_mark lane_mark settle_mark audit_mark answer_mark reply_mark read_mark power_mark
+marked (Power lane card apps) t =
+    let start = begun apps.items t.2 in
+    let whole : line_mark (76 ∷ (decimal lane ++ (codes " power " ++ (card.items ++ start.first ∷ start.rest)))) ≡ power_mark (start.first ∷ start.rest) =
+    power_line lane card.items start.first start.rest t.0 t.1 start.low in
+    rw start.is (whole ∙ power_low (start.first ∷ start.rest) start.digit)
+marked (PowerCanned lane card) t = power_line lane card.items 32 _ t.0 t.1 (omega arith)
+marked (PowerTorn lane card) t = power_line lane card.items 32 _ t.0 t.1 (omega arith)
+marked (ToCard lane bytes) t = lane_line lane _ t.0
+marked (FromCard lane bytes) t = lane_line lane _ t.0 ∙ answer_low _ (dash_first bytes.items (10 ∷ []) t.1)
+marked (Torn lane) t = lane_line lane _ t
+marked (Gone lane) t = lane_line lane _ t
+marked (ToHost lane bytes) t = lane_line lane _ t.0
+marked (FromHost lane bytes) t = lane_line lane _ t.0 ∙ reply_low _ (dash_first bytes.items (10 ∷ []) t.1)
+marked (NoReply lane) t = lane_line lane _ t
+marked (End lane number parts) t = lane_line lane _ t.0
+marked (SettleCall lane bytes) t = settle_line lane _ t.0
+marked (SettleReply lane bytes) t = settle_line lane _ t.0
+marked (AuditPower card apps) t = audit_line card.items _ t.0
+marked (AuditAsk card bytes) t = audit_line card.items _ t.0
+marked (AuditAnswer card bytes) t = audit_line card.items _ t.0
+marked (Balance pan amount) t = refl
+marked (Done number) t = refl
+marked (Object tag value) t = refl
+marked ReadOk t = refl
+marked (ReadEnded ending) t = ending_mark ending
+
+pub same_kind : (a b : Line) → flat_text a ≡ flat_text b → IsTold a → IsTold b → IsTrue (kind a == kind b)
+same_kind a b e ta tb =
+    let same : kind a ≡ kind b = sym (marked a ta) ∙ ap line_mark e ∙ marked b tb in
+    grind (arith, nat_tests)
