@@ -378,11 +378,12 @@ losses_are_told s place n choices lines w fits reached = (reached_lines s (IsLos
 -- the lines at the end tell none
 quiet-append : (xs ys : List Line) → AreQuiet xs → AreQuiet ys → AreQuiet (xs ++ ys)
 quiet-append [] ys first second = second
-quiet-append (x ∷ xs) ys first second = by (tells_power x) first
+quiet-append (x ∷ xs) ys first second = by (tells_power x) first (λ none. quiet-append xs ys none second)
   where
-    by : (b : Bool) → (b || list_any tells_power xs) ≡ false → (b || list_any tells_power (xs ++ ys)) ≡ false
-    by true none = cc
-    by false none = quiet-append xs ys none second
+    by : (b : Bool) → (b || list_any tells_power xs) ≡ false → (list_any tells_power xs ≡ false → list_any tells_power (xs ++ ys) ≡ false)
+        → (b || list_any tells_power (xs ++ ys)) ≡ false
+    by true none more = none
+    by false none more = more none
 
 quiet_balance : (pan : List ℕ) (o : Option ℤ) → AreQuiet (balance_line pan o)
 quiet_balance pan None = refl
