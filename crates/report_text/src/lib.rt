@@ -10,7 +10,7 @@ pub mod write;
 
 pub use command_line::usage;
 pub use line::{EndParts, Line, Shown};
-pub use write::{Text, write_line};
+pub use write::{Text, end_parts, write_line};
 
 #[cfg(test)]
 mod tests;

@@ -74,7 +74,7 @@ pub(crate) fn hex(out: &mut Text, bytes: &[u8])
 
 /// At most 2,048 bytes in hexadecimal, or a dash where there are none.
 #[tactic(auto, unfolding(crate::specs::Pieces::hex_or_dash))]
-pub(crate) fn hex_or_dash(out: &mut Text, bytes: &[u8])
+pub fn hex_or_dash(out: &mut Text, bytes: &[u8])
     requires few { length bytes.now ≤ 2048 }
     requires room { array_vec_len out.old + (2 * length bytes.now + 1) ≤ 8192 }
     ensures text { out.new.items ≡ out.old.items ++ hex_or_dash bytes.now }

@@ -231,9 +231,10 @@ fn shown(out: &mut Text, state: &Shown)
     number(out, u64::from(state.flags));
 }
 
-/// How a payment ended, with its flags and results.
+/// How a payment ended, with its flags and results, behind what is there: at most 1,000 bytes, for which there
+/// is room.
 #[tactic(auto, unfolding(crate::specs::Text::parts_text))]
-fn end_parts(out: &mut Text, parts: &EndParts)
+pub fn end_parts(out: &mut Text, parts: &EndParts)
     requires { array_vec_len out.old + 1000 ≤ 8192 }
     ensures text { out.new.items ≡ out.old.items ++ parts_text parts.now }
     ensures len { array_vec_len out.new ≤ array_vec_len out.old + 1000 }

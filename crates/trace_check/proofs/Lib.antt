@@ -1,0 +1,4 @@
+pub mod Closing
+pub mod Lawful
+pub mod Left
+pub mod Spelling

@@ -1,0 +1,91 @@
+-- The trace that a terminal's dialogue has on the card's and the host's replies.
+use Rattle.std.specs.Prelude.{ℕ, Bool, true, false, List, [], ◌∷◌, ◌++◌, Option, Some, None, option_map, option_to_list, if◌then◌else◌}
+use Rattle.std.specs.List.{flat_map}
+use Rattle.kernel.specs.Course.{Standing}
+use Rattle.kernel.specs.Dialogue.{dialogue}
+use Rattle.kernel.specs.Ended.{EndData, end_with}
+use Rattle.kernel.specs.Reply.{Reply, Deed}
+use Rattle.kernel.specs.Reply as said
+use Rattle.kernel.specs.Shown.{EndShown, shown}
+use Rattle.report_text.specs.Text.{parts_text}
+use Rattle.report_text.specs.declared.line.EndParts.{EndParts}
+use Rattle.terminal_state.specs.Marks.{Mark, moment, latest, card_of}
+use Rattle.terminal_state.specs.Terminal.{Deal}
+use Rattle.trace_check.specs.declared.entry.Entry.{Entry}
+use Rattle.trace_check.specs.declared.entry.Entry.TheVariants.{ToCard, CardSaid, CardGone, ToHost, HostSaid, HostSilent, End}
+
+-- what an end line tells of an end
+abbrev pub parts_of : EndShown → EndParts
+parts_of shown = record {
+  ending = shown.ending;
+  tvr = record { 0 = shown.tvr };
+  tsi = record { 0 = shown.tsi };
+  cvm = shown.cvm;
+  arc = shown.code;
+  atc_ac = option_map (λ ac. (ac.counter, ac.cryptogram)) shown.last;
+  scripts = record { items = shown.scripts };
+}
+
+-- its text behind the purchase's number
+abbrev pub end_text : EndShown → List ℕ
+end_text shown = parts_text (parts_of shown)
+
+-- a terminal's log of earlier purchases is empty to a trace
+abbrev pub reply_in : Entry → Option Reply
+reply_in (ToCard command) = None
+reply_in (CardSaid answer) = Some (said.CardSaid answer [])
+reply_in CardGone = Some said.CardGone
+reply_in (ToHost message) = None
+reply_in (HostSaid reply) = Some (said.HostSaid reply)
+reply_in HostSilent = Some said.HostSilent
+reply_in (End text) = None
+
+-- the replies of a trace, in their order
+abbrev pub replies_in : List Entry → List Reply
+replies_in entries = flat_map (λ entry. option_to_list (reply_in entry)) entries
+
+-- a reply as an entry
+abbrev pub entry_of_reply : Reply → Entry
+entry_of_reply (said.CardSaid answer log) = CardSaid answer
+entry_of_reply said.CardGone = CardGone
+entry_of_reply (said.HostSaid reply) = HostSaid reply
+entry_of_reply said.HostSilent = HostSilent
+
+-- a command awaits the card's reply, a message the host's, and an end none
+abbrev pub of_card : Reply → Bool
+of_card (said.CardSaid answer log) = true
+of_card said.CardGone = true
+of_card (said.HostSaid reply) = false
+of_card said.HostSilent = false
+
+abbrev pub of_host : Reply → Bool
+of_host (said.CardSaid answer log) = false
+of_host said.CardGone = false
+of_host (said.HostSaid reply) = true
+of_host said.HostSilent = true
+
+abbrev pub is_awaited : Deed → Reply → Bool
+is_awaited (said.ToCard command) reply = of_card reply
+is_awaited (said.ToHost message) reply = of_host reply
+is_awaited (said.Over ending) reply = false
+
+-- what the terminal does next, as an entry
+abbrev pub entry_of_deed : Deal → List Mark → Deed → Entry
+entry_of_deed deal marks (said.ToCard command) = ToCard command
+entry_of_deed deal marks (said.ToHost message) = ToHost message
+entry_of_deed deal marks (said.Over ending) = End (end_text (shown (end_with deal ending (latest card_of None marks) (moment marks))))
+
+abbrev pub entry_at : Deal → Standing Mark → Entry
+entry_at deal standing = entry_of_deed deal standing.marks standing.deed
+
+-- behind these replies: what the terminal does, and each time the reply that comes to it, up to one that it does not
+-- await
+abbrev pub own_behind : Deal → List Reply → List Reply → List Entry
+own_behind deal before [] = entry_at deal (dialogue deal before) ∷ []
+own_behind deal before (reply ∷ later) =
+    entry_at deal (dialogue deal before)
+    ∷ (if is_awaited (dialogue deal before).deed reply then entry_of_reply reply ∷ own_behind deal (before ++ reply ∷ []) later else [])
+
+-- the dialogue's own trace on these replies
+abbrev pub own_trace : Deal → List Reply → List Entry
+own_trace deal replies = own_behind deal [] replies

@@ -1,0 +1,6 @@
+pub mod Document
+pub mod Dialogues
+pub mod Laws
+pub mod Loop
+pub mod Texts
+pub mod Verdicts

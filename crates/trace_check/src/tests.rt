@@ -1,0 +1,161 @@
+use crate::{Verdict, check, read_trace};
+use std::alloc::{AllocError, Global};
+use std::test::Fail;
+
+const KEY: &str = "pin_key = \"6789ABCDEF0123459876543210FEDCBA\"\n";
+
+const LANE: &str = r#"[lane]
+kind = 22
+country = "840"
+caps = "E0B8C8"
+id = "TERM0001"
+
+[[lane.aid]]
+name = "A0000000031010"
+version = "0096"
+denial = "0010000000"
+online = "7068BC9800"
+default = "7068BCF800"
+floor = 10000
+threshold = 5000
+target = 10
+max_target = 50
+"#;
+
+const PURCHASE: &str = r#"[[lane.purchase]]
+card = "c1"
+amount = 2500
+currency = "840"
+date = "240615"
+time = "120000"
+number = 16909060
+word = 49
+pins = ["1234"]
+"#;
+
+/// A purchase that is approved offline, up to the command for the last online counter: 17 entries.
+const OPENING: &str = r#""> 00a4040007a000000003101000",
+"< 6f168407a0000000031010a50b50064352454449548701019000",
+"> 00a4040007a000000003101000",
+"< 6f168407a0000000031010a50b50064352454449548701019000",
+"> 80a8000002830000", "< 80061c00080103009000", "> 00b2010c00",
+"< 702e5a0847617390010100105f3401015f24032612315f25032401015f280208409f420208409f0702ff009f080200969000",
+"> 00b2020c00",
+"< 70308c159f02069f03069f1a0295055f2a029a039c019f37048d178a029f02069f03069f1a0295055f2a029a039c019f37049000",
+"> 00b2030c00",
+"< 70308e0e000000000000000041035e031f009f0d057068bcf8009f0e0500100000009f0f057068bc98009f1401059f2301099000",
+"> 0020008008241234ffffffffff", "< 9000", "> 80ca9f3600", "< 9f3602000b9000", "> 80ca9f1300""#;
+
+/// The counter that the card gave then, and another one.
+const COUNTER: &str = r#", "< 9f130200099000""#;
+
+const OTHER_COUNTER: &str = r#", "< 9f1302000b9000""#;
+
+/// The cryptogram.
+const CRYPTOGRAM: &str =
+    r#", "> 80ae40001d000000002500000000000000084080000000000840240615000102030400",
+"< 801140000b6114ff966d2fd2320140000103019000""#;
+
+const END: &str =
+    r#", "end approved offline tvr=8000000000 tsi=6800 cvm=410302 arc=Y1 atc=000b ac=6114ff966d2fd232 scripts=-""#;
+
+/// The document with these entries.
+fn document(alloc: Global, parts: &[&str]) -> Result<String, AllocError> {
+    let mut text = String::new(alloc);
+    text.push_str(KEY)?;
+    text.push_str("trace = [")?;
+    for part in parts {
+        text.push_str(part)?;
+    }
+    text.push_str("]\n")?;
+    text.push_str(LANE)?;
+    text.push_str(PURCHASE)?;
+    Ok(text)
+}
+
+/// What a trace of these entries is.
+fn verdict(alloc: Global, parts: &[&str]) -> Result<Verdict, Fail> {
+    let text = document(alloc, parts)?;
+    let trace = read_trace(alloc, text.as_bytes())?;
+    Ok(check(&trace))
+}
+
+#[test]
+fn a_purchase_is_the_same(rt: HostRuntime) -> Result<(), Fail> {
+    let found = verdict(rt.alloc(), &[OPENING, COUNTER, CRYPTOGRAM, END])?;
+    assert_eq!(rt; found, Verdict::Same);
+    Ok(())
+}
+
+#[test]
+fn what_differs_is_counted_from_zero(rt: HostRuntime) -> Result<(), Fail> {
+    let other = verdict(rt.alloc(), &[OPENING, OTHER_COUNTER, CRYPTOGRAM, END])?;
+    assert_eq!(rt; other, Verdict::Differs(18));
+    let cut = verdict(rt.alloc(), &[OPENING, COUNTER, CRYPTOGRAM])?;
+    assert_eq!(rt; cut, Verdict::Differs(20));
+    let behind = verdict(rt.alloc(), &[OPENING, COUNTER, CRYPTOGRAM, END, END])?;
+    assert_eq!(rt; behind, Verdict::Differs(21));
+    let host = verdict(rt.alloc(), &[OPENING, ", \"host < none\""])?;
+    assert_eq!(rt; host, Verdict::Differs(17));
+    assert_eq!(rt; verdict(rt.alloc(), &[])?, Verdict::Differs(0));
+    Ok(())
+}
+
+/// The line of the fault of a document.
+fn refused(alloc: Global, entries: &str, rest: &str) -> Result<Option<String>, AllocError> {
+    let mut text = String::new(alloc);
+    text.push_str(KEY)?;
+    text.push_str(entries)?;
+    text.push_str(LANE)?;
+    text.push_str(PURCHASE)?;
+    text.push_str(rest)?;
+    match read_trace(alloc, text.as_bytes()) {
+        Ok(_) => Ok(None),
+        Err(fault) => Ok(Some(fault.line(alloc)?)),
+    }
+}
+
+/// What is behind the one purchase, the entries, and the fault's line.
+const REFUSED: [(&str, &str, &str); 9] = [
+    ("", "", "refused 2 MissingKey trace\n"),
+    (
+        "link = \"ok\"\n",
+        "trace = []\n",
+        "refused 3 BadValue lane.purchase[0].link\n",
+    ),
+    (
+        "tear = { commit = 1, at = \"release\" }\n",
+        "trace = []\n",
+        "refused 3 BadValue lane.purchase[0].tear\n",
+    ),
+    (
+        PURCHASE,
+        "trace = []\n",
+        "refused 4 OutOfLimit lane.purchase\n",
+    ),
+    (
+        "",
+        "trace = [\"< GONE\"]\n",
+        "refused 3 BadValue trace[0]\n",
+    ),
+    (
+        "",
+        "trace = [\"< gone\", \"> 00A4\"]\n",
+        "refused 3 BadValue trace[1]\n",
+    ),
+    ("", "trace = [\"> 0\"]\n", "refused 3 BadValue trace[0]\n"),
+    ("", "trace = [\"> \"]\n", "refused 3 BadValue trace[0]\n"),
+    ("", "trace = [7]\n", "refused 3 BadValue trace[0]\n"),
+];
+
+#[test]
+fn a_document_that_is_no_trace_is_refused(rt: HostRuntime) -> Result<(), Fail> {
+    for (rest, entries, wanted) in REFUSED {
+        let line = refused(rt.alloc(), entries, rest)?;
+        assert!(rt;
+            line.is_some_and(|line| line.as_str() == wanted),
+            "{wanted}"
+        );
+    }
+    Ok(())
+}
