@@ -152,10 +152,7 @@ const REFUSED: [(&str, &str, &str); 9] = [
 fn a_document_that_is_no_trace_is_refused(rt: HostRuntime) -> Result<(), Fail> {
     for (rest, entries, wanted) in REFUSED {
         let line = refused(rt.alloc(), entries, rest)?;
-        assert!(rt;
-            line.is_some_and(|line| line.as_str() == wanted),
-            "{wanted}"
-        );
+        assert!(rt; line.is_some_and(|line| line.as_str() == wanted));
     }
     Ok(())
 }
