@@ -1,5 +1,5 @@
 -- A reason in words.
-use Rattle.std.specs.Prelude.{ℕ, ◌+◌, ◌-◌, ◌/◌, ◌%◌, ◌==◌, Bool, true, false, if◌then◌else◌, List, [], ◌∷◌, ◌++◌, codes}
+use Rattle.std.specs.Prelude.{ℕ, ◌+◌, ◌-◌, ◌/◌, ◌%◌, ◌==◌, Bool, true, false, if◌then◌else◌, List, [], ◌++◌, codes}
 use Rattle.word_lines.specs.Pieces.{Piece, text, number}
 use Rattle.word_lines.specs.Bits.{bits_between}
 use Rattle.action_words.specs.declared.phrases.TheConstants.{ISSUER, NO_RESULTS, NO_RESULTS_AT_ALL, DENIED, OFFLINE_DEFAULT, TERMINAL_DENIAL, ONLINE_ONLY, ONLINE, OR_ONLINE_ONLY, TERMINAL_ONLINE, OFFLINE_NONE, NONE_SET, OFFLINE_PERHAPS, NO_DEFAULT, NONE_PERHAPS, UNABLE_DEFAULT, UNABLE_ONLINE_ONLY, UNABLE_TERMINAL, UNABLE_NONE, UNEXPLAINED}

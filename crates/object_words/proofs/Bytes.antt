@@ -1,7 +1,6 @@
 -- Bytes that are told one by one.
-use Rattle.std.proofs.Common.{◌≡◌, ℕ, ◌+◌, ◌<◌, ◌≤◌, List, [], ◌∷◌, ◌++◌, length, get_or, drop, ap, ◌∙◌, add-one, drop-cons, refl}
+use Rattle.std.proofs.Common.{◌≡◌, ℕ, ◌+◌, ◌<◌, ◌≤◌, List, [], ◌∷◌, ◌++◌, length, get_or, drop, ap, add-one, drop-cons, refl}
 use Rattle.std.proofs.lemmas.List.{drop_all}
-use Rattle.word_lines.specs.Pieces.{Piece}
 use Rattle.object_words.specs.Bits.{bit_numbers_from, byte_bits, bit_words_from, byte_words}
 
 -- the bytes from a place on: the first, and those behind it

@@ -1,13 +1,12 @@
 -- Values that the issuer gives or reads, in words.
-use Rattle.std.specs.Prelude.{ℕ, ◌+◌, ◌*◌, ◌/◌, ◌%◌, ◌==◌, Bool, ◌&&◌, ◌||◌, not, nat_le, nat_lt, if◌then◌else◌, List, [], ◌∷◌, ◌++◌, length, map, slice_index, take, drop, bit_and, codes, Option, Some, None, option_map}
-use Rattle.std.specs.Borrow.{Bor}
-use Rattle.word_lines.specs.Pieces.{Piece, text, number, hex, word_or}
+use Rattle.std.specs.Prelude.{ℕ, ◌+◌, ◌*◌, ◌/◌, ◌==◌, Bool, ◌&&◌, not, nat_le, if◌then◌else◌, List, [], ◌∷◌, ◌++◌, length, map, slice_index, bit_and, codes, Option, Some, None}
+use Rattle.word_lines.specs.Pieces.{Piece, text, hex, word_or}
 use Rattle.explain_words.specs.Words.{word_in}
 use Rattle.explain_words.specs.declared.bits.TheConstants.{UPDATE_BITS}
 use Rattle.explain_words.specs.declared.codes.TheConstants.{CRYPTOGRAMS, RESPONSES}
 use Rattle.object_words.specs.Bits.{behind_comma, bit_words}
 use Rattle.object_words.specs.Plain.{told_if}
-use Rattle.object_words.specs.declared.phrases.TheConstants.{OFFLINE_APPROVALS, APPLICATION_BLOCKED, AUTHENTICATION_FAILED, STATUS_UPDATE, RESPONSE_CRYPTOGRAM, REFUSED}
+use Rattle.object_words.specs.declared.phrases.TheConstants.{STATUS_UPDATE, REFUSED}
 
 -- the kind of cryptogram of a byte's two high bits, behind a comma (EMV 4.3 Book 3 section 6.5.5.4)
 abbrev pub kind_words : ℕ → List Piece

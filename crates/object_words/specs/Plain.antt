@@ -1,5 +1,5 @@
 -- Values that are numbers, digits or characters, in words: none where a value is of another length or content.
-use Rattle.std.specs.Prelude.{ℕ, ◌+◌, ◌*◌, ◌%◌, ◌^◌, ◌-◌, ◌==◌, Bool, true, not, ◌&&◌, nat_le, if◌then◌else◌, min, List, [], ◌∷◌, ◌++◌, length, slice_index, codes, Option, Some, None, unwrap_or}
+use Rattle.std.specs.Prelude.{ℕ, ◌+◌, ◌*◌, ◌%◌, ◌^◌, ◌-◌, ◌==◌, Bool, not, ◌&&◌, nat_le, if◌then◌else◌, min, List, [], ◌∷◌, ◌++◌, length, slice_index, codes, Option, Some, None, unwrap_or}
 use Rattle.std.specs.List.{fold, list_all}
 use Rattle.word_lines.specs.Pieces.{Piece, text, number, hex}
 use Rattle.emv_dict.specs.Bcd as bcd

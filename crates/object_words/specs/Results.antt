@@ -1,6 +1,6 @@
 -- Terminal verification results bit by bit, with the action codes that have each bit (EMV 4.3 Book 3 section 10.7 and
 -- Annex C5).
-use Rattle.std.specs.Prelude.{ℕ, ◌+◌, ◌-◌, ◌*◌, ◌/◌, ◌%◌, ◌^◌, ◌==◌, Bool, true, false, ◌||◌, if◌then◌else◌, List, [], ◌∷◌, ◌++◌, map, codes, Option, Some, None, option_map}
+use Rattle.std.specs.Prelude.{ℕ, ◌+◌, ◌-◌, ◌*◌, ◌/◌, ◌%◌, ◌^◌, ◌==◌, Bool, true, false, ◌||◌, if◌then◌else◌, List, [], ◌++◌, map, codes, Option, Some, None, option_map}
 use Rattle.std.specs.Borrow.{Bor}
 use Rattle.word_lines.specs.Pieces.{Piece, line, text, number}
 use Rattle.word_lines.specs.Bits.{has_bit, bits_from, bits_between}

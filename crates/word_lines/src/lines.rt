@@ -1,5 +1,5 @@
 //! The buffer of the lines.
-ghost use Rattle.std.specs.Prelude.{◌≡◌, ◌++◌, ◌≤◌, ◌∷◌, [], map, true, false, OnOk};
+ghost use Rattle.std.specs.Prelude.{◌≡◌, ◌++◌, ◌≤◌, ◌∷◌, [], true, false, OnOk};
 ghost use Rattle.word_lines.specs.Lines.{AreWordLines, begun, closed, opened, shown, stage_of};
 ghost use Rattle.word_lines.specs.Pieces as piece;
 ghost use Rattle.word_lines.specs.Pieces.{Tells};
