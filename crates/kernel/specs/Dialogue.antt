@@ -5,7 +5,7 @@ use Rattle.std.specs.Prelude.{ℕ, Bool, true, false, ◌==◌, ◌||◌, if◌t
 use Rattle.std.specs.Str.{bytes_eq}
 use Rattle.action_analysis.specs.Analysed.{codes_of, wanted, unable}
 use Rattle.app_select.specs.Candidates.{CandidateData}
-use Rattle.app_select.specs.Selecting.{SelectedData, final, selecting}
+use Rattle.app_select.specs.Selecting.{SelectedData, final}
 use Rattle.auth_message.specs.Reply.{ReplyData, reply_of}
 use Rattle.auth_message.specs.declared.fault.MessageFault.{MessageFault}
 use Rattle.cvm_list.specs.Begun.{cvm}
@@ -26,6 +26,7 @@ use Rattle.object_lists.specs.CardRead.{ReadCard}
 use Rattle.online_step.specs.Authenticate.{authenticated}
 use Rattle.online_step.specs.Generate.{generated, list_data}
 use Rattle.online_step.specs.Request.{request_of}
+use Rattle.pse_directory.specs.Directory.{selecting_by}
 use Rattle.read_records.specs.DataRead.{reading}
 use Rattle.read_records.specs.Options.{Opened, initiating}
 use Rattle.restrictions.specs.Restricted.{restricted}
@@ -195,8 +196,12 @@ candidates_left deal [] = over [] (Terminated step.Select NoCandidate)
 candidates_left deal (candidate ∷ left) =
     card_step (cut_off []) step.Select step.Select [] (final candidate left) (opened deal (candidates_left deal left))
 
+-- what follows the application that is selected: its initiation, and where it refuses, the other candidates
+abbrev pub selected_then : Deal → SelectedData → Rest Mark
+selected_then deal selected = initiation deal selected (candidates_left deal selected.left)
+
 -- the dialogue from its first command, before whose answer the card is gone at the power-up
 unfoldable pub dialogue : Deal → List Reply → Standing Mark
 dialogue deal =
-    card_step (cut_off []) step.Power step.Select [] (selecting deal.settings.aids deal.purchase.confirm)
-    (λ selected. initiation deal selected (candidates_left deal selected.left)) []
+    card_step (cut_off []) step.Power step.Select [] (selecting_by deal.settings.pse deal.settings.aids deal.purchase.confirm)
+    (selected_then deal) []

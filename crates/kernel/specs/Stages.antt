@@ -11,9 +11,8 @@ use Rattle.emv_dict.specs.declared.ending.Step.TheVariants as step
 use Rattle.emv_dict.specs.declared.purchase.Logged.{Logged}
 use Rattle.env_map.specs.Entries.{Entries}
 use Rattle.kernel.specs.Course.{Standing, Rest, over, card_step, cut_off, host_step}
-use Rattle.kernel.specs.Dialogue.{Trade, initiation, granted, candidates_left, restrictions, risk, analysis, first_answered, replied, issuer_scripts, scripts_before, scripts_behind, decision, left_script}
+use Rattle.kernel.specs.Dialogue.{Trade, selected_then, granted, candidates_left, restrictions, risk, analysis, first_answered, replied, issuer_scripts, scripts_before, scripts_behind, decision, left_script}
 use Rattle.kernel.specs.Reply.{Reply}
-use Rattle.kernel.specs.declared.stage.AtSelect.{AtSelect}
 use Rattle.kernel.specs.declared.stage.Opening.{Opening}
 use Rattle.kernel.specs.declared.stage.Opening.TheVariants as opening
 use Rattle.kernel.specs.declared.stage.Trading.{Trading}
@@ -22,6 +21,7 @@ use Rattle.object_lists.specs.CardRead.{ReadCard}
 use Rattle.online_step.specs.Ac.{ac_of}
 use Rattle.online_step.specs.Authenticate.{verdict_of, after_verdict}
 use Rattle.online_step.specs.Generate.{after_ac}
+use Rattle.pse_directory.specs.Left.{rest_of as directory_rest}
 use Rattle.read_records.specs.DataRead.{reading}
 use Rattle.read_records.specs.Options.{initiated}
 use Rattle.risk_mgmt.specs.Asked.{rest_of as judging_rest}
@@ -97,14 +97,15 @@ pub record Begins (t : Table) (card : ReadCard) (marks : List Mark) (rest start 
   pub read : latest card_of None marks ≡ Some card
 
 -- before the answer to the first command the card is gone at the power-up
-abbrev pub cut_of : AtSelect → Step
-cut_of s = (if s.begun then step.Select else step.Power)
+abbrev pub cut_of : Bool → Step
+cut_of begun = (if begun then step.Select else step.Power)
 
 -- before the card is read, with its objects so far
 abbrev pub opening_rest : Table → Entries → Opening → Rest Mark
+opening_rest t objects (opening.Directory s) =
+    card_step (cut_off []) (cut_of s.begun) step.Select [] (directory_rest s.listing) (selected_then (deal_of t))
 opening_rest t objects (opening.Select s) =
-    card_step (cut_off []) (cut_of s) step.Select [] (rest_with s.search t.candidates)
-    (λ selected. initiation (deal_of t) selected (candidates_left (deal_of t) selected.left))
+    card_step (cut_off []) (cut_of s.begun) step.Select [] (rest_with s.search t.candidates) (selected_then (deal_of t))
 opening_rest t objects (opening.Initiate s) =
     card_step (cut_off []) step.Initiate step.Initiate [] (initiated s.initiating)
     (granted (deal_of t) s.choice.row (candidates_left (deal_of t) t.candidates))
@@ -114,6 +115,7 @@ opening_rest t objects (opening.Read s) =
 opening_rest t objects (opening.Over ending) = over [] ending
 
 abbrev pub OpeningShows : Table → Entries → Opening → Type 0
+OpeningShows t objects (opening.Directory s) = directory_rest s.listing [] ≡ Wants t.command.items
 OpeningShows t objects (opening.Select s) = rest_with s.search t.candidates [] ≡ Wants t.command.items
 OpeningShows t objects (opening.Initiate s) = initiated s.initiating [] ≡ Wants t.command.items
 OpeningShows t objects (opening.Read s) = reading (record { entries = objects; left = s.course }) [] ≡ Wants t.command.items
