@@ -1,6 +1,7 @@
 -- The first of each name, at most 16, as one candidate more comes.
-use Rattle.std.proofs.Common.{◌≡◌, ◌≤◌, ◌<◌, ℕ, ◌+◌, ◌||◌, Bool, true, false, nat_le, List, [], ◌∷◌, ◌++◌, length, take, fold, refl, sym, ap, ◌∙◌, arith, if◌then◌else◌, append_assoc, append-nil, length-append}
-use Rattle.std.specs.List.{list_any}
+use Rattle.std.proofs.Common.{◌≡◌, ◌≤◌, ◌<◌, ℕ, zero, suc, ◌||◌, Bool, true, false, nat_le, List, [], ◌∷◌, ◌++◌, length, take, fold, refl, sym, ap, ◌∙◌, arith, if◌then◌else◌, append_assoc, append-nil, length-append}
+use Rattle.std.specs.List.{AllByRecursion, list_any}
+use Rattle.std.specs.Str.{bytes_eq}
 use Rattle.std.proofs.lemmas.Bool.Decides.{nat_tests}
 use Rattle.std.proofs.lemmas.List.{take_all, take-append-le, length-take-le, length_push}
 use Rattle.app_select.specs.Candidates.{CandidateData, has_name, firsts_behind, firsts}
@@ -117,3 +118,17 @@ few_by all false is =
 
 pub kept-few : (found : List CandidateData) → length (kept found) ≤ 16
 kept-few found = few_by (firsts found) (nat_le 16 (length (firsts found))) refl
+
+apart_front : (first : CandidateData) (count : ℕ) (all : List CandidateData) → AllByRecursion (λ other. bytes_eq first.name other.name ≡ false) all
+    → AllByRecursion (λ other. bytes_eq first.name other.name ≡ false) (take count all)
+apart_front first zero all holds = tt
+apart_front first (suc count) [] holds = tt
+apart_front first (suc count) (one ∷ all) holds = (holds.0, apart_front first count all holds.1)
+
+distinct_front : (count : ℕ) (all : List CandidateData) → HasDistinctNames all → HasDistinctNames (take count all)
+distinct_front zero all distinct = tt
+distinct_front (suc count) [] distinct = tt
+distinct_front (suc count) (first ∷ all) distinct = (apart_front first count all distinct.0, distinct_front count all distinct.1)
+
+pub kept-distinct : (found : List CandidateData) → HasDistinctNames (kept found)
+kept-distinct found = distinct_front 16 (firsts found) (firsts-distinct found)

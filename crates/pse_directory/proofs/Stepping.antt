@@ -4,10 +4,12 @@ use Rattle.std.specs.Prelude.{⊤}
 use Rattle.std.specs.declared.option.Option.{Option}
 use Rattle.std.specs.declared.result.Result.{Result}
 use Rattle.std.proofs.lemmas.Bool.Decides.{nat_tests}
+use Rattle.apdu_core.specs.Command.{record_command}
 use Rattle.apdu_core.specs.Response.{ResponseData, response_of}
 use Rattle.apdu_core.specs.Status.{no_error, function_not_supported}
 use Rattle.app_select.specs.Candidates.{CandidateData, candidates}
 use Rattle.app_select.specs.Fci.{fci_of}
+use Rattle.app_select.specs.Said.{select_command}
 use Rattle.app_select.proofs.Ranks.{none_found}
 use Rattle.ber_tlv.specs.Direct.{first_value, sole_value}
 use Rattle.ber_tlv.specs.Item.{ItemData}
@@ -16,10 +18,10 @@ use Rattle.ber_tlv.specs.declared.item.TlvFault.{TlvFault}
 use Rattle.emv_dict.specs.Progress.{Progress, Wants, Stopped}
 use Rattle.emv_dict.specs.declared.ending.Cause.TheVariants.{Answer, CardBlocked}
 use Rattle.emv_dict.specs.declared.purchase.AidRow.{AidRow}
-use Rattle.pse_directory.specs.Directory.{kept, listed_in, done, told, records, directory}
+use Rattle.pse_directory.specs.Directory.{kept, listed_in, done, told, records, directory, directory_name}
 use Rattle.pse_directory.specs.Entries.{EntryData}
 use Rattle.pse_directory.specs.Keeping.{kept_with, with_entries}
-use Rattle.pse_directory.specs.Left.{PlaceData, AtName, AtRecord, DirectoryData, directory_left}
+use Rattle.pse_directory.specs.Left.{PlaceData, AtName, AtRecord, DirectoryData, left_at, directory_left}
 use Rattle.pse_directory.specs.Said as said
 use Rattle.pse_directory.specs.Said.{NameSaid, RecordSaid, Unreadable, Past, Holds, Faulty, name_said, record_said, file_number, file_in, file_in_proprietary, file_in_items, file_in_template, directory_file, said_file, name_response}
 use Rattle.pse_directory.proofs.Entering.{entries_kept}
@@ -108,13 +110,13 @@ module _ (rows : List AidRow) (confirm : Bool) (answer : List ℕ) where
   name_nothing is later = rw (is, none_found confirm) refl
 
 -- a directory always asks before its next answer
+wants_at : (rows : List AidRow) (confirm : Bool) (place : PlaceData) → (command : List ℕ) × (left_at rows confirm place [] ≡ Wants command)
+unfolding directory records
+wants_at rows confirm AtName = (select_command 0 directory_name, refl)
+wants_at rows confirm (AtRecord sfi number found) = (record_command sfi number, refl)
+
 pub wants_more : (state : DirectoryData) → (command : List ℕ) × (directory_left state [] ≡ Wants command)
 wants_more state = wants_at state.rows state.confirm state.place
-where
-  wants_at : (rows : List AidRow) (confirm : Bool) (place : PlaceData) → (command : List ℕ) × (directory_left (record { rows = rows; confirm = confirm; place = place }) [] ≡ Wants command)
-  unfolding directory records
-  wants_at rows confirm AtName = (_, refl)
-  wants_at rows confirm (AtRecord sfi number found) = (_, refl)
 
 -- the file of a directory is one of 1 to 10
 abbrev Fits : Option ℕ → Type 0

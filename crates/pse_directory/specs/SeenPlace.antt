@@ -8,9 +8,12 @@ use Rattle.pse_directory.specs.declared.listing.Place.{Place}
 use Rattle.pse_directory.specs.declared.listing.Place.TheVariants as place
 use Rattle.pse_directory.specs.declared.listing.Records.{Records}
 
+abbrev pub seen_records : List AidRow → Records → PlaceData
+seen_records rows r = AtRecord r.sfi r.number (all_named rows r.found.items)
+
 abbrev pub seen_place : List AidRow → Place → PlaceData
 seen_place rows place.Name = AtName
-seen_place rows (place.Record r) = AtRecord r.sfi r.number (all_named rows r.found.items)
+seen_place rows (place.Record r) = seen_records rows r
 
 -- the file is one of 1 to 10; of the applications found, each is the first of its name, and no more than 16 are kept
 pub record IsReading (rows : List AidRow) (r : Records) : Type 0 where

@@ -1,5 +1,5 @@
 //! Selection by the payment system directory (EMV 4.3 Book 1 section 12.3.2).
-ghost use Rattle.std.specs.Prelude.{◌≡◌, ◌<◌, ◌∷◌, ◌++◌, ℕ, [], List};
+ghost use Rattle.std.specs.Prelude.{◌≡◌, ◌<◌, ◌∷◌, ◌++◌, ℕ, true, [], List};
 ghost use Rattle.app_select.specs.Candidates.{CandidateData};
 ghost use Rattle.app_select.specs.Selecting.{SelectedData};
 ghost use Rattle.emv_dict.specs.Progress.{Progress, Wants, Leads};
@@ -8,14 +8,15 @@ ghost use Rattle.pse_directory.specs.Directory.{selecting_by};
 ghost use Rattle.pse_directory.specs.Left.{AtName, directory_left, rest_of, answers_left};
 
 use crate::entry::FoundList;
-use apdu_core::Out;
+use crate::name::write_name;
+use apdu_core::{Out, write_record_command};
 use app_select::{Candidates, Search, Selecting};
 use emv_dict::{Cause, Settings};
 use std::marker::Model;
 
 mod steps;
 
-use steps::{answered, select, select_alone, write_asked};
+use steps::{answered, select, select_alone};
 
 /// A file of the directory, the record in it that is asked for, and the applications of the records before it.
 #[derive(Drop)]
@@ -97,6 +98,7 @@ impl<'s> Listing<'s> {
 
     /// Begins selection for a terminal with these settings, which asks for the directory at first, and at which the
     /// cardholder can confirm an application, or can't.
+    #[tactic(auto, unfolding(crate::specs::Directory::selecting_by))]
     pub fn begin(settings: &'s Settings, confirm: bool) -> Listing<'s>
         requires { IsSettings settings.now }
         ensures is { result ≡ record { rows = settings.entry.now.aids; confirm = confirm; place = AtName } }
@@ -110,10 +112,14 @@ impl<'s> Listing<'s> {
     }
 
     /// Writes the command that the card is to answer, in place of what `out` held.
+    #[tactic(auto, unfolding(crate::specs::Directory::directory, crate::specs::Directory::records))]
     pub fn ask(&self, out: &mut Out)
         ensures wants { directory_left self.now [] ≡ Wants out.new.items }
     {
-        write_asked(&self.place, out);
+        match &self.place {
+            Place::Name => write_name(out),
+            Place::Record(records) => write_record_command(records.sfi, records.number, out),
+        }
     }
 
     /// Goes on with the card's answer: `Ended` exactly where the card is blocked at the directory's name, or the

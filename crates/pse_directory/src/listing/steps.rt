@@ -1,21 +1,19 @@
 //! What an answer for the directory changes.
-ghost use Rattle.std.specs.Prelude.{◌≡◌, ◌≤◌, ◌<◌, ◌+◌, ◌*◌, ◌∷◌, ℕ, true, [], List, Bool};
+ghost use Rattle.std.specs.Prelude.{◌≡◌, ◌≤◌, ◌+◌, ◌*◌, ◌∷◌, ℕ, [], List};
 ghost use Rattle.app_select.specs.Candidates.{candidates as candidates_among};
 ghost use Rattle.app_select.specs.Names.{HaveRows, all_named};
 ghost use Rattle.app_select.specs.Selecting.{SelectedData, opening, selecting};
-ghost use Rattle.emv_dict.specs.Progress.{Progress, Wants, Leads};
+ghost use Rattle.emv_dict.specs.Progress.{Progress, Leads};
 ghost use Rattle.emv_dict.specs.Settings.{IsSettings};
-ghost use Rattle.emv_dict.specs.declared.purchase.AidRow.{AidRow};
 ghost use Rattle.pse_directory.specs.Directory.{done, found_or};
-ghost use Rattle.pse_directory.specs.Left.{AtRecord, left_at, directory_left};
+ghost use Rattle.pse_directory.specs.Left.{AtName, left_at, directory_left};
 ghost use Rattle.pse_directory.specs.Next.{answered_left, GoesOn, DirectoryNextIs, DirectoryNextLeads, DirectoryNextHasRoom, answers_left_next, ListNextIs, ListNextLeads};
-ghost use Rattle.pse_directory.specs.SeenPlace.{seen_place, IsReading};
+ghost use Rattle.pse_directory.specs.SeenPlace.{seen_records, IsReading};
 
 use super::{Answered, DirectoryNext, ListNext, Listing, Place, Records};
 use crate::entry::FoundList;
-use crate::name::{NameSaid, read_name, write_name};
+use crate::name::{NameSaid, read_name};
 use crate::record::{Told, read_record};
-use apdu_core::{Out, write_record_command};
 use app_select::{Candidates, Search, SearchNext, SelectNext, Selecting};
 use emv_dict::{Cause, Settings};
 
@@ -24,17 +22,6 @@ const FIRST_RECORD: u8 = 1;
 
 /// The last record that a file may have.
 const LAST_RECORD: u8 = 255;
-
-/// Writes the command that is to be answered.
-#[tactic(auto, unfolding(crate::specs::Directory::directory, crate::specs::Directory::records))]
-pub(super) fn write_asked(place: &Place, out: &mut Out)
-    ensures { (rows : List AidRow) (confirm : Bool) → IsSound rows place.now → left_at rows confirm (seen_place rows place.now) [] ≡ Wants out.new.items }
-{
-    match place {
-        Place::Name => write_name(out),
-        Place::Record(records) => write_record_command(records.sfi, records.number, out),
-    }
-}
 
 /// Takes the answer.
 pub(super) fn answered<'s>(listing: Listing<'s>, reply: &[u8]) -> Answered<'s>
@@ -85,9 +72,9 @@ fn record_answered<'s>(
     requires settings { IsSettings settings.now }
     requires reading { IsReading settings.now.aids records }
     ensures step { (later : List (List ℕ))
-        → left_at settings.entry.now.aids confirm (seen_place settings.entry.now.aids (Place.Record records.entry)) (reply.now ∷ later)
+        → left_at settings.entry.now.aids confirm (seen_records settings.entry.now.aids records) (reply.now ∷ later)
         ≡ answered_left settings.entry.now.aids confirm result later }
-    ensures on { GoesOn (record { rows = settings.entry.now.aids; confirm = confirm; place = seen_place settings.entry.now.aids (Place.Record records.entry) }) result }
+    ensures on { GoesOn (record { rows = settings.entry.now.aids; confirm = confirm; place = seen_records settings.entry.now.aids records }) result }
 {
     let Records {
         sfi,
