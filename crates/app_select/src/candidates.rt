@@ -7,7 +7,7 @@ ghost use Rattle.app_select.specs.Candidates as spec;
 ghost use Rattle.app_select.specs.SeenCandidate.{seen_candidate, seen_all, is_kept, is_ranked};
 
 use crate::course::Row;
-use crate::names::blank_name;
+use crate::naming::blank_name;
 use arrayvec::ArrayVec;
 use emv_dict::{Name, Settings};
 use std::default::MadeWith;

@@ -8,7 +8,7 @@ ghost use Rattle.app_select.specs.Selecting.{SelectedData, opening, selecting};
 
 use crate::candidates::{Candidate, Candidates};
 use crate::course::{Course, Row};
-use crate::names::Found;
+use crate::naming::Found;
 use apdu_core::Out;
 use arrayvec::ArrayVec;
 use emv_dict::{AidRow, Cause, Settings};
@@ -78,7 +78,7 @@ pub enum SearchNext<'s> {
 
 impl<'s> Search<'s> {
     ghost use Rattle.app_select.specs.NextLeads.{SearchNextLeads, NextHasRoom, answers_left_next};
-    ghost use Rattle.app_select.specs.Names.{BeginsWith, HaveRows, all_named};
+    ghost use Rattle.app_select.specs.Named.{BeginsWith, HaveRows, all_named};
 
     /// Begins selection for a terminal with these settings, at which the cardholder can confirm an
     /// application, or can't. No candidate is found yet.

@@ -6,12 +6,12 @@ ghost use Rattle.emv_dict.specs.declared.purchase.AidRow.{AidRow};
 ghost use Rattle.app_select.specs.Candidates.{CandidateData, candidates as candidates_among};
 ghost use Rattle.app_select.specs.Chosen.{Follow, chosen, first_of, followed};
 ghost use Rattle.app_select.specs.Leading.{rest_of};
-ghost use Rattle.app_select.specs.Names.{BeginsWith, SelectBeginsWith, HaveRows, all_named};
+ghost use Rattle.app_select.specs.Named.{BeginsWith, SelectBeginsWith, HaveRows, all_named};
 ghost use Rattle.app_select.specs.NextLeads.{SearchNextLeads, NextHasRoom, SelectNextLeads};
 ghost use Rattle.app_select.specs.Selecting.{SelectedData, opening, selecting};
 
 use crate::candidates::Candidates;
-use crate::names::{Found, MOST_NAMES};
+use crate::naming::{Found, MOST_NAMES};
 use crate::search::{Choice, Search, SearchNext};
 use apdu_core::Out;
 use arrayvec::ArrayVec;

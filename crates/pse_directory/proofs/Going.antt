@@ -2,7 +2,7 @@
 use Rattle.std.proofs.Common.{◌≡◌, ◌≤◌, ℕ, ◌-◌, ◌++◌, Bool, List, [], ◌∷◌, refl, sym, ap, ◌∙◌, arith}
 use Rattle.app_select.specs.Candidates.{CandidateData}
 use Rattle.app_select.specs.Leading.{SearchData, SelectingData, rest_with, rest_of as selecting_rest}
-use Rattle.app_select.specs.Names.{BeginsWith, SelectBeginsWith}
+use Rattle.app_select.specs.Named.{BeginsWith, SelectBeginsWith}
 use Rattle.app_select.specs.Selecting.{SelectedData, opening, selecting}
 use Rattle.app_select.specs.declared.search.SearchNext.TheVariants as search
 use Rattle.app_select.specs.declared.selecting.SelectNext.TheVariants as select

@@ -6,8 +6,8 @@ use Rattle.std.specs.Str.{bytes_eq}
 use Rattle.std.proofs.lemmas.Bool.Decides.{nat_tests}
 use Rattle.std.proofs.lemmas.List.Folds.{find_at}
 use Rattle.app_select.specs.Candidates.{CandidateData, has_name}
-use Rattle.app_select.specs.Names.{all_named, no_row}
-use Rattle.app_select.specs.declared.names.Found.{Found}
+use Rattle.app_select.specs.Named.{all_named, no_row}
+use Rattle.app_select.specs.declared.naming.Found.{Found}
 use Rattle.emv_dict.specs.declared.purchase.AidRow.{AidRow}
 
 slice_get-there : (rows : List AidRow) (place : ℕ) → place < length rows → slice_get rows place ≡ Some (get_or rows place no_row)

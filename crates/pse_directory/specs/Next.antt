@@ -2,7 +2,7 @@
 use Rattle.std.specs.Prelude.{⊤, ◌≡◌, ◌<◌, ℕ, List, [], ◌∷◌, Bool}
 use Rattle.app_select.specs.Candidates.{CandidateData, candidates}
 use Rattle.app_select.specs.Leading.{rest_with, HasRoom, answers_left as search_answers_left, rest_of as selecting_rest}
-use Rattle.app_select.specs.Names.{HaveRows, all_named}
+use Rattle.app_select.specs.Named.{HaveRows, all_named}
 use Rattle.app_select.specs.Selecting.{SelectedData}
 use Rattle.emv_dict.specs.Progress.{Progress, Wants, Stopped, Done, Leads}
 use Rattle.emv_dict.specs.declared.purchase.AidRow.{AidRow}

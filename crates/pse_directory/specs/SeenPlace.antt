@@ -1,6 +1,6 @@
 -- Where reading of the directory stands, as a contract sees it.
 use Rattle.std.specs.Prelude.{⊤, ◌≡◌, ◌≤◌, List}
-use Rattle.app_select.specs.Names.{HaveRows, all_named}
+use Rattle.app_select.specs.Named.{HaveRows, all_named}
 use Rattle.emv_dict.specs.declared.purchase.AidRow.{AidRow}
 use Rattle.pse_directory.specs.Directory.{kept}
 use Rattle.pse_directory.specs.Left.{PlaceData, AtName, AtRecord}

@@ -3,7 +3,7 @@
 ghost use Rattle.std.specs.Prelude.{◌≡◌, ◌<◌, ◌||◌, false, nat_le, length, option_map, position, Some, None, IfSome, IfNone};
 ghost use Rattle.std.specs.List.{list_any};
 ghost use Rattle.std.specs.Str.{bytes_eq};
-ghost use Rattle.app_select.specs.Names.{HaveRows, all_named};
+ghost use Rattle.app_select.specs.Named.{HaveRows, all_named};
 ghost use Rattle.app_select.specs.Said.{is_supported as supports};
 ghost use Rattle.ber_tlv.specs.Left.{items_of};
 ghost use Rattle.pse_directory.specs.Entries as spec;

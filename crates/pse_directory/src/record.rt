@@ -1,6 +1,6 @@
 //! The answer to READ RECORD of the directory's file (EMV 4.3 Book 1 section 11.2).
 ghost use Rattle.std.specs.Prelude.{◌≡◌, ◌≤◌, length, option_map, Some, None, IfSome, IfNone};
-ghost use Rattle.app_select.specs.Names.{HaveRows, all_named};
+ghost use Rattle.app_select.specs.Named.{HaveRows, all_named};
 ghost use Rattle.ber_tlv.specs.Direct.{sole_value as value_of};
 ghost use Rattle.ber_tlv.specs.Left.{items_of};
 ghost use Rattle.pse_directory.specs.Entries.{entries_in};

@@ -1,7 +1,7 @@
 //! What an answer for the directory changes.
 ghost use Rattle.std.specs.Prelude.{◌≡◌, ◌≤◌, ◌+◌, ◌*◌, ◌∷◌, ℕ, [], List};
 ghost use Rattle.app_select.specs.Candidates.{candidates as candidates_among};
-ghost use Rattle.app_select.specs.Names.{HaveRows, all_named};
+ghost use Rattle.app_select.specs.Named.{HaveRows, all_named};
 ghost use Rattle.app_select.specs.Selecting.{SelectedData, opening, selecting};
 ghost use Rattle.emv_dict.specs.Progress.{Progress, Leads};
 ghost use Rattle.emv_dict.specs.Settings.{IsSettings};

@@ -1,5 +1,5 @@
 use Rattle.std.proofs.Common.{◌≡◌, ◌≤◌, ◌-◌, length}
-use Rattle.app_select.specs.Names.{HaveRows, all_named}
+use Rattle.app_select.specs.Named.{HaveRows, all_named}
 use Rattle.ber_tlv.specs.Left.{items_of, items_behind}
 use Rattle.pse_directory.proofs.Entering.{read_on}
 use Rattle.pse_directory.proofs.record.add_entries.Given as goal

@@ -3,7 +3,7 @@ use Rattle.std.specs.Prelude.{◌≡◌, ℕ, ◌<◌, false, List, [], ◌∷�
 use Rattle.std.specs.List.{All}
 use Rattle.app_select.specs.Candidates.{CandidateData}
 use Rattle.app_select.specs.Leading.{Final}
-use Rattle.app_select.specs.declared.names.Found.{Found}
+use Rattle.app_select.specs.declared.naming.Found.{Found}
 use Rattle.app_select.specs.declared.search.SearchNext.{SearchNext}
 use Rattle.app_select.specs.declared.search.SearchNext.TheVariants as search
 use Rattle.app_select.specs.declared.selecting.SelectNext.{SelectNext}
