@@ -124,11 +124,7 @@ fn ask_directory<'s>(table: &mut Table<'s>, listing: Listing<'s>) -> Opening<'s>
 }
 
 /// How application selection goes on behind an answer for the directory.
-fn directory_next<'s>(
-    table: &mut Table<'s>,
-    objects: &Env,
-    next: DirectoryNext<'s>,
-) -> Opening<'s>
+fn directory_next<'s>(table: &mut Table<'s>, objects: &Env, next: DirectoryNext<'s>) -> Opening<'s>
     requires room { DirectoryNextHasRoom next table.old.candidates }
     requires objects { objects.now ≡ [] }
     requires moment { table.old.moment ≡ moment [] }
@@ -428,9 +424,5 @@ pub(crate) fn on_gone<'s>(state: Opening<'s>) -> Opening<'s>
 fn step_of(begun: bool) -> Step
     ensures { result ≡ cut_of begun }
 {
-    if begun {
-        Step::Select
-    } else {
-        Step::Power
-    }
+    if begun { Step::Select } else { Step::Power }
 }

@@ -50,9 +50,9 @@ records-same rows confirm sfi number one two [] same = refl
 records-same rows confirm sfi number one two (answer ∷ later) same =
     told_same (record_said answer) (candidates confirm (kept one)) (candidates confirm (kept two)) _ _ later (ap (λ (all : List CandidateData). candidates confirm all) same)
     (λ entries.
-        let more = kept-more one two (listed_in rows entries) same in
-        either_same (number == 255) _ _ _ _ (ap (λ (all : List CandidateData). done (candidates confirm all) later) more)
-        (records-same rows confirm sfi (number + 1) (one ++ listed_in rows entries) (two ++ listed_in rows entries) later more))
+    let more = kept-more one two (listed_in rows entries) same in
+    either_same (number == 255) _ _ _ _ (ap (λ (all : List CandidateData). done (candidates confirm all) later) more)
+    (records-same rows confirm sfi (number + 1) (one ++ listed_in rows entries) (two ++ listed_in rows entries) later more))
 
 module _ (rows : List AidRow) (confirm : Bool) (sfi number : ℕ) (found : List CandidateData) (answer : List ℕ) where
   pub record_unread : record_said answer ≡ Unreadable → (later : List (List ℕ)) → records rows confirm sfi number found (answer ∷ later) ≡ Stopped Answer

@@ -45,8 +45,8 @@ records rows confirm sfi number found [] = Wants (record_command sfi number)
 records rows confirm sfi number found (answer ∷ later) =
     told (record_said answer) (candidates confirm (kept found))
     (λ entries.
-        if number == 255 then done (candidates confirm (kept (found ++ listed_in rows entries))) later
-        else records rows confirm sfi (number + 1) (found ++ listed_in rows entries) later)
+    if number == 255 then done (candidates confirm (kept (found ++ listed_in rows entries))) later
+    else records rows confirm sfi (number + 1) (found ++ listed_in rows entries) later)
     later
 
 abbrev pub named : NameSaid → (ℕ → Progress (List CandidateData)) → List (List ℕ) → Progress (List CandidateData)
@@ -62,13 +62,13 @@ directory rows confirm (answer ∷ later) = named (name_said answer) (λ sfi. re
 
 -- what follows the candidates; where there are none, what the list gives
 abbrev pub found_or : {A : Type 0} → (List CandidateData → List (List ℕ) → Progress A) → (List (List ℕ) → Progress A) → List CandidateData → List (List ℕ) → Progress A
-found_or open list [] answers = list answers
-found_or open list (first ∷ behind) answers = open (first ∷ behind) answers
+found_or try list [] answers = list answers
+found_or try list (first ∷ behind) answers = try (first ∷ behind) answers
 
 abbrev pub after_directory : {A : Type 0} → (List CandidateData → List (List ℕ) → Progress A) → (List (List ℕ) → Progress A) → Progress (List CandidateData) → Progress A
-after_directory open list (Wants command) = Wants command
-after_directory open list (Stopped cause) = Stopped cause
-after_directory open list (Done found rest) = found_or open list found rest
+after_directory try list (Wants command) = Wants command
+after_directory try list (Stopped cause) = Stopped cause
+after_directory try list (Done found rest) = found_or try list found rest
 
 -- the final SELECTs of the directory's candidates; where it gives none, the list
 abbrev pub by_directory : List AidRow → Bool → Progress (List CandidateData) → Progress SelectedData

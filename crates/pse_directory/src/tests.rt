@@ -108,10 +108,12 @@ a0000000031010+ yes: name dir > 00b2010c00 7081b861154f08a0000000031010015006435
 
 /// SELECT of the directory, and its answer where the records stand in file 1.
 const NAME: &str = "00a404000e315041592e5359532e444446303100";
+
 const DIRECTORY: &str = "6f15840e315041592e5359532e4444463031a5038801019000";
 
 /// SELECT of the first application, and the answer of a plain card.
 const AID: &str = "00a4040007a000000003101000";
+
 const PLAIN: &str = "6f168407a0000000031010a50b50064352454449548701019000";
 
 fn digit(letter: u8) -> u8

@@ -174,11 +174,7 @@ fn next_row<'s>(
 }
 
 /// Adds applications that the card named.
-pub(super) fn push_named<'s>(
-    rows: &'s [AidRow],
-    found: &[Found],
-    candidates: &mut Candidates<'s>,
-)
+pub(super) fn push_named<'s>(rows: &'s [AidRow], found: &[Found], candidates: &mut Candidates<'s>)
     requires valid { All IsAidRow rows.now }
     requires rows { HaveRows rows.now found.now }
     requires room { length candidates.old + length found.now ≤ 256 }
