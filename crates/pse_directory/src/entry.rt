@@ -74,7 +74,7 @@ fn add(rows: &[AidRow], name: Name, priority: Option<u8>, found: &mut FoundList)
     let Some(aid) = row_of(rows, &name) else {
         return;
     };
-    if is_left_out(found, &name) {
+    if is_left_out(found.as_slice(), &name) {
         return;
     }
     found.push(Found {
@@ -98,9 +98,9 @@ fn has_name(found: &Found, name: &Name) -> bool
 }
 
 /// Whether no application of this name is taken: one is there, or there is no room.
-fn is_left_out(found: &FoundList, name: &Name) -> bool
-    ensures exact { result ≡ (list_any (λ other. bytes_eq other.name name.now) found.now.items || nat_le 16 (length found.now.items)) }
-    ensures room { result ≡ false → length found.now.items < 16 }
+fn is_left_out(found: &[Found], name: &Name) -> bool
+    ensures exact { result ≡ (list_any (λ other. bytes_eq other.name name.now) found.now || nat_le 16 (length found.now)) }
+    ensures room { result ≡ false → length found.now < 16 }
 {
     found.iter().any(|other| has_name(other, name)) || MOST_NAMES <= found.len()
 }

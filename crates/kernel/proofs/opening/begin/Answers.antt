@@ -22,7 +22,7 @@ returns-then-pse-clause-stands c = λ table dealt candidates moment command.
     let deal = deal_of table in
     c.begin_directory.ensures.stands table (dialogue deal) moment command
     (asks_on step.Power step.Select (selecting_by deal.settings.pse deal.settings.aids deal.purchase.confirm) (selected_then deal) [] (dialogue deal) (λ later. refl) _
-    (same_course deal _ _ true _ dealt (ap (λ (s : SettingsData). s.pse) c.settings.view_is ∙ c.if-pse.true) (ap (λ (p : PurchaseData). p.confirm) c.purchase.view_is)))
+    (same_course deal _ _ true _ dealt (sym (ap (λ (s : SettingsData). s.pse) c.settings.view_is) ∙ c.if-pse.true) (sym (ap (λ (p : PurchaseData). p.confirm) c.purchase.view_is))))
 
 pub returns-else-pse-clause-stands : goal.returns-else-pse-clause-stands
 unfolding dialogue
@@ -30,5 +30,5 @@ returns-else-pse-clause-stands c = λ table dealt candidates moment command.
     let deal = deal_of table in
     c.begin_list.ensures.stands table (dialogue deal) candidates moment command
     (asks_on step.Power step.Select (selecting_by deal.settings.pse deal.settings.aids deal.purchase.confirm) (selected_then deal) [] (dialogue deal) (λ later. refl) _
-    (λ later. same_course deal _ _ false _ dealt (ap (λ (s : SettingsData). s.pse) c.settings.view_is ∙ c.if-pse.false) (ap (λ (p : PurchaseData). p.confirm) c.purchase.view_is) later
+    (λ later. same_course deal _ _ false _ dealt (sym (ap (λ (s : SettingsData). s.pse) c.settings.view_is) ∙ c.if-pse.false) (sym (ap (λ (p : PurchaseData). p.confirm) c.purchase.view_is)) later
     ∙ without_directory _ _ later))
