@@ -1,55 +1,144 @@
-ghost use Rattle.std.specs.Prelude.{◌≡◌, ◌+◌, ◌*◌, ◌^◌, ◌<◌, ◌≤◌, [], ◌∷◌, ◌++◌, length, slice_index, if◌then◌else◌};
+ghost use Rattle.std.specs.Prelude.{◌≡◌, ◌+◌, ◌*◌, ◌^◌, ◌<◌, ◌≤◌, [], ◌∷◌, ◌++◌, length, flat_map, slice_index, if◌then◌else◌};
 ghost use Rattle.std.specs.List.{All};
 ghost use Rattle.arrayvec.specs.ArrayVec.{array_vec_len};
-ghost use Rattle.card_state.specs.Encoding.{app_bytes, encoding, flags_of, IsAppState, IsCardState};
+ghost use Rattle.card_state.specs.Encoding.{app_bytes_in, app_bytes_one, AreBytes, encoding, encoding_in, encoding_one, flags_of, IsAppState, IsCardState, IsRow, more_bytes, row_bytes, version_byte};
+ghost use Rattle.card_state.specs.Layout.{size_in};
+ghost use Rattle.card_state.specs.declared.encoding.Version.TheVariants.{Two};
 
-use crate::state::{AppState, CardState};
+use crate::state::{AppState, CardState, LogRow};
 use arrayvec::ArrayVec;
 
-/// Replaces `out` by the state's bytes: 01, the number of applications, 01 for a blocked card or 00,
-/// then 32 bytes an application.
+/// The versions of a state's bytes.
+#[derive(Clone, Copy)]
+pub enum Version {
+    /// Without a second currency and without a transaction log.
+    One,
+    /// With them.
+    Two,
+}
+
+/// Replaces `out` by the state's bytes in version 2: 02, the number of applications, 01 for a blocked card or
+/// 00, then 50 bytes an application and 14 a row of its log.
 #[tactic(auto, unfolding(crate::specs::Encoding::encoding))]
 pub fn encode(state: &CardState, out: &mut ArrayVec<u8, 1024>)
     ensures bytes { out.new.items ≡ encoding state.now }
     ensures ranges { IsCardState state.now }
 {
+    encode_in(Version::Two, state, out);
+}
+
+/// Replaces `out` by the state's bytes in version 1, in which older cards were personalised: 01, the number of
+/// applications, 01 for a blocked card or 00, then 32 bytes an application.
+#[tactic(auto, unfolding(crate::specs::Encoding::encoding_one))]
+pub fn encode_one(state: &CardState, out: &mut ArrayVec<u8, 1024>)
+    ensures bytes { out.new.items ≡ encoding_one state.now }
+    ensures ranges { IsCardState state.now }
+{
+    encode_in(Version::One, state, out);
+}
+
+/// Replaces `out` by the state's bytes in this version.
+#[tactic(auto, unfolding(crate::specs::Encoding::encoding_in))]
+fn encode_in(version: Version, state: &CardState, out: &mut ArrayVec<u8, 1024>)
+    ensures bytes { out.new.items ≡ encoding_in version state.now }
+    ensures ranges { IsCardState state.now }
+{
     out.clear();
-    out.push(1);
+    out.push(byte_of(version));
     out.push(state.apps.len() as u8);
     out.push(u8::from(state.blocked));
     for app in state.apps.as_slice() {
-        append_app(out, app);
+        append_app(out, version, app);
     }
 }
 
-/// Appends the 32 bytes of an application.
-fn append_app(out: &mut ArrayVec<u8, 1024>, app: &AppState)
-    requires { array_vec_len out.old + 32 ≤ 1024 }
-    ensures items { out.new.items ≡ out.old.items ++ app_bytes app.now }
-    ensures len { array_vec_len out.new ≡ array_vec_len out.old + 32 }
-    ensures ranges { IsAppState app.now }
+/// The first byte of a version.
+fn byte_of(version: Version) -> u8
+    ensures { result ≡ version_byte version }
 {
-    let (count, count_limit, tries) = (app.count, app.count_limit, app.tries);
-    append(out, &app.counter.to_be_bytes());
-    append(out, &app.last_online.to_be_bytes());
-    append(out, &[count]);
-    append(out, &app.sum.to_be_bytes());
-    append(out, &[count_limit]);
-    append(out, &app.sum_limit.to_be_bytes());
-    append(out, &[tries]);
-    append(out, &[flags(app)]);
-    append_pin(out, app.pin);
+    match version {
+        Version::One => 1,
+        Version::Two => 2,
+    }
 }
 
-/// Appends a PIN block.
-fn append_pin(out: &mut ArrayVec<u8, 1024>, pin: [u8; 8])
-    requires { array_vec_len out.old + 8 ≤ 1024 }
-    ensures items { out.new.items ≡ out.old.items ++ pin }
-    ensures len { array_vec_len out.new ≡ array_vec_len out.old + 8 }
-    ensures size { length pin ≡ 8 }
-    ensures bytes { All (λ b. b < 2 ^ 8) pin }
+/// Appends the bytes of an application: at most 190.
+fn append_app(out: &mut ArrayVec<u8, 1024>, version: Version, app: &AppState)
+    requires { array_vec_len out.old + 190 ≤ 1024 }
+    ensures items { out.new.items ≡ out.old.items ++ app_bytes_in version app.now }
+    ensures len { array_vec_len out.new ≤ array_vec_len out.old + 190 }
+    ensures ranges { IsAppState app.now }
 {
-    append(out, &pin);
+    append_first(out, app);
+    match version {
+        Version::One => {}
+        Version::Two => {
+            append_more(out, app);
+            append_rows(out, app.log.as_slice());
+        }
+    }
+}
+
+/// Appends the 32 bytes that an application has in both versions.
+fn append_first(out: &mut ArrayVec<u8, 1024>, app: &AppState)
+    requires { array_vec_len out.old + 32 ≤ 1024 }
+    ensures items { out.new.items ≡ out.old.items ++ app_bytes_one app.now }
+    ensures len { array_vec_len out.new ≡ array_vec_len out.old + 32 }
+{
+    append(out, &app.counter.to_be_bytes());
+    append(out, &app.last_online.to_be_bytes());
+    append(out, &[app.count]);
+    append(out, &app.sum.to_be_bytes());
+    append(out, &[app.count_limit]);
+    append(out, &app.sum_limit.to_be_bytes());
+    append(out, &[app.tries]);
+    append(out, &[flags(app)]);
+    append(out, &app.pin);
+}
+
+/// Appends the 18 bytes that version 2 has before the rows.
+fn append_more(out: &mut ArrayVec<u8, 1024>, app: &AppState)
+    requires { array_vec_len out.old + 18 ≤ 1024 }
+    ensures items { out.new.items ≡ out.old.items ++ more_bytes app.now }
+    ensures len { array_vec_len out.new ≡ array_vec_len out.old + 18 }
+{
+    append(out, &app.sum_two.to_be_bytes());
+    append(out, &app.limit_two.to_be_bytes());
+    append(out, &[app.log_max]);
+    append(out, &[rows_in(&app.log)]);
+}
+
+/// The number of rows, as a byte.
+fn rows_in(rows: &ArrayVec<LogRow, 10>) -> u8
+    ensures { result ≡ length rows.now.items }
+{
+    rows.len() as u8
+}
+
+/// Appends rows of a log, 14 bytes each.
+fn append_rows(out: &mut ArrayVec<u8, 1024>, rows: &[LogRow])
+    requires few { length rows.now ≤ 10 }
+    requires room { array_vec_len out.old + 140 ≤ 1024 }
+    ensures items { out.new.items ≡ out.old.items ++ flat_map row_bytes rows.now }
+    ensures len { array_vec_len out.new ≡ array_vec_len out.old + 14 * length rows.now }
+{
+    for row in rows {
+        append_row(out, *row);
+    }
+}
+
+/// Appends a row of a log.
+fn append_row(out: &mut ArrayVec<u8, 1024>, row: LogRow)
+    requires { array_vec_len out.old + 14 ≤ 1024 }
+    ensures items { out.new.items ≡ out.old.items ++ row_bytes row }
+    ensures len { array_vec_len out.new ≡ array_vec_len out.old + 14 }
+    ensures ranges { IsRow row }
+{
+    append(out, &row.raw);
+    append(out, &row.currency);
+    append(out, &row.date);
+    append(out, &row.counter.to_be_bytes());
+    append(out, &[row.kind]);
 }
 
 /// The application's flags: value 1 for blocked, value 2 for a failed issuer authentication.
