@@ -3,8 +3,6 @@
 use Rattle.std.specs.Prelude.{ℕ, ◌≡◌, ◌+◌, ◌^◌, ◌<◌, ◌≤◌, if◌then◌else◌, List, [], ◌∷◌, ◌++◌, length, flat_map}
 use Rattle.std.specs.List.{All}
 use Rattle.std.specs.Int.{to_be_bytes, w16, w64}
-use Rattle.card_state.specs.declared.encoding.Version.{Version}
-use Rattle.card_state.specs.declared.encoding.Version.TheVariants.{One, Two}
 use Rattle.card_state.specs.declared.state.AppState.{AppState}
 use Rattle.card_state.specs.declared.state.CardState.{CardState}
 use Rattle.card_state.specs.declared.state.LogRow.{LogRow}
@@ -32,27 +30,14 @@ row_bytes r = r.raw ++ r.currency ++ r.date ++ to_be_bytes w16 r.counter ++ r.ki
 unfoldable pub app_bytes : AppState → List ℕ
 app_bytes s = app_bytes_one s ++ more_bytes s ++ flat_map row_bytes s.log.items
 
--- the number of a version, which is its first byte, and an application in it
-abbrev pub version_byte : Version → ℕ
-version_byte One = 1
-version_byte Two = 2
-
-abbrev pub app_bytes_in : Version → AppState → List ℕ
-app_bytes_in One s = app_bytes_one s
-app_bytes_in Two s = app_bytes s
-
--- the version, the number of applications, 01 for a blocked card, the applications
-unfoldable pub encoding_in : Version → CardState → List ℕ
-encoding_in version state =
-    version_byte version ∷ length state.apps.items ∷ (if state.blocked then 1 else 0) ∷ flat_map (app_bytes_in version) state.apps.items
-
--- the bytes of a state in version 2, in which every card stores its states
+-- the bytes of a state in version 2, in which every card stores its states: 02, the number of applications, 01 for a
+-- blocked card, the applications
 unfoldable pub encoding : CardState → List ℕ
-encoding state = encoding_in Two state
+encoding state = 2 ∷ length state.apps.items ∷ (if state.blocked then 1 else 0) ∷ flat_map app_bytes state.apps.items
 
--- the bytes of a state in version 1, in which older cards were personalised
+-- in version 1, in which older cards were personalised
 unfoldable pub encoding_one : CardState → List ℕ
-encoding_one state = encoding_in One state
+encoding_one state = 1 ∷ length state.apps.items ∷ (if state.blocked then 1 else 0) ∷ flat_map app_bytes_one state.apps.items
 
 -- so many bytes
 abbrev pub AreBytes : ℕ → List ℕ → Type 0
@@ -66,8 +51,8 @@ pub record IsRow (r : LogRow) : Type 0 where
   pub counter : r.counter < 2 ^ 16
   pub kind : r.kind < 2 ^ 8
 
--- the numbers of an application are in the ranges of their fields
-pub record IsAppState (s : AppState) : Type 0 where
+-- the numbers that version 1 has are in the ranges of their fields
+pub record IsAppOne (s : AppState) : Type 0 where
   pub counter : s.counter < 2 ^ 16
   pub last_online : s.last_online < 2 ^ 16
   pub count : s.count < 2 ^ 8
@@ -76,10 +61,18 @@ pub record IsAppState (s : AppState) : Type 0 where
   pub sum_limit : s.sum_limit < 2 ^ 64
   pub tries : s.tries < 2 ^ 8
   pub pin : AreBytes 8 s.pin
+
+-- and those that version 2 adds
+pub record IsMore (s : AppState) : Type 0 where
   pub sum_two : s.sum_two < 2 ^ 64
   pub limit_two : s.limit_two < 2 ^ 64
   pub log_max : s.log_max < 2 ^ 8
   pub few_rows : length s.log.items ≤ 10
+
+-- all numbers of an application are
+pub record IsAppState (s : AppState) : Type 0 where
+  pub one : IsAppOne s
+  pub more : IsMore s
   pub rows : All IsRow s.log.items
 
 -- at most four applications, whose numbers are in their ranges: what a card's state of the program is

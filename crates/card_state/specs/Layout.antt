@@ -1,8 +1,8 @@
 -- What state some bytes are the encoding of.
 use Rattle.std.specs.Prelude.{ℕ, zero, suc, ◌+◌, ◌*◌, ◌/◌, ◌%◌, ◌==◌, ◌&&◌, nat_le, if◌then◌else◌, Bool, List, [], ◌∷◌, length, take, drop, slice_index, Option, Some, None, option_map, option_and_then}
 use Rattle.std.specs.Int.{from_be_bytes, w16, w64}
-use Rattle.card_state.specs.declared.encoding.Version.{Version}
-use Rattle.card_state.specs.declared.encoding.Version.TheVariants.{One, Two}
+use Rattle.card_state.specs.declared.decoding.Version.{Version}
+use Rattle.card_state.specs.declared.decoding.Version.TheVariants.{One, Two}
 use Rattle.card_state.specs.declared.state.AppState.{AppState}
 use Rattle.card_state.specs.declared.state.CardState.{CardState}
 use Rattle.card_state.specs.declared.state.LogRow.{LogRow}
@@ -92,10 +92,14 @@ unfoldable pub app_in : Version → List ℕ → Option AppState
 app_in One bytes = (if begins One bytes then Some (fields_one bytes) else None)
 app_in Two bytes = (if begins Two bytes then Some (fields_of bytes) else None)
 
+-- nothing is left
+abbrev pub none_left : List ℕ → Option (List AppState)
+none_left [] = Some []
+none_left (b ∷ bytes) = None
+
 -- so many applications, and nothing behind them
 unfoldable pub apps_in : Version → ℕ → List ℕ → Option (List AppState)
-apps_in version zero [] = Some []
-apps_in version zero (b ∷ bytes) = None
+apps_in version zero bytes = none_left bytes
 apps_in version (suc n) bytes =
     option_and_then (λ s. option_map (λ ss. s ∷ ss) (apps_in version n (drop (size_in version s) bytes))) (app_in version bytes)
 

@@ -1,4 +1,4 @@
-ghost use Rattle.std.specs.Prelude.{◌≡◌, ◌+◌, ◌*◌, ◌≤◌, ◌⊎◌, IsTrue, List, length, take, drop, Some, IfSome, option_map};
+ghost use Rattle.std.specs.Prelude.{◌≡◌, ◌+◌, ◌*◌, ◌≤◌, ◌==◌, ◌&&◌, ◌⊎◌, nat_le, if◌then◌else◌, IsTrue, List, length, take, drop, IfSome, option_map};
 ghost use Rattle.std.specs.Int.{from_be_bytes, w16, w64};
 ghost use Rattle.card_state.specs.Allowed.{Allowed};
 ghost use Rattle.card_state.specs.Decisions.{Decided};
@@ -8,12 +8,20 @@ ghost use Rattle.card_state.specs.Totals.{totals};
 ghost use Rattle.card_state.specs.Layout as spec;
 ghost use Rattle.card_state.specs.Layout.{app_in, apps_in, begins, card_in, decoded, decoded_one, fields_of, row_at, rows_in, size_in};
 ghost use Rattle.card_state.specs.Upgrade.{card_as_one};
-ghost use Rattle.card_state.specs.declared.encoding.Version.TheVariants.{One, Two};
+ghost use Rattle.card_state.specs.declared.decoding.Version.TheVariants.{One, Two};
 ghost use Rattle.card_state.specs.declared.state.CardState.{CardState as Card};
 
-use crate::encoding::Version;
 use crate::state::{AppState, CardState, LogRow};
 use arrayvec::ArrayVec;
+
+/// The versions of a state's bytes.
+#[derive(Clone, Copy)]
+pub enum Version {
+    /// Without a second currency and without a transaction log.
+    One,
+    /// With them.
+    Two,
+}
 
 /// The state whose encoding these bytes are, in either version, or `None` where they are the encoding of no
 /// state. A state of version 1 has no second currency and no log.
@@ -42,10 +50,23 @@ fn read_either(bytes: &[u8]) -> Option<CardState>
     ensures { result ≡ decoded bytes.now }
 {
     match bytes {
-        [1, count, card, rest @ ..] => read_card(Version::One, *count, *card, rest),
-        [2, count, card, rest @ ..] => read_card(Version::Two, *count, *card, rest),
+        [version, count, card, rest @ ..] => read_of(*version, *count, *card, rest),
         _ => None,
     }
+}
+
+/// The card of a version that is known.
+fn read_of(version: u8, count: u8, card: u8, bytes: &[u8]) -> Option<CardState>
+    ensures { result ≡ (if version == 1 then card_in One count card bytes.now
+        else if version == 2 then card_in Two count card bytes.now else None) }
+{
+    if version == 1 {
+        return read_card(Version::One, count, card, bytes);
+    }
+    if version == 2 {
+        return read_card(Version::Two, count, card, bytes);
+    }
+    None
 }
 
 /// The state whose encoding in version 1 these bytes are, or `None` where they are that of no state.
@@ -54,17 +75,26 @@ pub fn decode_one(bytes: &[u8]) -> Option<CardState>
     ensures exact { result ≡ decoded_one bytes.now }
 {
     match bytes {
-        [1, count, card, rest @ ..] => read_card(Version::One, *count, *card, rest),
+        [version, count, card, rest @ ..] => read_one(*version, *count, *card, rest),
         _ => None,
     }
 }
 
+/// The card of version 1.
+fn read_one(version: u8, count: u8, card: u8, bytes: &[u8]) -> Option<CardState>
+    ensures { result ≡ (if version == 1 then card_in One count card bytes.now else None) }
+{
+    if version != 1 {
+        return None;
+    }
+    read_card(Version::One, count, card, bytes)
+}
+
 /// The card of so many applications.
-#[tactic(auto, unfolding(crate::specs::Layout::card_in))]
 fn read_card(version: Version, count: u8, card: u8, bytes: &[u8]) -> Option<CardState>
     ensures { result ≡ card_in version count card bytes.now }
 {
-    if count > 4 || card > 1 {
+    if !is_head(count, card) {
         return None;
     }
     match read_apps(version, count, bytes) {
@@ -74,6 +104,14 @@ fn read_card(version: Version, count: u8, card: u8, bytes: &[u8]) -> Option<Card
         }),
         None => None,
     }
+}
+
+/// Whether there are at most four applications, and the card is said to be blocked or not.
+fn is_head(count: u8, card: u8) -> bool
+    ensures exact { result ≡ (nat_le count 4 && nat_le card 1) }
+    ensures few { IsTrue result → count ≤ 4 }
+{
+    count <= 4 && card <= 1
 }
 
 /// So many applications, and nothing behind them.
@@ -92,7 +130,10 @@ fn read_apps(version: Version, count: u8, bytes: &[u8]) -> Option<ArrayVec<AppSt
             None => return None,
         }
     }
-    if rest.is_empty() { Some(apps) } else { None }
+    if !rest.is_empty() {
+        return None;
+    }
+    Some(apps)
 }
 
 /// How many bytes an application has.

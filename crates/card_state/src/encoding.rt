@@ -1,21 +1,10 @@
-ghost use Rattle.std.specs.Prelude.{◌≡◌, ◌+◌, ◌*◌, ◌^◌, ◌<◌, ◌≤◌, [], ◌∷◌, ◌++◌, length, flat_map, slice_index, if◌then◌else◌};
+ghost use Rattle.std.specs.Prelude.{◌≡◌, ◌+◌, ◌*◌, ◌≤◌, ◌++◌, length, flat_map};
 ghost use Rattle.std.specs.List.{All};
 ghost use Rattle.arrayvec.specs.ArrayVec.{array_vec_len};
-ghost use Rattle.card_state.specs.Encoding.{app_bytes_in, app_bytes_one, AreBytes, encoding, encoding_in, encoding_one, flags_of, IsAppState, IsCardState, IsRow, more_bytes, row_bytes, version_byte};
-ghost use Rattle.card_state.specs.Layout.{size_in};
-ghost use Rattle.card_state.specs.declared.encoding.Version.TheVariants.{Two};
+ghost use Rattle.card_state.specs.Encoding.{app_bytes, app_bytes_one, AreBytes, encoding, encoding_one, flags_of, IsAppOne, IsAppState, IsCardState, IsMore, IsRow, more_bytes, row_bytes};
 
 use crate::state::{AppState, CardState, LogRow};
 use arrayvec::ArrayVec;
-
-/// The versions of a state's bytes.
-#[derive(Clone, Copy)]
-pub enum Version {
-    /// Without a second currency and without a transaction log.
-    One,
-    /// With them.
-    Two,
-}
 
 /// Replaces `out` by the state's bytes in version 2: 02, the number of applications, 01 for a blocked card or
 /// 00, then 50 bytes an application and 14 a row of its log.
@@ -24,59 +13,41 @@ pub fn encode(state: &CardState, out: &mut ArrayVec<u8, 1024>)
     ensures bytes { out.new.items ≡ encoding state.now }
     ensures ranges { IsCardState state.now }
 {
-    encode_in(Version::Two, state, out);
+    out.clear();
+    out.push(2);
+    out.push(state.apps.len() as u8);
+    out.push(u8::from(state.blocked));
+    for app in state.apps.as_slice() {
+        append_app(out, app);
+    }
 }
 
 /// Replaces `out` by the state's bytes in version 1, in which older cards were personalised: 01, the number of
 /// applications, 01 for a blocked card or 00, then 32 bytes an application.
 #[tactic(auto, unfolding(crate::specs::Encoding::encoding_one))]
 pub fn encode_one(state: &CardState, out: &mut ArrayVec<u8, 1024>)
-    ensures bytes { out.new.items ≡ encoding_one state.now }
-    ensures ranges { IsCardState state.now }
-{
-    encode_in(Version::One, state, out);
-}
-
-/// Replaces `out` by the state's bytes in this version.
-#[tactic(auto, unfolding(crate::specs::Encoding::encoding_in))]
-fn encode_in(version: Version, state: &CardState, out: &mut ArrayVec<u8, 1024>)
-    ensures bytes { out.new.items ≡ encoding_in version state.now }
-    ensures ranges { IsCardState state.now }
+    ensures { out.new.items ≡ encoding_one state.now }
 {
     out.clear();
-    out.push(byte_of(version));
+    out.push(1);
     out.push(state.apps.len() as u8);
     out.push(u8::from(state.blocked));
     for app in state.apps.as_slice() {
-        append_app(out, version, app);
-    }
-}
-
-/// The first byte of a version.
-fn byte_of(version: Version) -> u8
-    ensures { result ≡ version_byte version }
-{
-    match version {
-        Version::One => 1,
-        Version::Two => 2,
+        append_first(out, app);
     }
 }
 
 /// Appends the bytes of an application: at most 190.
-fn append_app(out: &mut ArrayVec<u8, 1024>, version: Version, app: &AppState)
+#[tactic(auto, unfolding(crate::specs::Encoding::app_bytes))]
+fn append_app(out: &mut ArrayVec<u8, 1024>, app: &AppState)
     requires { array_vec_len out.old + 190 ≤ 1024 }
-    ensures items { out.new.items ≡ out.old.items ++ app_bytes_in version app.now }
+    ensures items { out.new.items ≡ out.old.items ++ app_bytes app.now }
     ensures len { array_vec_len out.new ≤ array_vec_len out.old + 190 }
     ensures ranges { IsAppState app.now }
 {
     append_first(out, app);
-    match version {
-        Version::One => {}
-        Version::Two => {
-            append_more(out, app);
-            append_rows(out, app.log.as_slice());
-        }
-    }
+    append_more(out, app);
+    append_rows(out, app.log.as_slice());
 }
 
 /// Appends the 32 bytes that an application has in both versions.
@@ -84,16 +55,28 @@ fn append_first(out: &mut ArrayVec<u8, 1024>, app: &AppState)
     requires { array_vec_len out.old + 32 ≤ 1024 }
     ensures items { out.new.items ≡ out.old.items ++ app_bytes_one app.now }
     ensures len { array_vec_len out.new ≡ array_vec_len out.old + 32 }
+    ensures ranges { IsAppOne app.now }
 {
+    let (count, count_limit, tries) = (app.count, app.count_limit, app.tries);
     append(out, &app.counter.to_be_bytes());
     append(out, &app.last_online.to_be_bytes());
-    append(out, &[app.count]);
+    append(out, &[count]);
     append(out, &app.sum.to_be_bytes());
-    append(out, &[app.count_limit]);
+    append(out, &[count_limit]);
     append(out, &app.sum_limit.to_be_bytes());
-    append(out, &[app.tries]);
+    append(out, &[tries]);
     append(out, &[flags(app)]);
-    append(out, &app.pin);
+    append_pin(out, app.pin);
+}
+
+/// Appends a PIN block.
+fn append_pin(out: &mut ArrayVec<u8, 1024>, pin: [u8; 8])
+    requires { array_vec_len out.old + 8 ≤ 1024 }
+    ensures items { out.new.items ≡ out.old.items ++ pin }
+    ensures len { array_vec_len out.new ≡ array_vec_len out.old + 8 }
+    ensures bytes { AreBytes 8 pin }
+{
+    append(out, &pin);
 }
 
 /// Appends the 18 bytes that version 2 has before the rows.
@@ -101,16 +84,19 @@ fn append_more(out: &mut ArrayVec<u8, 1024>, app: &AppState)
     requires { array_vec_len out.old + 18 ≤ 1024 }
     ensures items { out.new.items ≡ out.old.items ++ more_bytes app.now }
     ensures len { array_vec_len out.new ≡ array_vec_len out.old + 18 }
+    ensures ranges { IsMore app.now }
 {
+    let log_max = app.log_max;
     append(out, &app.sum_two.to_be_bytes());
     append(out, &app.limit_two.to_be_bytes());
-    append(out, &[app.log_max]);
+    append(out, &[log_max]);
     append(out, &[rows_in(&app.log)]);
 }
 
 /// The number of rows, as a byte.
 fn rows_in(rows: &ArrayVec<LogRow, 10>) -> u8
-    ensures { result ≡ length rows.now.items }
+    ensures count { result ≡ length rows.now.items }
+    ensures few { length rows.now.items ≤ 10 }
 {
     rows.len() as u8
 }
@@ -121,6 +107,7 @@ fn append_rows(out: &mut ArrayVec<u8, 1024>, rows: &[LogRow])
     requires room { array_vec_len out.old + 140 ≤ 1024 }
     ensures items { out.new.items ≡ out.old.items ++ flat_map row_bytes rows.now }
     ensures len { array_vec_len out.new ≡ array_vec_len out.old + 14 * length rows.now }
+    ensures ranges { All IsRow rows.now }
 {
     for row in rows {
         append_row(out, *row);
@@ -134,11 +121,18 @@ fn append_row(out: &mut ArrayVec<u8, 1024>, row: LogRow)
     ensures len { array_vec_len out.new ≡ array_vec_len out.old + 14 }
     ensures ranges { IsRow row }
 {
-    append(out, &row.raw);
-    append(out, &row.currency);
-    append(out, &row.date);
-    append(out, &row.counter.to_be_bytes());
-    append(out, &[row.kind]);
+    let LogRow {
+        raw,
+        currency,
+        date,
+        counter,
+        kind,
+    } = row;
+    append(out, &raw);
+    append(out, &currency);
+    append(out, &date);
+    append(out, &counter.to_be_bytes());
+    append(out, &[kind]);
 }
 
 /// The application's flags: value 1 for blocked, value 2 for a failed issuer authentication.

@@ -21,12 +21,12 @@ fn apps_with_limits(opening: &[AppState], apps: &[AppState]) -> ArrayVec<AppStat
     requires { length apps.now ≤ 4 }
     ensures { result.items ≡ limited opening.now apps.now }
 {
-    let mut limited = ArrayVec::new();
+    let mut made = ArrayVec::new();
     let count = opening.len().min(apps.len());
     for i in 0..count {
-        limited.push(with_limit(&opening[i], &apps[i]));
+        made.push(with_limit(&opening[i], &apps[i]));
     }
-    limited
+    made
 }
 
 /// One application with the limits of another.
