@@ -104,7 +104,10 @@ impl<P: Pages> Kept<P> {
     {
         Kept {
             place: Place::new(pages),
-            state: CardState::default(),
+            state: CardState {
+                blocked: false,
+                apps: ArrayVec::new(),
+            },
         }
     }
 

@@ -7,7 +7,7 @@ ghost use Rattle.card_state.specs.Totals.{totals};
 ghost use Rattle.card_state.specs.declared.decision.Decision.TheVariants.{Authenticated, First, Script, Second};
 ghost use Rattle.card_state.specs.Change.{changed as changed_state, logged, MayDecide, plus, WithinLimits};
 ghost use Rattle.card_state.specs.Decisions.{Decided, amount_in, blocks as blocks_in, blocks_card, blocks_whole as blocks_whole_in, is_one, is_two, restores as restores_in, row, tries_steered};
-ghost use Rattle.card_state.specs.Encoding.{AreBytes};
+ghost use Rattle.card_state.specs.Encoding.{AreBytes, HasShortLogs};
 ghost use Rattle.emv_dict.specs.Kinds.{kind_byte};
 ghost use Rattle.card_state.specs.Fits.{FitsFields, FitsSale};
 
@@ -30,6 +30,7 @@ pub fn apply(state: &mut CardState, app: u8, decision: &Decision)
     ensures app { (s : App) → slice_get state.old.apps.items app ≡ Some s
         → state.new.apps.items ≡ slice_set state.old.apps.items app (changed_state s decision.now) }
     ensures fits { FitsFields decision.now }
+    ensures short { HasShortLogs state.old → HasShortLogs state.new }
 {
     change(state, app, decision);
 }
