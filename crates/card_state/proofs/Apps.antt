@@ -7,7 +7,7 @@ use Rattle.card_state.specs.declared.decoding.Version.{Version}
 use Rattle.card_state.specs.declared.decoding.Version.TheVariants.{One, Two}
 use Rattle.card_state.specs.declared.state.AppState.{AppState}
 use Rattle.card_state.specs.Encoding.{app_bytes_one, app_bytes, more_bytes, row_bytes, IsAppState}
-use Rattle.card_state.specs.Layout.{as_one, fields_one, fields_of, rows_said, is_flagged, has_rows, begins, app_in, none_left, apps_in, size_in}
+use Rattle.card_state.specs.Layout.{as_one, fields_one, fields_of, rows_said, is_flagged, has_rows, begins, with_more, app_in, none_left, apps_in, size_in}
 use Rattle.card_state.proofs.LayoutLemmas.{length-app_bytes_one, length-app_bytes, length-more_bytes, length-rows, known_flag_byte, known_flags_two, behind_one, fields_one-app_bytes_one, fields_of-app_bytes, app_bytes_one-fields_one, app_bytes-fields_of, rows-fields_of, drop_fits}
 
 -- the bytes of an application
@@ -38,6 +38,15 @@ second_of_both : (a b : Bool) → (a && b) ≡ true → b ≡ true
 second_of_both true b test = test
 second_of_both false b test = cc
 
+rows_there : (s : AppState) (behind : List ℕ) → IsAppState s → has_rows (more_bytes s ++ (flat_map row_bytes s.log.items ++ behind)) ≡ true
+unfolding more_bytes
+rows_there s behind is =
+    let rest : length (flat_map row_bytes s.log.items ++ behind) ≡ length (flat_map row_bytes s.log.items) + length behind =
+    length-append (flat_map row_bytes s.log.items) behind in
+    let rows : length (flat_map row_bytes s.log.items) ≡ 14 * length s.log.items = length-rows s.log.items is.rows in
+    both _ _ (le_true (length s.log.items) 10 is.more.few_rows)
+    (le_true (18 + 14 * length s.log.items) (length (more_bytes s ++ (flat_map row_bytes s.log.items ++ behind))) (omega arith))
+
 -- the bytes of an application begin with it
 begins-app : (v : Version) (s : AppState) (behind : List ℕ) → IsAppState s → begins v (app_bytes_in v s ++ behind) ≡ true
 begins-app One s behind is =
@@ -51,15 +60,6 @@ begins-app Two s behind is =
     both _ _ (le_true 50 (length (app_bytes s ++ behind)) (omega arith))
     (both _ _ (le_true (get_or (app_bytes s ++ behind) 23 0) 3 (known_flags_two s behind))
     (ap (λ (more : List ℕ). has_rows more) (behind_one s behind is) ∙ rows_there s behind is))
-  where
-    rows_there : (s : AppState) (behind : List ℕ) → IsAppState s → has_rows (more_bytes s ++ (flat_map row_bytes s.log.items ++ behind)) ≡ true
-    unfolding more_bytes
-    rows_there s behind is =
-        let rest : length (flat_map row_bytes s.log.items ++ behind) ≡ length (flat_map row_bytes s.log.items) + length behind =
-        length-append (flat_map row_bytes s.log.items) behind in
-        let rows : length (flat_map row_bytes s.log.items) ≡ 14 * length s.log.items = length-rows s.log.items is.rows in
-        both _ _ (le_true (length s.log.items) 10 is.more.few_rows)
-        (le_true (18 + 14 * length s.log.items) (length (more_bytes s ++ (flat_map row_bytes s.log.items ++ behind))) (omega arith))
 
 pub app_in-app_bytes : (v : Version) (s : AppState) (behind : List ℕ) → IsAppState s → app_in v (app_bytes_in v s ++ behind) ≡ Some (as_read v s)
 unfolding app_in
@@ -133,26 +133,91 @@ unfolding app_in
 app_in-is_read One bs s fits is = by_test (λ (t : AppState). IsRead One bs t) (begins One bs) (fields_one bs) s (one_is_read bs fits) is
 app_in-is_read Two bs s fits is = by_test (λ (t : AppState). IsRead Two bs t) (begins Two bs) (fields_of bs) s (two_is_read bs fits) is
 
+two_size : (bs : List ℕ) → begins Two bs ≡ true → size_in Two (fields_of bs) ≤ length bs
+two_size bs test =
+    let behind = second_of_both (nat_le 50 (length bs)) (is_flagged bs && has_rows (drop 32 bs)) test in
+    let more : List ℕ = drop 32 bs in
+    let n : ℕ = rows_said more in
+    let has : has_rows more ≡ true = second_of_both (is_flagged bs) (has_rows more) behind in
+    let there : 18 + 14 * n ≤ length more = true_le (18 + 14 * n) (length more) (second_of_both (nat_le n 10) (nat_le (18 + 14 * n) (length more)) has) in
+    let size : 50 ≤ length bs = true_le 50 (length bs) (first_of_both (nat_le 50 (length bs)) (is_flagged bs && has_rows (drop 32 bs)) test) in
+    let left : length more ≡ length bs - 32 = length-drop 32 bs in
+    let rows : length (fields_of bs).log.items ≡ n = rows-fields_of bs in
+    omega arith
+
 -- an application fits into the bytes that it was read of
 pub size_known : (v : Version) (bs : List ℕ) (s : AppState) → app_in v bs ≡ Some s → size_in v s ≤ length bs
 unfolding app_in
 size_known One bs s is =
     by_test (λ (t : AppState). 32 ≤ length bs) (begins One bs) (fields_one bs) s
     (λ test. true_le 32 (length bs) (first_of_both (nat_le 32 (length bs)) (is_flagged bs) test)) is
-size_known Two bs s is =
-    by_test (λ (t : AppState). size_in Two t ≤ length bs) (begins Two bs) (fields_of bs) s (λ test. two_size bs test) is
-  where
-    two_size : (bs : List ℕ) → begins Two bs ≡ true → size_in Two (fields_of bs) ≤ length bs
-    two_size bs test =
-        let behind = second_of_both (nat_le 50 (length bs)) (is_flagged bs && has_rows (drop 32 bs)) test in
-        let more : List ℕ = drop 32 bs in
-        let n : ℕ = rows_said more in
-        let has : has_rows more ≡ true = second_of_both (is_flagged bs) (has_rows more) behind in
-        let there : 18 + 14 * n ≤ length more = true_le (18 + 14 * n) (length more) (second_of_both (nat_le n 10) (nat_le (18 + 14 * n) (length more)) has) in
-        let size : 50 ≤ length bs = true_le 50 (length bs) (first_of_both (nat_le 50 (length bs)) (is_flagged bs && has_rows (drop 32 bs)) test) in
-        let left : length more ≡ length bs - 32 = length-drop 32 bs in
-        let rows : length (fields_of bs).log.items ≡ n = rows-fields_of bs in
-        omega arith
+size_known Two bs s is = by_test (λ (t : AppState). size_in Two t ≤ length bs) (begins Two bs) (fields_of bs) s (two_size bs) is
+
+-- reading an application
+module _ (v : Version) (bs : List ℕ) where
+  pub some_fits : (s : AppState) → Some s ≡ app_in v bs → size_in v s ≤ length bs
+  some_fits s is = size_known v bs s (sym is)
+
+first_fails : (a b : Bool) → a ≡ false → (a && b) ≡ false
+first_fails true b no = no
+first_fails false b no = refl
+
+second_fails : (a b : Bool) → b ≡ false → (a && b) ≡ false
+second_fails true b no = no
+second_fails false b no = refl
+
+not_le : (m n : ℕ) → n < m → nat_le m n ≡ false
+not_le m n above = grind (arith, nat_tests)
+
+module _ (bs : List ℕ) where
+  none_of_one : begins One bs ≡ false → None ≡ app_in One bs
+  unfolding app_in
+  none_of_one no = sym (ap (λ b. if b then Some (fields_one bs) else None) no)
+
+  pub one_short : length bs < 32 → None ≡ app_in One bs
+  one_short few = none_of_one (first_fails (nat_le 32 (length bs)) (is_flagged bs) (not_le 32 (length bs) few))
+
+  pub one_flagged : 3 < get_or bs 23 0 → None ≡ app_in One bs
+  one_flagged more = none_of_one (second_fails (nat_le 32 (length bs)) (is_flagged bs) (not_le (get_or bs 23 0) 3 more))
+
+  pub one_there : 32 ≤ length bs → get_or bs 23 0 ≤ 3 → (s : AppState) → s ≡ fields_one bs → Some s ≡ app_in One bs
+  unfolding app_in
+  one_there size few s is =
+      let test : begins One bs ≡ true = both (nat_le 32 (length bs)) (is_flagged bs) (le_true 32 (length bs) size) (le_true (get_or bs 23 0) 3 few) in
+      ap (λ (t : AppState). Some t) is ∙ sym (ap (λ b. if b then Some (fields_one bs) else None) test)
+
+  none_of_two : begins Two bs ≡ false → None ≡ app_in Two bs
+  unfolding app_in
+  none_of_two no = sym (ap (λ b. if b then Some (fields_of bs) else None) no)
+
+  pub two_short : length bs < 50 → None ≡ app_in Two bs
+  two_short few = none_of_two (first_fails (nat_le 50 (length bs)) (is_flagged bs && has_rows (drop 32 bs)) (not_le 50 (length bs) few))
+
+  pub two_flagged : 3 < get_or bs 23 0 → None ≡ app_in Two bs
+  two_flagged more =
+      none_of_two (second_fails (nat_le 50 (length bs)) (is_flagged bs && has_rows (drop 32 bs))
+      (first_fails (is_flagged bs) (has_rows (drop 32 bs)) (not_le (get_or bs 23 0) 3 more)))
+
+  -- the rest as the program cuts it
+  module _ (rest : List ℕ) (is_rest : rest ≡ take (length bs - 32) (drop 32 bs)) where
+    here : rest ≡ drop 32 bs
+    here = is_rest ∙ take_rest bs 32
+
+    pub two_rowless : has_rows rest ≡ false → None ≡ app_in Two bs
+    two_rowless no =
+        none_of_two (second_fails (nat_le 50 (length bs)) (is_flagged bs && has_rows (drop 32 bs))
+        (second_fails (is_flagged bs) (has_rows (drop 32 bs)) (ap (λ (more : List ℕ). has_rows more) (sym here) ∙ no)))
+
+    pub two_there : 50 ≤ length bs → get_or bs 23 0 ≤ 3 → has_rows rest ≡ true → (s t : AppState) → s ≡ fields_one bs → t ≡ with_more s rest
+        → Some t ≡ app_in Two bs
+    unfolding app_in fields_of
+    two_there size few has s t is with_is =
+        let test : begins Two bs ≡ true =
+        both (nat_le 50 (length bs)) (is_flagged bs && has_rows (drop 32 bs)) (le_true 50 (length bs) size)
+        (both (is_flagged bs) (has_rows (drop 32 bs)) (le_true (get_or bs 23 0) 3 few) (ap (λ (more : List ℕ). has_rows more) (sym here) ∙ has)) in
+        let fields : t ≡ with_more (fields_one bs) (drop 32 bs) =
+        with_is ∙ ap (λ (x : AppState). with_more x rest) is ∙ ap (λ (more : List ℕ). with_more (fields_one bs) more) here in
+        ap (λ (x : AppState). Some x) fields ∙ sym (ap (λ b. if b then Some (with_more (fields_one bs) (drop 32 bs)) else None) test)
 
 -- the applications that were read have these bytes
 pub record AreRead (v : Version) (n : ℕ) (bs : List ℕ) (ss : List AppState) : Type 0 where

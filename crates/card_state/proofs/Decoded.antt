@@ -177,14 +177,14 @@ short_bytes_one (a ∷ b ∷ []) few = refl
 short_bytes_one (a ∷ b ∷ c ∷ bytes) few = absurd (omega arith)
 
 module _ (v : Version) (count card : ℕ) (bytes : List ℕ) where
-  abbrev of : List AppState → CardState
-  of apps = record { blocked = card == 1; apps = record { items = apps } }
+  abbrev card_with : List AppState → CardState
+  card_with apps = record { blocked = card == 1; apps = record { items = apps } }
 
   pub no_head : (nat_le count 4 && nat_le card 1) ≡ false → None ≡ card_in v count card bytes
   unfolding card_in
-  no_head test = sym (ap (λ b. if b then option_map of (apps_in v count bytes) else None) test)
+  no_head test = sym (ap (λ b. if b then option_map card_with (apps_in v count bytes) else None) test)
 
-  pub with_head : (nat_le count 4 && nat_le card 1) ≡ true → (o : Option (List AppState)) → o ≡ apps_in v count bytes → option_map of o ≡ card_in v count card bytes
+  pub with_head : (nat_le count 4 && nat_le card 1) ≡ true → (o : Option (List AppState)) → o ≡ apps_in v count bytes → option_map card_with o ≡ card_in v count card bytes
   unfolding card_in
   with_head test o is =
-      ap (λ (p : Option (List AppState)). option_map of p) is ∙ sym (ap (λ b. if b then option_map of (apps_in v count bytes) else None) test)
+      ap (λ (p : Option (List AppState)). option_map card_with p) is ∙ sym (ap (λ b. if b then option_map card_with (apps_in v count bytes) else None) test)

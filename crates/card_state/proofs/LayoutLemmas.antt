@@ -317,18 +317,16 @@ pub app_bytes-fields_of : (bs : List ℕ) → 50 ≤ length bs → 50 + 14 * row
     → get_or bs 23 0 ≤ 3 → app_bytes (fields_of bs) ≡ take (50 + 14 * rows_said (drop 32 bs)) bs
 unfolding app_bytes fields_of
 app_bytes-fields_of bs size whole fits few =
-    let more : List ℕ = drop 32 bs in
-    let n : ℕ = rows_said more in
-    let left : 18 ≤ length more = simp length-drop (omega arith) in
-    let rest : 14 * n ≤ length (drop 18 more) = simp length-drop (omega arith) in
+    let left : 18 ≤ length (drop 32 bs) = simp length-drop (omega arith) in
+    let rest : 14 * rows_said (drop 32 bs) ≤ length (drop 18 (drop 32 bs)) = simp length-drop (omega arith) in
     let place : drop 18 (drop 32 bs) ≡ drop 50 bs = drop-drop 18 32 bs in
-    on bs _ _ 50 (14 * n)
+    on bs _ _ 50 (14 * rows_said (drop 32 bs))
     (on bs _ _ 32 18
-    (one-with_more (fields_one bs) more ∙ app_bytes_one-fields_one bs (omega arith) fits few)
-    (more_bytes-with_more (fields_one bs) more left (drop_fits bs 32 fits)))
-    (ap (λ (xs : List LogRow). flat_map row_bytes xs) (rows-with_more (fields_one bs) more)
-    ∙ row_bytes-rows_in n (drop 18 more) rest (drop_fits more 18 (drop_fits bs 32 fits))
-    ∙ ap (λ (xs : List ℕ). take (14 * n) xs) place)
+    (one-with_more (fields_one bs) (drop 32 bs) ∙ app_bytes_one-fields_one bs (omega arith) fits few)
+    (more_bytes-with_more (fields_one bs) (drop 32 bs) left (drop_fits bs 32 fits)))
+    (ap (λ (xs : List LogRow). flat_map row_bytes xs) (rows-with_more (fields_one bs) (drop 32 bs))
+    ∙ row_bytes-rows_in (rows_said (drop 32 bs)) (drop 18 (drop 32 bs)) rest (drop_fits (drop 32 bs) 18 (drop_fits bs 32 fits))
+    ∙ ap (λ (xs : List ℕ). take (14 * rows_said (drop 32 bs)) xs) place)
 
 -- reading one row more, behind those so far
 pub one_more_row : (all front : List LogRow) (n left : ℕ) (rest : List ℕ) (r : LogRow) → left ≡ suc n → r ≡ row_at rest

@@ -6,7 +6,7 @@ ghost use Rattle.card_state.specs.Encoding.{encoding, encoding_one, HasShortLogs
 ghost use Rattle.card_state.specs.Fits.{AllFit};
 ghost use Rattle.card_state.specs.Totals.{totals};
 ghost use Rattle.card_state.specs.Layout as spec;
-ghost use Rattle.card_state.specs.Layout.{app_in, apps_in, begins, card_in, decoded, decoded_one, fields_of, row_at, rows_in, size_in};
+ghost use Rattle.card_state.specs.Layout.{app_in, apps_in, card_in, decoded, decoded_one, row_at, rows_in, rows_said, size_in};
 ghost use Rattle.card_state.specs.Upgrade.{card_as_one};
 ghost use Rattle.card_state.specs.declared.decoding.Version.TheVariants.{One, Two};
 ghost use Rattle.card_state.specs.declared.state.CardState.{CardState as Card};
@@ -147,65 +147,63 @@ fn size_of(version: Version, app: &AppState) -> usize
 }
 
 /// The application that the bytes begin with.
-#[tactic(auto, unfolding(crate::specs::Layout::app_in))]
 fn read_app(version: Version, bytes: &[u8]) -> Option<AppState>
     ensures exact { result ≡ app_in version bytes.now }
     ensures fits { IfSome result (λ app. size_in version app ≤ length bytes.now) }
 {
     match version {
-        Version::One => {
-            if begins_one(bytes) {
-                Some(fields_one(bytes))
-            } else {
-                None
-            }
-        }
-        Version::Two => {
-            if begins_two(bytes) {
-                Some(fields(bytes))
-            } else {
-                None
-            }
-        }
+        Version::One => read_first(bytes),
+        Version::Two => read_second(bytes),
     }
 }
 
-/// Whether the bytes begin with an application of version 1.
-fn begins_one(bytes: &[u8]) -> bool
-    ensures { result ≡ begins One bytes.now }
+/// The application of version 1 that the bytes begin with.
+fn read_first(bytes: &[u8]) -> Option<AppState>
+    ensures exact { result ≡ app_in One bytes.now }
+    ensures fits { IfSome result (λ app. size_in One app ≤ length bytes.now) }
 {
-    bytes.len() >= 32 && bytes[23] <= 3
+    if bytes.len() < 32 {
+        return None;
+    }
+    if bytes[23] > 3 {
+        return None;
+    }
+    Some(fields_one(bytes))
 }
 
-/// Whether they begin with one of version 2.
-fn begins_two(bytes: &[u8]) -> bool
-    ensures { result ≡ begins Two bytes.now }
+/// That of version 2.
+fn read_second(bytes: &[u8]) -> Option<AppState>
+    ensures exact { result ≡ app_in Two bytes.now }
+    ensures fits { IfSome result (λ app. size_in Two app ≤ length bytes.now) }
 {
-    bytes.len() >= 50 && (bytes[23] <= 3 && has_rows(&bytes[32..]))
+    if bytes.len() < 50 {
+        return None;
+    }
+    if bytes[23] > 3 {
+        return None;
+    }
+    let more = &bytes[32..];
+    if !has_rows(more) {
+        return None;
+    }
+    Some(with_more(fields_one(bytes), more))
 }
 
 /// Whether at most ten rows are said to stand behind 18 bytes, and do.
 fn has_rows(more: &[u8]) -> bool
     requires { 18 ≤ length more.now }
-    ensures { result ≡ spec.has_rows more.now }
+    ensures exact { result ≡ spec.has_rows more.now }
+    ensures few { IsTrue result → rows_said more.now ≤ 10 }
+    ensures whole { IsTrue result → 18 + 14 * rows_said more.now ≤ length more.now }
 {
     more[17] <= 10 && 18 + 14 * usize::from(more[17]) <= more.len()
 }
 
-/// The fields that stand in the bytes of version 2.
-#[tactic(auto, unfolding(crate::specs::Layout::fields_of))]
-fn fields(bytes: &[u8]) -> AppState
-    requires { IsTrue (begins Two bytes.now) }
-    ensures { result ≡ fields_of bytes.now }
-{
-    with_more(fields_one(bytes), &bytes[32..])
-}
-
 /// The application with the fields that version 2 has behind those of version 1.
-#[tactic(auto, unfolding(crate::specs::Layout::with_more))]
+#[tactic(auto, using(std::proofs::lemmas::List::take_rest), unfolding(crate::specs::Layout::with_more))]
 fn with_more(app: AppState, more: &[u8]) -> AppState
-    requires size { 18 ≤ length more.now }
-    requires rows { IsTrue (spec.has_rows more.now) }
+    requires few { rows_said more.now ≤ 10 }
+    requires whole { 18 + 14 * rows_said more.now ≤ length more.now }
     ensures { result ≡ spec.with_more app more.now }
 {
     AppState {
