@@ -11,7 +11,7 @@ use Rattle.torn_store.proofs.Stored.{holds_among}
 use Rattle.card_pages.specs.Pages.{Cells, StandsFor}
 
 module _ (cells : Cells) (version : ℕ) (opening : CardState) (text : List ℕ) (unused : totals opening [] ≡ opening) (fits : IsCardState opening)
-  (short : HasShortLogs opening) (holds : Holds recover cells text) where
+    (short : HasShortLogs opening) (holds : Holds recover cells text) where
   -- of version 1
   pub formatted_one : version ≡ 1 → text ≡ encoding_one opening → StandsFor cells version opening []
   formatted_one old is =

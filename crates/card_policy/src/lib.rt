@@ -13,9 +13,8 @@ ghost use Rattle.card_policy.specs.Policy as spec;
 ghost use Rattle.card_policy.specs.Policy.{ApprovesAlone, decline_of, first_kind, is_absent, second_kind};
 
 use card_state::{AppState, How};
-use emv_dict::Kind;
-
 pub use card_state::{Auth, Which};
+use emv_dict::Kind;
 
 /// The authorisation response code of a terminal that was unable to go online and would approve (EMV
 /// 4.3 Book 4 Annex A6).
@@ -34,13 +33,7 @@ pub fn may_start(state: &AppState, card_blocked: bool) -> bool
 /// above it. A blocked card or application declines. `which` tells in which of the application's currencies
 /// the purchase is; `amount` is in the currency's least unit.
 #[tactic(auto, unfolding(crate::specs::Policy::first_kind))]
-pub fn first(
-    asked: Kind,
-    state: &AppState,
-    card_blocked: bool,
-    which: Which,
-    amount: u64,
-) -> Kind
+pub fn first(asked: Kind, state: &AppState, card_blocked: bool, which: Which, amount: u64) -> Kind
     ensures exact { result ≡ first_kind asked state.now card_blocked which amount }
     ensures allowed { (sale : SaleOf) → sale.which ≡ which → sale.amount ≡ amount
         → MayDecide state.now (First result sale) }
@@ -51,11 +44,7 @@ pub fn first(
     match asked {
         Kind::Aac => Kind::Aac,
         Kind::Arqc => unless_blocked(state, card_blocked, Kind::Arqc),
-        Kind::Tc => unless_blocked(
-            state,
-            card_blocked,
-            alone(state, which, amount, Kind::Arqc),
-        ),
+        Kind::Tc => unless_blocked(state, card_blocked, alone(state, which, amount, Kind::Arqc)),
     }
 }
 

@@ -5,10 +5,13 @@ use Rattle.card_state.specs.Encoding.{AreBytes}
 
 -- an array of bytes
 pub are_bytes : (bs : List ℕ) (n : ℕ) → length bs ≡ n → ((i : ℕ) → get_or bs i 0 < 256) → AreBytes n bs
-are_bytes bs n size small = (size, λ k d within. (
-  let here : get_or bs k 0 < 256 = small k in
-  let same : get_or bs k d ≡ get_or bs k 0 = get_or_default bs k d 0 within in
-  let goal : get_or bs k d < 2 ^ 8 = omega arith in goal))
+are_bytes bs n size small = (
+  size,
+  λ k d within. (
+      let here : get_or bs k 0 < 256 = small k in
+      let same : get_or bs k d ≡ get_or bs k 0 = get_or_default bs k d 0 within in
+      let goal : get_or bs k d < 2 ^ 8 = omega arith in goal),
+)
 
 -- three parts, one behind the other
 pub three : (out one two three all a b c : List ℕ) → one ≡ out ++ a → two ≡ one ++ b → three ≡ two ++ c → all ≡ (a ++ b) ++ c → three ≡ out ++ all

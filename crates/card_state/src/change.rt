@@ -146,9 +146,11 @@ fn reset(app: &AppState) -> AppState
 /// The state after one more offline approval, without its row.
 fn with_approval(app: &AppState, sale: &Sale) -> AppState
     requires { WithinLimits app.now sale.now }
-    ensures { result ≡ record app.now { count = app.now.count + 1;
-        sum = plus app.now.sum (amount_in is_one (Some sale.now));
-        sum_two = plus app.now.sum_two (amount_in is_two (Some sale.now)) } }
+    ensures { result ≡ record app.now {
+      count = app.now.count + 1;
+      sum = plus app.now.sum (amount_in is_one (Some sale.now));
+      sum_two = plus app.now.sum_two (amount_in is_two (Some sale.now));
+    } }
 {
     let count = app.count + 1;
     match sale.which {
@@ -183,13 +185,7 @@ fn row_of(counter: u16, kind: Kind, sale: &Sale) -> LogRow
 }
 
 /// The row of these fields.
-fn row_with(
-    counter: u16,
-    kind: Kind,
-    raw: [u8; 6],
-    currency: [u8; 2],
-    date: [u8; 3],
-) -> LogRow
+fn row_with(counter: u16, kind: Kind, raw: [u8; 6], currency: [u8; 2], date: [u8; 3]) -> LogRow
     ensures is { result ≡ record { raw = raw; currency = currency; date = date; counter = counter; kind = kind_byte kind } }
     ensures raw { AreBytes 6 raw }
     ensures currency { AreBytes 2 currency }

@@ -249,7 +249,15 @@ const HISTORIES: [(&[Decision], Counts); 10] = [
     ),
     (
         &[
-            STARTED, APPROVED_TWO, APPROVED, STARTED, ONLINE, RIGHT, FINISHED, STARTED, APPROVED,
+            STARTED,
+            APPROVED_TWO,
+            APPROVED,
+            STARTED,
+            ONLINE,
+            RIGHT,
+            FINISHED,
+            STARTED,
+            APPROVED,
             APPROVED_TWO,
         ],
         Counts {
@@ -508,8 +516,15 @@ fn other_bytes_are_no_state(rt: HostRuntime) {
     let mut longer = [0; 68];
     longer[..67].copy_from_slice(&LOGGED);
     assert!(rt; decode(&longer).is_none());
-    let wrong_bytes: [(usize, u8); 7] =
-        [(0, 3), (0, 1), (1, 5), (2, 2), (26, 4), (52, 0), (52, 11)];
+    let wrong_bytes: [(usize, u8); 7] = [
+        (0, 3),
+        (0, 1),
+        (1, 5),
+        (2, 2),
+        (26, 4),
+        (52, 0),
+        (52, 11),
+    ];
     for (place, byte) in wrong_bytes {
         let mut wrong = LOGGED;
         if place < 67 {
