@@ -14,12 +14,13 @@ are_bytes bs n size small = (
 )
 
 -- three parts, one behind the other
-pub three : (out one two three all a b c : List ℕ) → one ≡ out ++ a → two ≡ one ++ b → three ≡ two ++ c → all ≡ (a ++ b) ++ c → three ≡ out ++ all
-three out one two three all a b c first second third is =
+pub three_parts : (out after_one after_two after_all all a b c : List ℕ) → after_one ≡ out ++ a → after_two ≡ after_one ++ b → after_all ≡ after_two ++ c
+    → all ≡ (a ++ b) ++ c → after_all ≡ out ++ all
+three_parts out after_one after_two after_all all a b c first second third is =
     third
     ∙ ap (λ (xs : List ℕ). xs ++ c) (second ∙ ap (λ (xs : List ℕ). xs ++ b) first)
-    ∙ regroup
+    ∙ regroup out a b c
     ∙ ap (λ (xs : List ℕ). out ++ xs) (sym is)
   where
-    regroup : ((out ++ a) ++ b) ++ c ≡ out ++ ((a ++ b) ++ c)
-    regroup = simp append_assoc
+    regroup : (out a b c : List ℕ) → ((out ++ a) ++ b) ++ c ≡ out ++ ((a ++ b) ++ c)
+    regroup out a b c = simp append_assoc

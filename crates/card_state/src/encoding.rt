@@ -1,4 +1,4 @@
-ghost use Rattle.std.specs.Prelude.{◌≡◌, ◌+◌, ◌*◌, ◌≤◌, ◌++◌, length, flat_map};
+ghost use Rattle.std.specs.Prelude.{◌≡◌, ◌+◌, ◌*◌, ◌^◌, ◌<◌, ◌≤◌, [], ◌∷◌, ◌++◌, length, flat_map};
 ghost use Rattle.std.specs.List.{All};
 ghost use Rattle.arrayvec.specs.ArrayVec.{array_vec_len};
 ghost use Rattle.card_state.specs.Encoding.{app_bytes, app_bytes_one, AreBytes, encoding, encoding_one, flags_of, IsAppOne, IsAppState, IsCardState, IsMore, IsRow, more_bytes, row_bytes};
@@ -86,19 +86,18 @@ fn append_more(out: &mut ArrayVec<u8, 1024>, app: &AppState)
     ensures len { array_vec_len out.new ≡ array_vec_len out.old + 18 }
     ensures ranges { IsMore app.now }
 {
-    let log_max = app.log_max;
     append(out, &app.sum_two.to_be_bytes());
     append(out, &app.limit_two.to_be_bytes());
-    append(out, &[log_max]);
-    append(out, &[rows_in(&app.log)]);
+    append(out, &log_sizes(app.log_max, &app.log));
 }
 
-/// The number of rows, as a byte.
-fn rows_in(rows: &ArrayVec<LogRow, 10>) -> u8
-    ensures count { result ≡ length rows.now.items }
+/// The greatest number of rows of a log and their number, as bytes.
+fn log_sizes(most: u8, rows: &ArrayVec<LogRow, 10>) -> [u8; 2]
+    ensures bytes { result ≡ most ∷ length rows.now.items ∷ [] }
+    ensures most { most < 2 ^ 8 }
     ensures few { length rows.now.items ≤ 10 }
 {
-    rows.len() as u8
+    [most, rows.len() as u8]
 }
 
 /// Appends rows of a log, 14 bytes each.

@@ -1,4 +1,4 @@
-use Rattle.std.proofs.Common.{◌≡◌, ◌+◌, ◌-◌, ◌++◌, List, suc, option_map, rules, sym, ap, ◌∙◌, arith}
+use Rattle.std.proofs.Common.{◌≡◌, ◌+◌, ◌-◌, ◌++◌, List, length, take, drop, suc, option_map, rules, sym, ap, ◌∙◌, arith}
 use Rattle.card_state.specs.declared.state.AppState.{AppState}
 use Rattle.card_state.specs.Layout.{apps_in}
 use Rattle.card_state.proofs.Apps.{nothing_read, one_more_read, not_read, whole_read, more_left}
@@ -16,7 +16,7 @@ loop-i-preserved c =
       left =
           one_more_read c.args.version (apps_in c.args.version c.args.count c.args.bytes.now) c.loop-i.apps.items c.loop-i.rest.now n (c.args.count - c.loop-i.i)
           c.size_of.result c.in-Some.app some c.in-Some.ensures.exact c.size_of.ensures c.loop-i.invariant.left
-          ∙ ap (λ (xs : List AppState). option_map (λ (ss : List AppState). xs ++ ss) (apps_in c.args.version n _)) (sym c.push.ensures.items);
+          ∙ ap (λ (xs : List AppState). option_map (λ (ss : List AppState). xs ++ ss) (apps_in c.args.version n (take (length c.loop-i.rest.now - c.size_of.result) (drop c.size_of.result c.loop-i.rest.now)))) (sym c.push.ensures.items);
     }
 
 pub returns-in-None : goal.returns-in-None

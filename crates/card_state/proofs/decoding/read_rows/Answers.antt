@@ -1,4 +1,4 @@
-use Rattle.std.proofs.Common.{◌≡◌, ◌+◌, ◌-◌, ◌++◌, List, suc, rules, refl, sym, ap, ◌∙◌, arith, length-drop, length-take-le}
+use Rattle.std.proofs.Common.{◌≡◌, ◌+◌, ◌-◌, ◌++◌, List, length, take, drop, suc, rules, sym, ap, ◌∙◌, arith}
 use Rattle.card_state.specs.declared.state.LogRow.{LogRow}
 use Rattle.card_state.specs.Layout.{rows_in}
 use Rattle.card_state.proofs.LayoutLemmas.{one_more_row, all_rows}
@@ -14,7 +14,7 @@ loop-i-preserved c =
       left =
           one_more_row (rows_in c.args.count c.args.bytes.now) c.loop-i.rows.items n (c.args.count - c.loop-i.i) c.loop-i.rest.now c.read_row.result
           some c.read_row.ensures c.loop-i.invariant.left
-          ∙ ap (λ (xs : List LogRow). xs ++ rows_in n _) (sym c.push.ensures.items);
+          ∙ ap (λ (xs : List LogRow). xs ++ rows_in n (take (length c.loop-i.rest.now - 14) (drop 14 c.loop-i.rest.now))) (sym c.push.ensures.items);
     }
 
 pub returns : goal.returns

@@ -6,13 +6,12 @@ pub returns-clause-items : goal.returns-clause-items
 unfolding more_bytes
 returns-clause-items c =
     rw (
-      c.append-4.ensures.items,
       c.append-3.ensures.items,
       c.append-2.ensures.items,
       c.append.ensures.items,
       c.to_be_bytes.ensures,
       c.to_be_bytes-2.ensures,
-      c.rows_in.ensures.count,
+      c.log_sizes.ensures.bytes,
     )
     (simp append_assoc)
 
@@ -20,6 +19,6 @@ pub returns-clause-ranges : goal.returns-clause-ranges
 returns-clause-ranges c = record {
   sum_two = omega arith;
   limit_two = omega arith;
-  log_max = omega arith;
-  few_rows = c.rows_in.ensures.few;
+  log_max = c.log_sizes.ensures.most;
+  few_rows = c.log_sizes.ensures.few;
 }
