@@ -1,4 +1,4 @@
-ghost use Rattle.std.specs.Prelude.{◌≡◌, ℕ, List, take, drop};
+ghost use Rattle.std.specs.Prelude.{◌≡◌, ℕ, List, take, drop, reverse};
 ghost use Rattle.triple_des.specs.Des.{des};
 ghost use Rattle.triple_des.specs.TripleDes.{left_keys, right_keys, tdes, untdes};
 
@@ -6,12 +6,13 @@ use crate::single::Des;
 use std::marker::Model;
 
 /// A key of two-key triple DES (FIPS 46-3): sixteen bytes, the left key and the right, with the round
-/// keys of both.
+/// keys of both. Those of the right are kept in reverse, since enciphering and the message authentication
+/// code decipher with the right key.
 #[derive(Drop)]
 pub struct Key16 {
     bytes: [u8; 16],
     left: Des,
-    right: Des,
+    right_reversed: Des,
 }
 
 impl Model for Key16 {
@@ -20,7 +21,7 @@ impl Model for Key16 {
     ghost view = { λ key. key.bytes };
 
     ghost invariant = { λ key. (key.left ≡ left_keys key.bytes)
-        × (key.right ≡ right_keys key.bytes) };
+        × (key.right_reversed ≡ reverse (right_keys key.bytes)) };
 }
 
 impl Key16 {
@@ -35,7 +36,7 @@ impl Key16 {
         Key16 {
             bytes,
             left: Des::new(left),
-            right: Des::new(right),
+            right_reversed: Des::new(right).reversed(),
         }
     }
 
@@ -46,7 +47,7 @@ impl Key16 {
         Key16 {
             bytes: self.bytes,
             left: self.left.copy(),
-            right: self.right.copy(),
+            right_reversed: self.right_reversed.copy(),
         }
     }
 
@@ -64,22 +65,22 @@ impl Key16 {
         &self.left
     }
 
-    /// The right key alone, for single DES.
-    pub(crate) fn right(&self) -> &Des
-        ensures { result.now ≡ right_keys self.now }
+    /// The right key alone with its round keys in reverse: it enciphers where the right key deciphers.
+    pub(crate) fn right_reversed(&self) -> &Des
+        ensures { result.now ≡ reverse (right_keys self.now) }
     {
-        &self.right
+        &self.right_reversed
     }
 
     /// Enciphers a block with the left key, deciphers it with the right and enciphers it with the left.
-    #[tactic(auto, unfolding(crate::specs::TripleDes::tdes, crate::specs::TripleDes::untdes))]
+    #[tactic(auto, unfolding(crate::specs::TripleDes::tdes, crate::specs::TripleDes::untdes, crate::specs::Des::deciphered))]
     pub fn encipher(&self, block: [u8; 8]) -> [u8; 8]
         ensures value { result ≡ tdes self.now block }
         ensures undone { untdes self.now result ≡ block }
         ensures single { take 8 self.now ≡ drop 8 self.now → result ≡ des (take 8 self.now) block }
     {
         self.left
-            .encipher(self.right.decipher(self.left.encipher(block)))
+            .encipher(self.right_reversed.encipher(self.left.encipher(block)))
     }
 
     /// Deciphers a block with the left key, enciphers it with the right and deciphers it with the left.
@@ -89,6 +90,6 @@ impl Key16 {
         ensures undone { tdes self.now result ≡ block }
     {
         self.left
-            .decipher(self.right.encipher(self.left.decipher(block)))
+            .decipher(self.right_reversed.decipher(self.left.decipher(block)))
     }
 }
