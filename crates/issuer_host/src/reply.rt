@@ -110,6 +110,10 @@ fn scripts(
     if served {
         return bytes;
     }
+    // Without scripts no key is made for them.
+    if account.scripts.is_empty() {
+        return bytes;
+    }
     let cryptogram = fields.t9f26;
     let script_keys = ScriptKeys {
         mac: session_script(&master_key(&keys.mac, &key.pan, key.sequence), cryptogram),
