@@ -14,21 +14,24 @@ use Rattle.issuer_host.specs.declared.code.Code.TheVariants.{Approved, Declined,
 use Rattle.issuer_host.specs.declared.keys.HostKeys.{HostKeys}
 use Rattle.issuer_host.proofs.Responses.{response_is_right}
 
+-- what is said where the request is genuine, and where it isn't
+abbrev said : HostKeys → AccountData → Books → RequestData → Bool → Said
+said keys account books f genuine = (if genuine then online_reply keys account books f (request_code keys account books f) else plain Declined)
+
+given : (keys : HostKeys) (account : AccountData) (books : Books) (f : RequestData) (genuine : Bool) → is_some (said keys account books f genuine).auth ≡ genuine
+given keys account books f true = refl
+given keys account books f false = refl
+
+right : (keys : HostKeys) (account : AccountData) (books : Books) (f : RequestData) (genuine : Bool)
+    → IfSome (said keys account books f genuine).auth (λ response. is_right_response (session_of keys.ac (request_key f)) f.t9f26 response ≡ true)
+right keys account books f true = response_is_right account.arpc account.status (session_of keys.ac (request_key f)) f.t9f26 (request_code keys account books f)
+right keys account books f false = tt
+
 responds : (keys : HostKeys) (account : AccountData) (books : Books) (f : RequestData) → Responds keys account books f
-responds keys account books f = record { given = by_given (request_is_genuine keys f); right = by_right (request_is_genuine keys f) }
-  where
-    said : Bool → Said
-    said genuine = if genuine then online_reply keys account books f (request_code keys account books f) else plain Declined
-
-    by_given : (genuine : Bool) → is_some (said genuine).auth ≡ genuine
-    unfolding said
-    by_given true = refl
-    by_given false = refl
-
-    by_right : (genuine : Bool) → IfSome (said genuine).auth (λ response. is_right_response (session_of keys.ac (request_key f)) f.t9f26 response ≡ true)
-    unfolding said
-    by_right true = response_is_right account.arpc account.status (session_of keys.ac (request_key f)) f.t9f26 (request_code keys account books f)
-    by_right false = tt
+responds keys account books f = record {
+  given = given keys account books f (request_is_genuine keys f);
+  right = right keys account books f (request_is_genuine keys f);
+}
 
 second : (p q : Bool) → IsTrue (p && q) → q ≡ true
 second true true both = refl

@@ -1,9 +1,9 @@
 -- The issuer authentication data that the host makes: how many bytes they are, and that they answer the request's
 -- cryptogram.
-use Rattle.std.proofs.Common.{◌≡◌, ℕ, Bool, true, false, ◌≤◌, if◌then◌else◌, List, [], ◌∷◌, ◌++◌, length, take, drop, refl, sym, ap, ◌∙◌, arith, length-append}
+use Rattle.std.proofs.Common.{◌≡◌, ℕ, Bool, true, false, ◌≤◌, if◌then◌else◌, List, [], ◌∷◌, ◌++◌, length, take, drop, refl, arith, length-append}
 use Rattle.std.specs.Prelude.{◌==◌}
 use Rattle.std.specs.Str.{bytes_eq}
-use Rattle.std.proofs.lemmas.List.{take_at, drop_at}
+use Rattle.std.proofs.lemmas.List.{take_at, drop_at, take_all, drop_all}
 use Rattle.std.proofs.lemmas.Slice.Eq.{bytes_eq-Decides}
 use Rattle.app_cryptogram.specs.Cryptograms.{arpc_of, arpc_two_of}
 use Rattle.issuer_host.specs.Code.{code_bytes, is_approved}
@@ -64,8 +64,8 @@ right_one session arqc front behind eight ten is =
 
 right_two : (session arqc front status : List ℕ) → length front ≡ 4 → length status ≡ 4 → length (front ++ status) ≡ 8 → front ≡ arpc_two_of session arqc status [] → is_right_response session arqc (front ++ status) ≡ true
 right_two session arqc front status four four_more eight is =
-    let whole : take 4 status ≡ status = take_at status [] 4 four_more in
-    let none : drop 8 (front ++ status) ≡ [] = drop_at (front ++ status) [] 8 eight in
+    let whole : take 4 status ≡ status = take_all 4 status (omega (arith, four_more)) in
+    let none : drop 8 (front ++ status) ≡ [] = drop_all 8 (front ++ status) (omega (arith, eight)) in
     rw (eight, take_at front status 4 four, drop_at front status 4 four, whole, none) ((bytes_eq-Decides front (arpc_two_of session arqc status [])).1 is)
 
 -- they answer the request's cryptogram

@@ -68,10 +68,10 @@ pub fn mac(key: &Key16, text: &[u8]) -> [u8; 8]
 }
 
 /// The message authentication code of two texts as one, the tail right behind the head.
-#[tactic(auto, unfolding(crate::specs::Mac::mac, crate::specs::Des::deciphered))]
+#[tactic(auto, unfolding(crate::specs::Mac::mac))]
 pub fn mac_joined(key: &Key16, head: &[u8], tail: &[u8]) -> [u8; 8]
     ensures { result ≡ mac key.now (head.now ++ tail.now) }
 {
     let last = chain(key.left(), head, tail);
-    key.left().encipher(key.right_reversed().encipher(last))
+    key.left().encipher(key.decipher_right(last))
 }

@@ -1,5 +1,5 @@
 ghost use Rattle.std.specs.Prelude.{◌≡◌, ℕ, List, take, drop, reverse};
-ghost use Rattle.triple_des.specs.Des.{des};
+ghost use Rattle.triple_des.specs.Des.{des, enciphered, deciphered};
 ghost use Rattle.triple_des.specs.TripleDes.{left_keys, right_keys, tdes, untdes};
 
 use crate::single::Des;
@@ -65,22 +65,31 @@ impl Key16 {
         &self.left
     }
 
-    /// The right key alone with its round keys in reverse: it enciphers where the right key deciphers.
-    pub(crate) fn right_reversed(&self) -> &Des
-        ensures { result.now ≡ reverse (right_keys self.now) }
+    /// Deciphers a block with the right key alone, by single DES.
+    pub(crate) fn decipher_right(&self, block: [u8; 8]) -> [u8; 8]
+        ensures value { result ≡ deciphered (right_keys self.now) block }
+        ensures undone { enciphered (right_keys self.now) result ≡ block }
     {
-        &self.right_reversed
+        self.right_reversed.encipher(block)
+    }
+
+    /// Enciphers a block with the right key alone, by single DES.
+    fn encipher_right(&self, block: [u8; 8]) -> [u8; 8]
+        ensures value { result ≡ enciphered (right_keys self.now) block }
+        ensures undone { deciphered (right_keys self.now) result ≡ block }
+    {
+        self.right_reversed.decipher(block)
     }
 
     /// Enciphers a block with the left key, deciphers it with the right and enciphers it with the left.
-    #[tactic(auto, unfolding(crate::specs::TripleDes::tdes, crate::specs::TripleDes::untdes, crate::specs::Des::deciphered))]
+    #[tactic(auto, unfolding(crate::specs::TripleDes::tdes, crate::specs::TripleDes::untdes))]
     pub fn encipher(&self, block: [u8; 8]) -> [u8; 8]
         ensures value { result ≡ tdes self.now block }
         ensures undone { untdes self.now result ≡ block }
         ensures single { take 8 self.now ≡ drop 8 self.now → result ≡ des (take 8 self.now) block }
     {
         self.left
-            .encipher(self.right_reversed.encipher(self.left.encipher(block)))
+            .encipher(self.decipher_right(self.left.encipher(block)))
     }
 
     /// Deciphers a block with the left key, enciphers it with the right and deciphers it with the left.
@@ -90,6 +99,6 @@ impl Key16 {
         ensures undone { tdes self.now result ≡ block }
     {
         self.left
-            .decipher(self.right_reversed.decipher(self.left.decipher(block)))
+            .decipher(self.encipher_right(self.left.decipher(block)))
     }
 }
