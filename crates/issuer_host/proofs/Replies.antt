@@ -157,6 +157,6 @@ replies_written keys accounts messages message all = every_reply IsReply keys ac
           let session = session_of keys.ac (request_key f) in
           let least = response_least account.arpc account.status session f.t9f26 code in
           let most = response_most account.arpc account.status session f.t9f26 code in
-          reply_written (code_bytes code) (Some (response_of keys account f code)) (scripts_for keys account books f) (two_bytes code) (least, omega arith)
+          reply_written (code_bytes code) (Some (response_of keys account f code)) (scripts_for keys account books f) (two_bytes code) (least, most)
           (scripts_spelled keys account books f (known_account pan accounts account all known));
     }

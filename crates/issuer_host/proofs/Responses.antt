@@ -1,12 +1,14 @@
 -- The issuer authentication data that the host makes: how many bytes they are, and that they answer the request's
 -- cryptogram.
-use Rattle.std.proofs.Common.{◌≡◌, ℕ, Bool, true, false, ◌≤◌, if◌then◌else◌, List, [], ◌∷◌, ◌++◌, length, take, drop, refl, arith, length-append}
+use Rattle.std.proofs.Common.{◌≡◌, ℕ, Bool, true, false, ◌&&◌, IsTrue, ◌%◌, ◌<◌, ◌≤◌, nat_lt, List, [], ◌∷◌, ◌++◌, length, take, drop, refl, arith, length-append}
 use Rattle.std.specs.Prelude.{◌==◌}
 use Rattle.std.specs.Str.{bytes_eq}
+use Rattle.std.proofs.lemmas.Bool.{ltb-true}
 use Rattle.std.proofs.lemmas.List.{take_at, drop_at, take_all, drop_all}
 use Rattle.std.proofs.lemmas.Slice.Eq.{bytes_eq-Decides}
 use Rattle.app_cryptogram.specs.Cryptograms.{arpc_of, arpc_two_of}
-use Rattle.issuer_host.specs.Code.{code_bytes, is_approved}
+use Rattle.issuer_host.specs.Account.{is_status}
+use Rattle.issuer_host.specs.Code.{code_bytes}
 use Rattle.issuer_host.specs.Response.{status_for, response_by, is_right_response}
 use Rattle.issuer_host.specs.declared.account.Method.{Method}
 use Rattle.issuer_host.specs.declared.account.Method.TheVariants.{One, Two}
@@ -30,6 +32,15 @@ four_bytes status NoFunds = refl
 four_bytes status Expired = refl
 four_bytes status WrongPin = refl
 
+second : (p q : Bool) → IsTrue (p && q) → q ≡ true
+second true true both = refl
+second true false both = absurd both
+second false q both = absurd both
+
+-- an account's status leaves bit 8 to the code
+pub status_small : (status : ℕ) → IsTrue (is_status status) → status < 128
+status_small status is = ltb-true status 128 (second (status % 16 == 0) (nat_lt status 128) is)
+
 -- ten bytes by method 1, eight by method 2
 size_of : Method → ℕ
 size_of One = 10
@@ -47,7 +58,7 @@ unfolding size_of
 at_least One = omega arith
 at_least Two = omega arith
 
-at_most : (method : Method) → size_of method ≤ 10
+at_most : (method : Method) → size_of method ≤ 16
 unfolding size_of
 at_most One = omega arith
 at_most Two = omega arith
@@ -55,7 +66,7 @@ at_most Two = omega arith
 pub response_least : (method : Method) (status : ℕ) (session arqc : List ℕ) (code : Code) → 8 ≤ length (response_by method status session arqc code)
 response_least method status session arqc code = omega (arith, response_size method status session arqc code, at_least method)
 
-pub response_most : (method : Method) (status : ℕ) (session arqc : List ℕ) (code : Code) → length (response_by method status session arqc code) ≤ 10
+pub response_most : (method : Method) (status : ℕ) (session arqc : List ℕ) (code : Code) → length (response_by method status session arqc code) ≤ 16
 response_most method status session arqc code = omega (arith, response_size method status session arqc code, at_most method)
 
 right_one : (session arqc front behind : List ℕ) → length front ≡ 8 → length (front ++ behind) ≡ 10 → front ≡ arpc_of session arqc behind → is_right_response session arqc (front ++ behind) ≡ true

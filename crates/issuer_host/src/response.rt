@@ -36,6 +36,7 @@ pub fn issuer_data(session: &Key16, account: &Account, arqc: [u8; 8], code: Code
 }
 
 /// The status bytes of method 2.
+#[tactic(auto, using(crate::proofs::Responses::status_small))]
 fn status_bytes(status: u8, code: Code) -> [u8; 4]
     requires { IsTrue (is_status status) }
     ensures { result ≡ status_for status code }
