@@ -32,6 +32,7 @@ account_rules card = record {
   few_scripts = omega arith;
   whole_scripts = λ k d within. absurd (omega (arith, within));
   short_scripts = omega arith;
+  status_bits = refl;
 }
 
 first_list : IsTrue (is_cdol1 cdol1)
@@ -65,10 +66,14 @@ app_rules card = record {
   sum_limit = refl;
   pin = reference_block;
   tries = refl;
+  currency_two = refl;
+  limit_two = refl;
+  log = refl;
+  log_sfi = refl;
   opening = refl;
 }
 
-image_rules : (card : ℕ) → IsImage (app_of card ∷ [])
+image_rules : (card : ℕ) → IsImage (image_of card)
 image_rules card = record {
   some = omega arith;
   few = omega arith;

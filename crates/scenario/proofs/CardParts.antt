@@ -16,9 +16,10 @@ use Rattle.card_files.specs.Views.{RecordData}
 use Rattle.issuer_host.specs.declared.keys.HostKeys.{HostKeys}
 use Rattle.scenario_fields.specs.Value.{is_one_of}
 use Rattle.scenario_fields.specs.declared.spot.Characters.TheVariants.{Printable}
-use Rattle.scenario.specs.CardRules.{KeepsFiles, KeepsHolder, KeepsCounters, KeepsAccess, AreAnswers, IsNewRecord, IsNewApp, IsCard, IsNewCard}
+use Rattle.scenario.specs.CardRules.{KeepsFiles, KeepsHolder, KeepsCounters, KeepsAccess, KeepsExtras, AreAnswers, IsNewRecord, IsNewApp, IsCard, IsNewCard}
 use Rattle.scenario.specs.Cards.{FilesData, HolderData, CountersData, AccessData, app_with, opening_of, has_name, is_named}
 use Rattle.scenario.specs.Seen.{seen_card, seen_cards}
+use Rattle.scenario.specs.declared.extras.Extras.{Extras}
 use Rattle.scenario.specs.declared.plan.NamedCard.{NamedCard}
 
 pub records_apart : (old new : List RecordData) (r : RecordData) → new ≡ old ++ r ∷ [] → IsTrue (are_apart old)
@@ -32,10 +33,11 @@ label_passes text within all =
     (and_from (nat_le 1 (length text)) (nat_le (length text) 16) (le-leb 1 (length text) within.0) (le-leb (length text) 16 within.1))
     (list_all-from_AllPass is_printable text all)
 
-app_keeps : (keys : HostKeys) (files : FilesData) (holder : HolderData) (counters : CountersData) (access : AccessData)
-    → KeepsFiles files → KeepsHolder holder → KeepsCounters counters → KeepsAccess access → KeepsRules (app_with keys files holder counters access)
+app_keeps : (keys : HostKeys) (files : FilesData) (holder : HolderData) (counters : CountersData) (access : AccessData) (extras : Extras)
+    → KeepsFiles files → KeepsHolder holder → KeepsCounters counters → KeepsAccess access → KeepsExtras files.pdol files.records holder.currency extras
+    → KeepsRules (app_with keys files holder counters access extras)
 unfolding app_with opening_of
-app_keeps keys files holder counters access f h c a = record {
+app_keeps keys files holder counters access extras f h c a e = record {
   name = f.name;
   label = f.label;
   pdol = f.pdol;
@@ -52,17 +54,22 @@ app_keeps keys files holder counters access f h c a = record {
   sum_limit = c;
   pin = a.pin;
   tries = a.tries;
+  currency_two = e.currency_two;
+  limit_two = e.limit_two;
+  log = e.log;
+  log_sfi = e.log_sfi;
   opening = eq-eqb access.tries access.tries refl;
 }
 
 -- an application of parts that keep to their rules
-pub is_new : (keys : HostKeys) (files : FilesData) (holder : HolderData) (counters : CountersData) (access : AccessData) (earlier : List AppData) (app : AppData)
-    → app ≡ app_with keys files holder counters access → KeepsFiles files → KeepsHolder holder → KeepsCounters counters → KeepsAccess access
-    → has_name files.name earlier ≡ false → IsNewApp earlier app
+pub is_new : (keys : HostKeys) (files : FilesData) (holder : HolderData) (counters : CountersData) (access : AccessData) (extras : Extras)
+    (earlier : List AppData) (app : AppData)
+    → app ≡ app_with keys files holder counters access extras → KeepsFiles files → KeepsHolder holder → KeepsCounters counters → KeepsAccess access
+    → KeepsExtras files.pdol files.records holder.currency extras → has_name files.name earlier ≡ false → IsNewApp earlier app
 unfolding app_with
-is_new keys files holder counters access earlier app same f h c a first =
-    let new : IsNewApp earlier (app_with keys files holder counters access) =
-    record { rules = app_keeps keys files holder counters access f h c a; first = first } in
+is_new keys files holder counters access extras earlier app same f h c a e first =
+    let new : IsNewApp earlier (app_with keys files holder counters access extras) =
+    record { rules = app_keeps keys files holder counters access extras f h c a e; first = first } in
     subst (λ (x : AppData). IsNewApp earlier x) (sym same) new
 
 pub apps_keep : (old new : List AppData) (app : AppData) → new ≡ old ++ app ∷ [] → All KeepsRules old
