@@ -1,6 +1,6 @@
 -- The cards and accounts of a generated scenario keep to their rules.
 use Rattle.std.proofs.Common.{◌≡◌, ◌≢◌, ◌<◌, ◌+◌, ℕ, List, [], ◌∷◌, ◌++◌, refl, arith, ap}
-use Rattle.std.specs.Prelude.{IsTrue, Some}
+use Rattle.std.specs.Prelude.{IsTrue, Some, None}
 use Rattle.std.specs.List.{slice_index}
 use Rattle.std.proofs.lemmas.List.Elements.{All-cons, All-nil}
 use Rattle.ber_tlv.specs.Item.{byte_at, third_tag_byte, second_tag_byte, tag_at}
@@ -19,7 +19,7 @@ use Rattle.scenario.specs.Plan.{HasPlainName}
 use Rattle.scenario_fields.specs.Value.{is_one_of}
 use Rattle.scenario_fields.specs.declared.spot.Characters.TheVariants.{LowercaseOrDigit}
 use Rattle.generated.proofs.Numbered.{digit_character}
-use Rattle.generated.specs.Card.{cdol1, cdol2, app_of, card_of, files_of, holder_record}
+use Rattle.generated.specs.Card.{cdol1, cdol2, app_of, image_of, card_of, files_of, holder_record}
 use Rattle.generated.specs.Issuer.{account_of, pin}
 
 pub account_rules : (card : ℕ) → IsAccount (account_of card)
@@ -81,7 +81,8 @@ image_rules card = record {
   names = λ i j d order within. absurd (omega (arith, order, within));
 }
 
-pub pushed_image : (card : ℕ) (old new : List AppData) (app : AppData) → old ≡ [] → new ≡ old ++ app ∷ [] → app ≡ app_of card → IsImage new
+pub pushed_image : (card : ℕ) (old new : List AppData) (app : AppData) → old ≡ [] → new ≡ old ++ app ∷ [] → app ≡ app_of card
+    → IsImage (record { apps = new; version = 2; directory = None })
 pushed_image card old new app none pushed is = rw (pushed, none, is) (image_rules card)
 
 pub card_rules : (card : ℕ) → IsCard (card_of card)

@@ -9,13 +9,13 @@ ghost use Rattle.generated.specs.Issuer.{issuer_keys, pan_of, pin as pin_digits}
 ghost use Rattle.generated.specs.Purchases.{cards};
 
 use crate::issuer::{CARDS, CODE, pan, pin};
-use arrayvec::ArrayVec;
 use card_files::rules::reference_pin;
 use card_files::{AppImage, Image, RecordImage};
 use card_keys::master_key;
 use card_state::AppState;
 use emv_dict::{Digits, Name, pan_field, two_digits};
 use issuer_host::HostKeys;
+use scenario::extras::no_log;
 use scenario::{CardKind, NamedCard};
 use std::alloc::{AllocError, Global};
 
@@ -145,7 +145,7 @@ fn opening() -> AppState
         sum_two: 0,
         limit_two: 0,
         log_max: 0,
-        log: ArrayVec::new(),
+        log: no_log(),
     }
 }
 

@@ -56,7 +56,9 @@ fn status_at(fields: &Fields) -> Result<u8, ScenarioFault>
     ensures exact { Gives (λ n. n) result (status_at (path fields.now.place) (table_view fields.now.table.now)) }
     ensures rule { IfOk result (λ n. IsTrue (is_status n)) }
 {
-    Ok(fields.listed_or(0, "status", &[0, 16, 32, 48, 64, 80, 96, 112])? as u8)
+    let number = fields.listed_or(0, "status", &[0, 16, 32, 48, 64, 80, 96, 112])?;
+    let status = number as u8;
+    Ok(status)
 }
 
 #[tactic(auto, unfolding(crate::specs::Accounts::account_keys))]

@@ -15,9 +15,8 @@ ghost use Rattle.scenario.specs.CardRules.{KeepsFiles, KeepsHolder, KeepsCounter
 ghost use Rattle.scenario_fields.specs.declared.spot.Characters.TheVariants.{Printable};
 ghost use Rattle.scenario.specs.SeenCards.{wanted_by};
 
-use crate::extras::{Extras, read_extras};
+use crate::extras::{Extras, no_log, read_extras};
 use crate::record::records_at;
-use arrayvec::ArrayVec;
 use card_files::lists::{MOST_CDOL, MOST_DATA, MOST_PDOL, has_cdol1_entries, has_cdol2_entries};
 use card_files::rules::{MOST_AFL, reference_pin};
 use card_files::{AppImage, RecordImage};
@@ -538,7 +537,7 @@ fn opening_of(counters: &Counters, access: &Access, extras: &Extras) -> AppState
         sum_two: 0,
         limit_two: extras.limit_two,
         log_max: extras.log,
-        log: ArrayVec::new(),
+        log: no_log(),
     }
 }
 

@@ -5,10 +5,12 @@ ghost use Rattle.toml.specs.View.{table_view};
 ghost use Rattle.scenario_fields.specs.Fault.{Gives};
 ghost use Rattle.scenario_fields.specs.Place.{path};
 ghost use Rattle.scenario.specs.CardRules.{KeepsExtras};
-ghost use Rattle.scenario.specs.Extras.{second_currency_at as second_found, log_at as log_found, log_file_at as log_file_found, extras_of};
+ghost use Rattle.scenario.specs.Extras.{second_currency_at as second_found, log_at as log_found, log_file_at as log_file_found, empty_log, extras_of};
 
+use arrayvec::ArrayVec;
 use card_files::RecordImage;
 use card_files::rules::{is_log, is_log_file, is_second_currency};
+use card_state::LogRow;
 use emv_dict::MOST_AMOUNT;
 use scenario_fields::{Fields, ScenarioFault};
 
@@ -24,6 +26,13 @@ pub struct Extras {
     pub log: u8,
     /// The file of the log.
     pub log_sfi: u8,
+}
+
+/// The log before the first transaction.
+pub fn no_log() -> ArrayVec<LogRow, 10>
+    ensures { result ≡ empty_log }
+{
+    ArrayVec::new()
 }
 
 /// The second currency, where there is one.
