@@ -239,12 +239,9 @@ fn second_sum(out: &mut Text, sum: Option<u64>)
     ensures text { out.new.items ≡ out.old.items ++ second_text sum }
     ensures len { array_vec_len out.new ≤ array_vec_len out.old + 41 }
 {
-    match sum {
-        None => {}
-        Some(sum) => {
-            append(out, b",");
-            number(out, sum);
-        }
+    if let Some(sum) = sum {
+        append(out, b",");
+        number(out, sum);
     }
 }
 

@@ -2,7 +2,7 @@
 use Rattle.std.specs.Prelude.{ℕ, List, [], codes, Option, Result, Ok}
 use Rattle.arrayvec.specs.ArrayVec.{ArrayVec}
 use Rattle.card_state.specs.declared.state.LogRow.{LogRow}
-use Rattle.card_files.specs.AppRules.{is_second_currency, is_log, is_log_file}
+use Rattle.card_files.specs.AppRules.{is_second_code, is_log, is_log_file}
 use Rattle.card_files.specs.Views.{RecordData}
 use Rattle.emv_dict.specs.Settings.{most_amount}
 use Rattle.toml.specs.Data.{Members}
@@ -16,7 +16,7 @@ use Rattle.scenario_fields.specs.declared.fault.ScenarioFault.TheVariants.{BadVa
 unfoldable pub second_currency_at : (List ℕ → List ℕ) → List ℕ → Members → Result (Option (List ℕ)) ScenarioFault
 second_currency_at path currency ms = do
   second ← optional_code path (codes "currency_two") ms
-  keep_if (is_second_currency currency second) (BadValue (path (codes "currency_two"))) second
+  keep_if (is_second_code currency second) (BadValue (path (codes "currency_two"))) second
 
 -- how many transactions the log keeps: beside the longest list of processing options none, or the file control
 -- information would be too long
@@ -29,7 +29,7 @@ log_at path pdol ms = do
 unfoldable pub log_file_at : (List ℕ → List ℕ) → ℕ → List RecordData → Members → Result ℕ ScenarioFault
 log_file_at path rows records ms = do
   sfi ← number_or 11 path (codes "log_sfi") 11 30 ms
-  keep_if (is_log_file rows records sfi) (BadValue (path (codes "log_sfi"))) sfi
+  keep_if (is_log_file rows sfi records) (BadValue (path (codes "log_sfi"))) sfi
 
 -- the log before the first transaction
 abbrev pub empty_log : ArrayVec LogRow

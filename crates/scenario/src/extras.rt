@@ -1,6 +1,6 @@
 //! The keys of an application behind its own key: a second currency, and the log of its transactions.
 ghost use Rattle.std.specs.Prelude.{◌≡◌, option_map, IfOk, IsTrue};
-ghost use Rattle.card_files.specs.AppRules.{is_second_currency, is_log, is_log_file};
+ghost use Rattle.card_files.specs.AppRules.{is_second_code, is_log, is_log_file};
 ghost use Rattle.toml.specs.View.{table_view};
 ghost use Rattle.scenario_fields.specs.Fault.{Gives};
 ghost use Rattle.scenario_fields.specs.Place.{path};
@@ -9,7 +9,7 @@ ghost use Rattle.scenario.specs.Extras.{second_currency_at as second_found, log_
 
 use arrayvec::ArrayVec;
 use card_files::RecordImage;
-use card_files::rules::{is_log, is_log_file, is_second_currency};
+use card_files::rules::{is_log, is_log_file, is_second_code};
 use card_state::LogRow;
 use emv_dict::MOST_AMOUNT;
 use scenario_fields::{Fields, ScenarioFault};
@@ -37,15 +37,12 @@ pub fn no_log() -> ArrayVec<LogRow, 10>
 
 /// The second currency, where there is one.
 #[tactic(auto, unfolding(crate::specs::Extras::second_currency_at))]
-fn second_currency_at(
-    fields: &Fields,
-    currency: [u8; 2],
-) -> Result<Option<[u8; 2]>, ScenarioFault>
+fn second_currency_at(fields: &Fields, currency: [u8; 2]) -> Result<Option<[u8; 2]>, ScenarioFault>
     ensures exact { Gives (λ o. o) result (second_found (path fields.now.place) currency (table_view fields.now.table.now)) }
-    ensures rule { IfOk result (λ second. IsTrue (is_second_currency currency second)) }
+    ensures rule { IfOk result (λ second. IsTrue (is_second_code currency second)) }
 {
     let second = fields.optional_code("currency_two")?;
-    if !is_second_currency(currency, second) {
+    if !is_second_code(currency, second) {
         return Err(fields.spot("currency_two").bad());
     }
     Ok(second)
@@ -68,10 +65,10 @@ fn log_at(fields: &Fields, pdol: &Option<Vec<u8>>) -> Result<u8, ScenarioFault>
 #[tactic(auto, unfolding(crate::specs::Extras::log_file_at))]
 fn log_file_at(fields: &Fields, rows: u8, records: &[RecordImage]) -> Result<u8, ScenarioFault>
     ensures exact { Gives (λ n. n) result (log_file_found (path fields.now.place) rows records.now (table_view fields.now.table.now)) }
-    ensures rule { IfOk result (λ n. IsTrue (is_log_file rows records.now n)) }
+    ensures rule { IfOk result (λ n. IsTrue (is_log_file rows n records.now)) }
 {
     let sfi = fields.number_or(11, "log_sfi", 11, 30)? as u8;
-    if !is_log_file(rows, records, sfi) {
+    if !is_log_file(rows, sfi, records) {
         return Err(fields.spot("log_sfi").bad());
     }
     Ok(sfi)

@@ -158,7 +158,10 @@ fn the_cards_account_and_keys_are_read(rt: HostRuntime) {
 
 /// The keys of an account, a card and an application that have a default.
 const BESIDES: [(&str, &str); 3] = [
-    ("balance = 100000", "balance = 100000\narpc = 2\nstatus = 80"),
+    (
+        "balance = 100000",
+        "balance = 100000\narpc = 2\nstatus = 80",
+    ),
     ("name = \"c1\"", "name = \"c1\"\nversion = 1\npse = 10"),
     (
         "tries = 3",
