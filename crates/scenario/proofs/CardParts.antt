@@ -1,7 +1,7 @@
 -- Canned answers, and one more record, application or card behind those that keep to their rules.
-use Rattle.std.proofs.Common.{◌≡◌, ◌≢◌, ◌≤◌, ℕ, false, List, [], ◌∷◌, ◌++◌, length, map, Vec, Global, refl, sym, subst}
+use Rattle.std.proofs.Common.{◌≡◌, ◌≢◌, ◌≤◌, ◌==◌, ◌&&◌, ℕ, Bool, true, false, not, nat_eq, Option, Some, None, List, [], ◌∷◌, ◌++◌, length, map, Vec, Global, refl, sym, subst}
 use Rattle.std.specs.Prelude.{IsTrue, nat_le}
-use Rattle.std.specs.List.{All, AllPairs, list_all}
+use Rattle.std.specs.List.{All, AllPairs, list_all, list_any, starts_with}
 use Rattle.std.proofs.lemmas.Bool.{and_from, le-leb, eq-eqb}
 use Rattle.std.proofs.lemmas.List.{length-map, map-append}
 use Rattle.std.proofs.lemmas.List.Elements.{All-map, All-push}
@@ -10,14 +10,16 @@ use Rattle.std.proofs.lemmas.List.Sums.{list_all-from_AllPass}
 use Rattle.card_files.proofs.OwnNames.{not_taken}
 use Rattle.card_files.proofs.Records.{are_apart-push}
 use Rattle.card_files.specs.AppRules.{has_size, is_printable, is_label, are_apart}
-use Rattle.card_files.specs.Kept.{KeepsRules}
+use Rattle.card_files.specs.Directory.{directory_name}
+use Rattle.card_files.specs.Kept.{KeepsRules, AreInSight}
 use Rattle.card_files.specs.Views.{AppData}
 use Rattle.card_files.specs.Views.{RecordData}
 use Rattle.issuer_host.specs.declared.keys.HostKeys.{HostKeys}
+use Rattle.scenario_fields.proofs.Steps.{none_passes}
 use Rattle.scenario_fields.specs.Value.{is_one_of}
 use Rattle.scenario_fields.specs.declared.spot.Characters.TheVariants.{Printable}
 use Rattle.scenario.specs.CardRules.{KeepsFiles, KeepsHolder, KeepsCounters, KeepsAccess, KeepsExtras, AreAnswers, IsNewRecord, IsNewApp, IsCard, IsNewCard}
-use Rattle.scenario.specs.Cards.{FilesData, HolderData, CountersData, AccessData, app_with, opening_of, has_name, is_named}
+use Rattle.scenario.specs.Cards.{FilesData, HolderData, CountersData, AccessData, app_with, opening_of, has_name, is_named, is_hidden, is_directory}
 use Rattle.scenario.specs.Seen.{seen_card, seen_cards}
 use Rattle.scenario.specs.declared.extras.Extras.{Extras}
 use Rattle.scenario.specs.declared.plan.NamedCard.{NamedCard}
@@ -57,8 +59,11 @@ app_keeps keys files holder counters access extras f h c a e = record {
   currency_two = e.currency_two;
   limit_two = e.limit_two;
   log = e.log;
+  room = e.room;
   log_sfi = e.log_sfi;
-  opening = eq-eqb access.tries access.tries refl;
+  opening =
+      and_from (access.tries == access.tries) ((extras.limit_two == extras.limit_two) && (extras.log == extras.log)) (eq-eqb access.tries access.tries refl)
+      (and_from (extras.limit_two == extras.limit_two) (extras.log == extras.log) (eq-eqb extras.limit_two extras.limit_two refl) (eq-eqb extras.log extras.log refl));
 }
 
 -- an application of parts that keep to their rules
@@ -82,6 +87,17 @@ unfolding has_name
 app_names_differ old new app pushed differ is =
     rw pushed
     (all_pairs_push (λ a b. a.name ≢ b.name) old app differ (not_taken (λ a. a.name) app.name old is.first))
+
+no_longer : (b : Bool) → not b ≡ true → b ≡ false
+no_longer true is = cc
+no_longer false is = refl
+
+-- no application stands behind a directory that may be there
+pub in_sight : (apps : List AppData) (sfi : Option ℕ) → IsTrue (is_directory apps sfi) → AreInSight sfi apps
+unfolding is_hidden
+in_sight apps None is = λ there. cc
+in_sight apps (Some sfi) is =
+    λ there k d inside. none_passes (λ a. starts_with nat_eq a.name directory_name) apps k d (no_longer (is_hidden apps) is) inside
 
 pub are_answers : (answers : List (Vec ℕ Global)) → length answers ≤ 300 → All (λ answer. length answer.items ≤ 258) answers
     → AreAnswers (map (λ answer. answer.items) answers)

@@ -1,9 +1,9 @@
 -- What the readers of a card's keys make sure of: the rules of its image, part by part.
 use Rattle.std.specs.Prelude.{◌≡◌, ◌≢◌, ℕ, ◌≤◌, false, List, length, Option, Some, None, IsTrue}
 use Rattle.std.specs.List.{All, AllPairs, list_any}
-use Rattle.card_files.specs.AppRules.{is_name, is_label, is_afl, is_format, is_record, is_pair, are_records, is_reference_pin, is_sum_limit, is_tries, is_second_code, is_log, is_log_file}
+use Rattle.card_files.specs.AppRules.{is_name, is_label, is_afl, is_format, is_record, is_pair, are_records, is_reference_pin, is_sum_limit, is_tries, is_second_code, is_log_size, is_log_file}
 use Rattle.card_files.specs.Kept.{KeepsRules, IsImage}
-use Rattle.card_files.specs.Lists.{is_optional_pdol, is_cdol1, is_cdol2}
+use Rattle.card_files.specs.Lists.{is_optional_pdol, is_cdol1, is_cdol2, leaves_room}
 use Rattle.card_files.specs.Views.{RecordData, AppData, ImageData}
 use Rattle.emv_dict.specs.Bcd.{has_digits}
 use Rattle.emv_dict.specs.Pan.{is_pan_length}
@@ -44,7 +44,8 @@ pub record KeepsAccess (access : AccessData) : Type 0 where
 pub record KeepsExtras (pdol : Option (List ℕ)) (records : List RecordData) (currency : List ℕ) (extras : Extras) : Type 0 where
   pub currency_two : IsTrue (is_second_code currency extras.currency_two)
   pub limit_two : IsTrue (is_sum_limit extras.limit_two)
-  pub log : IsTrue (is_log pdol extras.log)
+  pub log : IsTrue (is_log_size extras.log)
+  pub room : IsTrue (leaves_room extras.log pdol)
   pub log_sfi : IsTrue (is_log_file extras.log extras.log_sfi records)
 
 -- an application in its rules, of a name that no earlier one has

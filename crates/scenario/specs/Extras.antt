@@ -2,7 +2,8 @@
 use Rattle.std.specs.Prelude.{ℕ, List, [], codes, Option, Result, Ok}
 use Rattle.arrayvec.specs.ArrayVec.{ArrayVec}
 use Rattle.card_state.specs.declared.state.LogRow.{LogRow}
-use Rattle.card_files.specs.AppRules.{is_second_code, is_log, is_log_file}
+use Rattle.card_files.specs.AppRules.{is_second_code, is_log_file, most_rows}
+use Rattle.card_files.specs.Lists.{leaves_room}
 use Rattle.card_files.specs.Views.{RecordData}
 use Rattle.emv_dict.specs.Settings.{most_amount}
 use Rattle.toml.specs.Data.{Members}
@@ -22,8 +23,8 @@ second_currency_at path currency ms = do
 -- information would be too long
 unfoldable pub log_at : (List ℕ → List ℕ) → Option (List ℕ) → Members → Result ℕ ScenarioFault
 log_at path pdol ms = do
-  rows ← number_or 0 path (codes "log") 0 10 ms
-  keep_if (is_log pdol rows) (BadValue (path (codes "log"))) rows
+  rows ← number_or 0 path (codes "log") 0 most_rows ms
+  keep_if (leaves_room rows pdol) (BadValue (path (codes "log"))) rows
 
 -- the file of the log, where there is one: no record stands in it
 unfoldable pub log_file_at : (List ℕ → List ℕ) → ℕ → List RecordData → Members → Result ℕ ScenarioFault

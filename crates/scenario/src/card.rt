@@ -1,9 +1,9 @@
 //! The table of a card.
-ghost use Rattle.std.specs.Prelude.{◌≡◌, ◌≢◌, ◌≤◌, [], length, map, codes, false, IfOk, IfSome, IsTrue, vec_len};
-ghost use Rattle.std.specs.List.{All, AllPairs, list_any};
+ghost use Rattle.std.specs.Prelude.{◌≡◌, ◌≢◌, ◌≤◌, [], length, map, codes, false, nat_eq, IfOk, vec_len};
+ghost use Rattle.std.specs.List.{All, AllPairs, list_any, starts_with};
 ghost use Rattle.std.specs.Str.{bytes_eq};
-ghost use Rattle.card_files.specs.Directory.{is_directory};
-ghost use Rattle.card_files.specs.Kept.{KeepsRules, IsImage};
+ghost use Rattle.card_files.specs.Directory.{directory_name};
+ghost use Rattle.card_files.specs.Kept.{KeepsRules, AreApps, IsDirectoryFile, AreInSight};
 ghost use Rattle.toml.specs.View.{view, table_view, items_view};
 ghost use Rattle.scenario_fields.specs.Fault.{Gives};
 ghost use Rattle.scenario_fields.specs.Fields.{only, optional_number};
@@ -16,8 +16,7 @@ ghost use Rattle.scenario.specs.Seen.{image_of, canned_of, seen_kind, seen_card,
 use crate::app::app_item;
 use crate::canned::canned_at;
 use crate::plan::{CardKind, NamedCard};
-use card_files::directory::is_directory;
-use card_files::{AppImage, Image};
+use card_files::{AppImage, DIRECTORY_NAME, Image};
 use issuer_host::HostKeys;
 use scenario_fields::{Characters, Fields, Place, ScenarioFault, Spot};
 use std::alloc::Global;
@@ -90,7 +89,7 @@ fn apps_at(
     table: &Table,
 ) -> Result<Vec<AppImage>, ScenarioFault>
     ensures exact { Gives (λ apps. apps.items) result (apps_found card keys.now (table_view table.now)) }
-    ensures image { IfOk result (λ apps. IsImage apps.items) }
+    ensures image { IfOk result (λ apps. AreApps apps.items) }
 {
     let fields = Fields {
         alloc,
@@ -111,8 +110,7 @@ fn only_card_keys(fields: &Fields) -> Result<(), ScenarioFault>
 #[tactic(auto, unfolding(crate::specs::Cards::version_at, scenario_fields::specs::Value::is_listed))]
 fn version_at(fields: &Fields) -> Result<u8, ScenarioFault>
     ensures exact { Gives (λ n. n) result (version_found (path fields.now.place) (table_view fields.now.table.now)) }
-    ensures old { IfOk result (λ n. 1 ≤ n) }
-    ensures new { IfOk result (λ n. n ≤ 2) }
+    ensures known { IfOk result (λ n. (1 ≤ n) × (n ≤ 2)) }
 {
     Ok(fields.listed_or(2, "version", &[1, 2])? as u8)
 }
@@ -120,7 +118,7 @@ fn version_at(fields: &Fields) -> Result<u8, ScenarioFault>
 /// The number at the key of the payment system directory, where it is there.
 fn directory_file(fields: &Fields) -> Result<Option<u8>, ScenarioFault>
     ensures exact { Gives (λ o. o) result (optional_number (path fields.now.place) (codes "pse") 1 10 (table_view fields.now.table.now)) }
-    ensures within { IfOk result (λ o. IfSome o (λ sfi. (1 ≤ sfi) × (sfi ≤ 10))) }
+    ensures file { IfOk result IsDirectoryFile }
 {
     match fields.optional_number("pse", 1, 10)? {
         Some(number) => Ok(Some(number as u8)),
@@ -128,12 +126,37 @@ fn directory_file(fields: &Fields) -> Result<Option<u8>, ScenarioFault>
     }
 }
 
+/// Whether an application's name begins with the directory's.
+fn is_behind(app: &AppImage) -> bool
+    ensures { result ≡ starts_with nat_eq app.now.name directory_name }
+{
+    app.name.as_slice().starts_with(&DIRECTORY_NAME)
+}
+
+/// Whether SELECT of the directory's name would find an application too.
+#[tactic(auto, unfolding(crate::specs::Cards::is_hidden))]
+fn is_hidden(apps: &[AppImage]) -> bool
+    ensures { result ≡ spec.is_hidden apps.now }
+{
+    apps.iter().any(|app| is_behind(app))
+}
+
+/// Whether the card may have a directory in this file, or has none.
+fn is_directory(apps: &[AppImage], sfi: Option<u8>) -> bool
+    ensures { result ≡ spec.is_directory apps.now sfi }
+{
+    match sfi {
+        Some(_) => !is_hidden(apps),
+        None => true,
+    }
+}
+
 /// The file of the payment system directory (EMV 4.3 Book 1 section 12.2.3), where the card has one.
 #[tactic(auto, unfolding(crate::specs::Cards::directory_at))]
 fn directory_at(fields: &Fields, apps: &[AppImage]) -> Result<Option<u8>, ScenarioFault>
     ensures exact { Gives (λ o. o) result (directory_found (path fields.now.place) apps.now (table_view fields.now.table.now)) }
-    ensures within { IfOk result (λ o. IfSome o (λ sfi. (1 ≤ sfi) × (sfi ≤ 10))) }
-    ensures rule { IfOk result (λ o. IsTrue (is_directory apps.now o)) }
+    ensures file { IfOk result IsDirectoryFile }
+    ensures sight { IfOk result (λ o. AreInSight o apps.now) }
 {
     let sfi = directory_file(fields)?;
     if !is_directory(apps, sfi) {

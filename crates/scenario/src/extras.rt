@@ -1,6 +1,7 @@
 //! The keys of an application behind its own key: a second currency, and the log of its transactions.
 ghost use Rattle.std.specs.Prelude.{◌≡◌, option_map, IfOk, IsTrue};
-ghost use Rattle.card_files.specs.AppRules.{is_second_code, is_log, is_log_file};
+ghost use Rattle.card_files.specs.AppRules.{is_second_code, is_log_size, is_log_file};
+ghost use Rattle.card_files.specs.Lists.{leaves_room};
 ghost use Rattle.toml.specs.View.{table_view};
 ghost use Rattle.scenario_fields.specs.Fault.{Gives};
 ghost use Rattle.scenario_fields.specs.Place.{path};
@@ -9,7 +10,8 @@ ghost use Rattle.scenario.specs.Extras.{second_currency_at as second_found, log_
 
 use arrayvec::ArrayVec;
 use card_files::RecordImage;
-use card_files::rules::{is_log, is_log_file, is_second_code};
+use card_files::lists::leaves_room;
+use card_files::rules::{MOST_ROWS, is_log_file, is_second_code};
 use card_state::LogRow;
 use emv_dict::MOST_AMOUNT;
 use scenario_fields::{Fields, ScenarioFault};
@@ -52,10 +54,11 @@ fn second_currency_at(fields: &Fields, currency: [u8; 2]) -> Result<Option<[u8; 
 #[tactic(auto, unfolding(crate::specs::Extras::log_at))]
 fn log_at(fields: &Fields, pdol: &Option<Vec<u8>>) -> Result<u8, ScenarioFault>
     ensures exact { Gives (λ n. n) result (log_found (path fields.now.place) (option_map (λ v. v.items) pdol.now) (table_view fields.now.table.now)) }
-    ensures rule { IfOk result (λ n. IsTrue (is_log (option_map (λ v. v.items) pdol.now) n)) }
+    ensures size { IfOk result (λ n. IsTrue (is_log_size n)) }
+    ensures room { IfOk result (λ n. IsTrue (leaves_room n (option_map (λ v. v.items) pdol.now))) }
 {
-    let rows = fields.number_or(0, "log", 0, 10)? as u8;
-    if !is_log(pdol, rows) {
+    let rows = fields.number_or(0, "log", 0, u64::from(MOST_ROWS))? as u8;
+    if !leaves_room(rows, pdol) {
         return Err(fields.spot("log").bad());
     }
     Ok(rows)
