@@ -2,7 +2,7 @@
 use Rattle.std.proofs.Common.{◌≡◌, ◌≢◌, ◌≤◌, ◌==◌, ◌&&◌, ℕ, Bool, true, false, not, nat_eq, Option, Some, None, List, [], ◌∷◌, ◌++◌, length, map, Vec, Global, refl, sym, subst}
 use Rattle.std.specs.Prelude.{IsTrue, nat_le}
 use Rattle.std.specs.List.{All, AllPairs, list_all, list_any, starts_with}
-use Rattle.std.proofs.lemmas.Bool.{and_from, le-leb, eq-eqb}
+use Rattle.std.proofs.lemmas.Bool.{and_from, le-leb, eq-eqb, false≢true}
 use Rattle.std.proofs.lemmas.List.{length-map, map-append}
 use Rattle.std.proofs.lemmas.List.Elements.{All-map, All-push}
 use Rattle.std.proofs.lemmas.List.Quantifiers.{all_pairs_push}
@@ -95,7 +95,7 @@ no_longer false is = refl
 -- no application stands behind a directory that may be there
 pub in_sight : (apps : List AppData) (sfi : Option ℕ) → IsTrue (is_directory apps sfi) → AreInSight sfi apps
 unfolding is_hidden
-in_sight apps None is = λ there. cc
+in_sight apps None is = λ there. absurd (false≢true there)
 in_sight apps (Some sfi) is =
     λ there k d inside. none_passes (λ a. starts_with nat_eq a.name directory_name) apps k d (no_longer (is_hidden apps) is) inside
 

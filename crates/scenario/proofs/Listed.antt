@@ -1,5 +1,5 @@
 -- What the numbers that a key lists have in common.
-use Rattle.std.proofs.Common.{◌≡◌, ℕ, ◌<◌, ◌==◌, nat_lt, Bool, true, false, ◌||◌, List, [], ◌∷◌, refl, subst, arith}
+use Rattle.std.proofs.Common.{◌≡◌, ℕ, ◌<◌, ◌≤◌, ◌==◌, nat_lt, nat_le, Bool, true, false, ◌||◌, ◌&&◌, List, [], ◌∷◌, refl, subst, arith}
 use Rattle.std.specs.Prelude.{IsTrue}
 use Rattle.std.specs.List.{list_all, list_any}
 use Rattle.std.proofs.lemmas.Bool.{and_parts}
@@ -32,3 +32,12 @@ unfolding is_listed
 status_small n listed =
     let small : nat_lt n 128 ≡ true = listed_keeps (λ m. nat_lt m 128) n status_sums refl listed in
     grind (arith, nat_tests)
+
+pub known_version : (n : ℕ) → IsTrue (is_listed n (1 ∷ 2 ∷ [])) → (1 ≤ n) × (n ≤ 2)
+unfolding is_listed
+known_version n listed =
+    let within : (nat_le 1 n && nat_le n 2) ≡ true = listed_keeps (λ m. nat_le 1 m && nat_le m 2) n (1 ∷ 2 ∷ []) refl listed in
+    let limits = and_parts (nat_le 1 n) (nat_le n 2) within in
+    let least : 1 ≤ n = grind (arith, nat_tests) in
+    let most : n ≤ 2 = grind (arith, nat_tests) in
+    (least, most)

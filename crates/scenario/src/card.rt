@@ -112,7 +112,9 @@ fn version_at(fields: &Fields) -> Result<u8, ScenarioFault>
     ensures exact { Gives (λ n. n) result (version_found (path fields.now.place) (table_view fields.now.table.now)) }
     ensures known { IfOk result (λ n. (1 ≤ n) × (n ≤ 2)) }
 {
-    Ok(fields.listed_or(2, "version", &[1, 2])? as u8)
+    let number = fields.listed_or(2, "version", &[1, 2])?;
+    let version = number as u8;
+    Ok(version)
 }
 
 /// The number at the key of the payment system directory, where it is there.

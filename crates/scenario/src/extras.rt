@@ -11,7 +11,7 @@ ghost use Rattle.scenario.specs.Extras.{second_currency_at as second_found, log_
 use arrayvec::ArrayVec;
 use card_files::RecordImage;
 use card_files::lists::leaves_room;
-use card_files::rules::{MOST_ROWS, is_log_file, is_second_code};
+use card_files::rules::{is_log_file, is_second_code};
 use card_state::LogRow;
 use emv_dict::MOST_AMOUNT;
 use scenario_fields::{Fields, ScenarioFault};
@@ -57,7 +57,7 @@ fn log_at(fields: &Fields, pdol: &Option<Vec<u8>>) -> Result<u8, ScenarioFault>
     ensures size { IfOk result (λ n. IsTrue (is_log_size n)) }
     ensures room { IfOk result (λ n. IsTrue (leaves_room n (option_map (λ v. v.items) pdol.now))) }
 {
-    let rows = fields.number_or(0, "log", 0, u64::from(MOST_ROWS))? as u8;
+    let rows = fields.number_or(0, "log", 0, 10)? as u8;
     if !leaves_room(rows, pdol) {
         return Err(fields.spot("log").bad());
     }
