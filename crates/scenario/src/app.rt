@@ -563,7 +563,12 @@ fn read_app(
     let holder = read_holder(alloc, card, index, table)?;
     let counters = read_counters(alloc, card, index, table)?;
     let access = read_access(alloc, card, index, table)?;
-    let extras = read_extras(&fields, &files.pdol, &files.records, holder.currency)?;
+    let extras = read_extras(
+        &fields,
+        &files.pdol,
+        files.records.as_slice(),
+        holder.currency,
+    )?;
     only_app_keys(&fields)?;
     Ok(app_with(keys, files, holder, counters, access, extras))
 }

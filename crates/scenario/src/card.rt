@@ -198,7 +198,7 @@ fn image_kind(
     let apps = apps_at(alloc, index, keys, table)?;
     fields.absent("canned")?;
     let version = version_at(&fields)?;
-    let directory = directory_at(&fields, &apps)?;
+    let directory = directory_at(&fields, apps.as_slice())?;
     match Image::new(apps, version, directory) {
         Ok(image) => Ok(CardKind::App(image)),
         Err(_) => unreachable!(),
