@@ -88,16 +88,16 @@ app_names_differ old new app pushed differ is =
     rw pushed
     (all_pairs_push (λ a b. a.name ≢ b.name) old app differ (not_taken (λ a. a.name) app.name old is.first))
 
-no_longer : (b : Bool) → not b ≡ true → b ≡ false
-no_longer true is = cc
-no_longer false is = refl
+pub not_true : (b : Bool) → not b ≡ true → b ≡ false
+not_true true is = cc
+not_true false is = refl
 
 -- no application stands behind a directory that may be there
 pub in_sight : (apps : List AppData) (sfi : Option ℕ) → IsTrue (is_directory apps sfi) → AreInSight sfi apps
 unfolding is_hidden
 in_sight apps None is = λ there. absurd (false≢true there)
 in_sight apps (Some sfi) is =
-    λ there k d inside. none_passes (λ a. starts_with nat_eq a.name directory_name) apps k d (no_longer (is_hidden apps) is) inside
+    λ there k d inside. none_passes (λ a. starts_with nat_eq a.name directory_name) apps k d (not_true (is_hidden apps) is) inside
 
 pub are_answers : (answers : List (Vec ℕ Global)) → length answers ≤ 300 → All (λ answer. length answer.items ≤ 258) answers
     → AreAnswers (map (λ answer. answer.items) answers)
