@@ -2,7 +2,6 @@
 use Rattle.std.proofs.Common.{◌≡◌, ◌≢◌, ◌<◌, ◌+◌, ℕ, List, [], ◌∷◌, ◌++◌, refl, arith, ap}
 use Rattle.std.specs.Prelude.{IsTrue, Some, None}
 use Rattle.std.specs.List.{slice_index}
-use Rattle.std.proofs.lemmas.Bool.{false≢true}
 use Rattle.std.proofs.lemmas.List.Elements.{All-cons, All-nil}
 use Rattle.ber_tlv.specs.Item.{byte_at, third_tag_byte, second_tag_byte, tag_at}
 use Rattle.card_files.specs.AppRules.{is_reference_pin, reference_pin}
@@ -85,7 +84,7 @@ one_app card = record {
 
 -- a card without a directory hides none
 pub none_hidden : (apps : List AppData) → AreInSight None apps
-none_hidden apps = λ there. absurd (false≢true there)
+none_hidden apps = tt
 
 image_rules : (card : ℕ) → IsImage (image_of card)
 image_rules card = record { apps = one_app card; version = (omega arith, omega arith); directory = tt; sight = none_hidden (app_of card ∷ []) }

@@ -1,8 +1,8 @@
 -- Canned answers, and one more record, application or card behind those that keep to their rules.
-use Rattle.std.proofs.Common.{◌≡◌, ◌≢◌, ◌≤◌, ◌==◌, ◌&&◌, ℕ, Bool, true, false, not, nat_eq, Option, Some, None, List, [], ◌∷◌, ◌++◌, length, map, Vec, Global, refl, sym, subst}
+use Rattle.std.proofs.Common.{◌≡◌, ◌≢◌, ◌≤◌, ◌==◌, ◌&&◌, ℕ, Bool, true, false, not, Option, Some, None, List, [], ◌∷◌, ◌++◌, length, map, Vec, Global, refl, sym, subst}
 use Rattle.std.specs.Prelude.{IsTrue, nat_le}
-use Rattle.std.specs.List.{All, AllPairs, list_all, list_any, starts_with}
-use Rattle.std.proofs.lemmas.Bool.{and_from, le-leb, eq-eqb, false≢true}
+use Rattle.std.specs.List.{All, AllPairs, list_all}
+use Rattle.std.proofs.lemmas.Bool.{and_from, le-leb, eq-eqb}
 use Rattle.std.proofs.lemmas.List.{length-map, map-append}
 use Rattle.std.proofs.lemmas.List.Elements.{All-map, All-push}
 use Rattle.std.proofs.lemmas.List.Quantifiers.{all_pairs_push}
@@ -10,7 +10,7 @@ use Rattle.std.proofs.lemmas.List.Sums.{list_all-from_AllPass}
 use Rattle.card_files.proofs.OwnNames.{not_taken}
 use Rattle.card_files.proofs.Records.{are_apart-push}
 use Rattle.card_files.specs.AppRules.{has_size, is_printable, is_label, are_apart}
-use Rattle.card_files.specs.Directory.{directory_name}
+use Rattle.card_files.specs.Directory.{is_hidden}
 use Rattle.card_files.specs.Kept.{KeepsRules, AreInSight}
 use Rattle.card_files.specs.Views.{AppData}
 use Rattle.card_files.specs.Views.{RecordData}
@@ -19,7 +19,7 @@ use Rattle.scenario_fields.proofs.Steps.{none_passes}
 use Rattle.scenario_fields.specs.Value.{is_one_of}
 use Rattle.scenario_fields.specs.declared.spot.Characters.TheVariants.{Printable}
 use Rattle.scenario.specs.CardRules.{KeepsFiles, KeepsHolder, KeepsCounters, KeepsAccess, KeepsExtras, AreAnswers, IsNewRecord, IsNewApp, IsCard, IsNewCard}
-use Rattle.scenario.specs.Cards.{FilesData, HolderData, CountersData, AccessData, app_with, opening_of, has_name, is_named, is_hidden, is_directory}
+use Rattle.scenario.specs.Cards.{FilesData, HolderData, CountersData, AccessData, app_with, opening_of, has_name, is_named, hides_one, is_directory}
 use Rattle.scenario.specs.Seen.{seen_card, seen_cards}
 use Rattle.scenario.specs.declared.extras.Extras.{Extras}
 use Rattle.scenario.specs.declared.plan.NamedCard.{NamedCard}
@@ -92,12 +92,11 @@ pub not_true : (b : Bool) → not b ≡ true → b ≡ false
 not_true true is = cc
 not_true false is = refl
 
--- no application stands behind a directory that may be there
+-- a directory that may be there hides no application
 pub in_sight : (apps : List AppData) (sfi : Option ℕ) → IsTrue (is_directory apps sfi) → AreInSight sfi apps
-unfolding is_hidden
-in_sight apps None is = λ there. absurd (false≢true there)
-in_sight apps (Some sfi) is =
-    λ there k d inside. none_passes (λ a. starts_with nat_eq a.name directory_name) apps k d (not_true (is_hidden apps) is) inside
+unfolding hides_one
+in_sight apps None is = tt
+in_sight apps (Some sfi) is = λ k d inside. none_passes (λ a. is_hidden a.name) apps k d (not_true (hides_one apps) is) inside
 
 pub are_answers : (answers : List (Vec ℕ Global)) → length answers ≤ 300 → All (λ answer. length answer.items ≤ 258) answers
     → AreAnswers (map (λ answer. answer.items) answers)

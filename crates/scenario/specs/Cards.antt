@@ -1,9 +1,9 @@
 -- The tables of a card, of its applications and of their records.
-use Rattle.std.specs.Prelude.{ℕ, ◌+◌, List, [], ◌∷◌, ◌++◌, map, codes, Bool, true, false, ◌&&◌, not, nat_eq, nat_le, Option, Some, None, is_some, Result, Ok, Err, if◌then◌else◌}
-use Rattle.std.specs.List.{list_any, starts_with}
+use Rattle.std.specs.Prelude.{ℕ, ◌+◌, List, [], ◌∷◌, ◌++◌, map, codes, Bool, true, false, ◌&&◌, not, nat_le, Option, Some, None, is_some, Result, Ok, Err, if◌then◌else◌}
+use Rattle.std.specs.List.{list_any}
 use Rattle.std.specs.Str.{bytes_eq}
 use Rattle.card_files.specs.AppRules.{is_pair, most_afl, most_records, reference_pin}
-use Rattle.card_files.specs.Directory.{directory_name}
+use Rattle.card_files.specs.Directory.{is_hidden}
 use Rattle.card_files.specs.Lists.{has_all, cdol1_entries, cdol2_entries, most_data, most_pdol, most_cdol}
 use Rattle.card_files.specs.Views.{RecordData, AppData, ImageData}
 use Rattle.card_state.specs.declared.state.AppState.{AppState}
@@ -282,14 +282,14 @@ no_image = record { apps = []; version = 2; directory = None }
 unfoldable pub version_at : (List ℕ → List ℕ) → Members → Result ℕ ScenarioFault
 version_at path ms = listed_or 2 path (codes "version") (1 ∷ 2 ∷ []) ms
 
--- an application's name begins with the directory's, so that SELECT of the directory would find the application too
-unfoldable pub is_hidden : List AppData → Bool
-is_hidden apps = list_any (λ a. starts_with nat_eq a.name directory_name) apps
+-- a directory's name would find one of the applications
+unfoldable pub hides_one : List AppData → Bool
+hides_one apps = list_any (λ a. is_hidden a.name) apps
 
--- a directory is there that no application's name stands behind, or none is there
+-- a directory that hides none of the applications, or none
 abbrev pub is_directory : List AppData → Option ℕ → Bool
 is_directory apps None = true
-is_directory apps (Some sfi) = not (is_hidden apps)
+is_directory apps (Some sfi) = not (hides_one apps)
 
 -- the file of the payment system directory, where the card has one
 unfoldable pub directory_at : (List ℕ → List ℕ) → List AppData → Members → Result (Option ℕ) ScenarioFault

@@ -1,8 +1,8 @@
 //! The table of a card.
-ghost use Rattle.std.specs.Prelude.{◌≡◌, ◌≢◌, ◌≤◌, [], length, map, codes, false, nat_eq, IfOk, vec_len};
-ghost use Rattle.std.specs.List.{All, AllPairs, list_any, starts_with};
+ghost use Rattle.std.specs.Prelude.{◌≡◌, ◌≢◌, ◌≤◌, [], length, map, codes, false, IfOk, vec_len};
+ghost use Rattle.std.specs.List.{All, AllPairs, list_any};
 ghost use Rattle.std.specs.Str.{bytes_eq};
-ghost use Rattle.card_files.specs.Directory.{directory_name};
+ghost use Rattle.card_files.specs.Directory.{is_hidden as is_hidden_name};
 ghost use Rattle.card_files.specs.Kept.{KeepsRules, AreApps, IsDirectoryFile, AreInSight};
 ghost use Rattle.toml.specs.View.{view, table_view, items_view};
 ghost use Rattle.scenario_fields.specs.Fault.{Gives};
@@ -128,19 +128,20 @@ fn directory_file(fields: &Fields) -> Result<Option<u8>, ScenarioFault>
     }
 }
 
-/// Whether an application's name begins with the directory's.
-fn is_behind(app: &AppImage) -> bool
-    ensures { result ≡ starts_with nat_eq app.now.name directory_name }
+/// Whether the directory's name would find an application of this name.
+#[tactic(auto, unfolding(card_files::specs::Directory::is_hidden))]
+fn is_hidden(name: &[u8]) -> bool
+    ensures { result ≡ is_hidden_name name.now }
 {
-    app.name.as_slice().starts_with(&DIRECTORY_NAME)
+    name.starts_with(&DIRECTORY_NAME)
 }
 
-/// Whether SELECT of the directory's name would find an application too.
-#[tactic(auto, unfolding(crate::specs::Cards::is_hidden))]
-fn is_hidden(apps: &[AppImage]) -> bool
-    ensures { result ≡ spec.is_hidden apps.now }
+/// Whether it would find one of these applications.
+#[tactic(auto, unfolding(crate::specs::Cards::hides_one))]
+fn hides_one(apps: &[AppImage]) -> bool
+    ensures { result ≡ spec.hides_one apps.now }
 {
-    apps.iter().any(|app| is_behind(app))
+    apps.iter().any(|app| is_hidden(app.name.as_slice()))
 }
 
 /// Whether the card may have a directory in this file, or has none.
@@ -148,7 +149,7 @@ fn is_directory(apps: &[AppImage], sfi: Option<u8>) -> bool
     ensures { result ≡ spec.is_directory apps.now sfi }
 {
     match sfi {
-        Some(_) => !is_hidden(apps),
+        Some(_) => !hides_one(apps),
         None => true,
     }
 }
