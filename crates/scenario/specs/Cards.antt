@@ -14,7 +14,7 @@ use Rattle.emv_dict.specs.Settings.{most_amount}
 use Rattle.issuer_host.specs.declared.keys.HostKeys.{HostKeys}
 use Rattle.object_lists.specs.DolEntries.{DolEntry, dol_of, total_of}
 use Rattle.object_lists.specs.declared.dol.DolFault.{DolFault}
-use Rattle.scenario.specs.Extras.{empty_log, extras_of}
+use Rattle.scenario.specs.Extras.{extras_of}
 use Rattle.scenario.specs.declared.extras.Extras.{Extras}
 use Rattle.toml.specs.Data.{Data, Items, no_items, item, Members, get_member}
 use Rattle.scenario_fields.specs.Fault.{◌>>=◌, keep_if}
@@ -203,7 +203,7 @@ opening_of counters access extras = record {
   sum_two = 0;
   limit_two = extras.limit_two;
   log_max = extras.log;
-  log = empty_log;
+  log = record { items = [] };
 }
 
 -- the other keys are derived from the issuer's by account and sequence number

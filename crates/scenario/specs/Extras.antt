@@ -1,7 +1,5 @@
 -- The keys of an application behind its own key: a second currency, and the log of its transactions.
-use Rattle.std.specs.Prelude.{ℕ, List, [], codes, Option, Result, Ok}
-use Rattle.arrayvec.specs.ArrayVec.{ArrayVec}
-use Rattle.card_state.specs.declared.state.LogRow.{LogRow}
+use Rattle.std.specs.Prelude.{ℕ, List, codes, Option, Result, Ok}
 use Rattle.card_files.specs.AppRules.{is_second_code, is_log_file, most_rows}
 use Rattle.card_files.specs.Lists.{leaves_room}
 use Rattle.card_files.specs.Views.{RecordData}
@@ -31,10 +29,6 @@ unfoldable pub log_file_at : (List ℕ → List ℕ) → ℕ → List RecordData
 log_file_at path rows records ms = do
   sfi ← number_or 11 path (codes "log_sfi") 11 30 ms
   keep_if (is_log_file rows sfi records) (BadValue (path (codes "log_sfi"))) sfi
-
--- the log before the first transaction
-abbrev pub empty_log : ArrayVec LogRow
-empty_log = record { items = [] }
 
 -- beside these object list, records and currency
 unfoldable pub extras_of : (List ℕ → List ℕ) → Option (List ℕ) → List RecordData → List ℕ → Members → Result Extras ScenarioFault

@@ -1,12 +1,12 @@
 //! The keys of an application behind its own key: a second currency, and the log of its transactions.
-ghost use Rattle.std.specs.Prelude.{◌≡◌, option_map, IfOk, IsTrue};
+ghost use Rattle.std.specs.Prelude.{◌≡◌, [], option_map, IfOk, IsTrue};
 ghost use Rattle.card_files.specs.AppRules.{is_second_code, is_log_size, is_log_file};
 ghost use Rattle.card_files.specs.Lists.{leaves_room};
 ghost use Rattle.toml.specs.View.{table_view};
 ghost use Rattle.scenario_fields.specs.Fault.{Gives};
 ghost use Rattle.scenario_fields.specs.Place.{path};
 ghost use Rattle.scenario.specs.CardRules.{KeepsExtras};
-ghost use Rattle.scenario.specs.Extras.{second_currency_at as second_found, log_at as log_found, log_file_at as log_file_found, empty_log, extras_of};
+ghost use Rattle.scenario.specs.Extras.{second_currency_at as second_found, log_at as log_found, log_file_at as log_file_found, extras_of};
 
 use arrayvec::ArrayVec;
 use card_files::RecordImage;
@@ -32,7 +32,7 @@ pub struct Extras {
 
 /// The log before the first transaction.
 pub fn no_log() -> ArrayVec<LogRow, 10>
-    ensures { result ≡ empty_log }
+    ensures { result ≡ record { items = [] } }
 {
     ArrayVec::new()
 }
