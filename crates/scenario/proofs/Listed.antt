@@ -2,7 +2,7 @@
 use Rattle.std.proofs.Common.{◌≡◌, ℕ, ◌<◌, ◌≤◌, ◌==◌, nat_lt, nat_le, Bool, true, false, ◌||◌, ◌&&◌, List, [], ◌∷◌, refl, subst, arith}
 use Rattle.std.specs.Prelude.{IsTrue}
 use Rattle.std.specs.List.{list_all, list_any}
-use Rattle.std.proofs.lemmas.Bool.{and_parts}
+use Rattle.std.proofs.lemmas.Bool.{and_parts, eqb-true}
 use Rattle.std.proofs.lemmas.Bool.Decides.{nat_tests}
 use Rattle.issuer_host.specs.Account.{is_status}
 use Rattle.scenario_fields.specs.Value.{is_listed}
@@ -11,9 +11,7 @@ use Rattle.scenario.specs.Accounts.{status_sums}
 -- one of two passes a test: the first number, or what is found behind it
 one_keeps : (test : ℕ → Bool) (n m : ℕ) (behind found : Bool) → (m == n) ≡ found → test m ≡ true → (behind ≡ true → test n ≡ true) → (found || behind) ≡ true
     → test n ≡ true
-one_keeps test n m behind true same first later either =
-    let is : m ≡ n = grind (arith, nat_tests) in
-    subst (λ (k : ℕ). test k ≡ true) is first
+one_keeps test n m behind true same first later either = subst (λ (k : ℕ). test k ≡ true) (eqb-true m n same) first
 one_keeps test n m behind false other first later either = later either
 
 -- each listed number passes a test, and so does one of them
