@@ -82,13 +82,3 @@ pub fn phase_behind(app: u8, kind: Kind, first: First) -> Phase
         Kind::Aac => Phase::Closed { app },
     }
 }
-
-/// Whether EXTERNAL AUTHENTICATE was right.
-pub fn is_right(sent: Option<bool>) -> bool
-    ensures { result ≡ spec.is_right sent }
-{
-    match sent {
-        Some(right) => right,
-        None => false,
-    }
-}
