@@ -123,7 +123,11 @@ fn give_row(state: &CardState, app: u8, number: u8, out: &mut Body) -> u16
     requires number { 1 ≤ number }
     ensures { shows out.new.items result ≡ spec.row_or (spec.row_at state.now app number) }
 {
-    match state_at(state, app).log.as_slice().get(usize::from(number - 1)) {
+    match state_at(state, app)
+        .log
+        .as_slice()
+        .get(usize::from(number - 1))
+    {
         Some(row) => {
             write_row(row, out);
             NO_ERROR
