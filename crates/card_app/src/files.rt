@@ -129,7 +129,7 @@ fn give_row(state: &CardState, app: u8, number: u8, out: &mut Body) -> u16
         .get(usize::from(number - 1))
     {
         Some(row) => {
-            write_row(row, out);
+            write_row(*row, out);
             NO_ERROR
         }
         None => RECORD_NOT_FOUND,
@@ -138,15 +138,22 @@ fn give_row(state: &CardState, app: u8, number: u8, out: &mut Body) -> u16
 
 /// The bytes of a row.
 #[tactic(auto, unfolding(card_state::specs::Encoding::row_bytes))]
-fn write_row(row: &LogRow, out: &mut Body)
+fn write_row(row: LogRow, out: &mut Body)
     requires { out.old.items ≡ [] }
-    ensures { out.new.items ≡ row_bytes row.now }
+    ensures { out.new.items ≡ row_bytes row }
 {
-    append(out, &row.raw);
-    append(out, &row.currency);
-    append(out, &row.date);
-    append(out, &row.counter.to_be_bytes());
-    append(out, &[row.kind]);
+    let LogRow {
+        raw,
+        currency,
+        date,
+        counter,
+        kind,
+    } = row;
+    append(out, &raw);
+    append(out, &currency);
+    append(out, &date);
+    append(out, &counter.to_be_bytes());
+    append(out, &[kind]);
 }
 
 /// The record of this number in a file of an application.
