@@ -1,5 +1,6 @@
 ghost use Rattle.std.specs.Prelude.{◌≡◌, [], List, ℕ, IsTrue, ◌<◌, ◌≤◌, ◌-◌, ◌↔◌, ◌⊎◌, false, length, slice_get, is_some, IfOk, IsOk, IfSome, None, MatchResult, Some, option_map, option_copied};
 ghost use Rattle.std.specs.List.{All};
+ghost use Rattle.card_state.specs.Encoding.{HasShortLogs};
 ghost use Rattle.card_state.specs.Totals.{totals};
 ghost use Rattle.card_files.specs.Control.{fci_bytes, IsFci};
 ghost use Rattle.card_files.specs.Faults.{image_fault};
@@ -175,7 +176,7 @@ impl Image {
     pub fn opening(&self, out: &mut CardState)
         ensures value { out.new ≡ opening_of self.now }
         ensures totals { totals out.new [] ≡ out.new }
-        ensures logs { All (λ s. s.log_max ≤ 10) out.new.apps.items }
+        ensures short { HasShortLogs out.new }
     {
         out.blocked = false;
         out.apps.clear();

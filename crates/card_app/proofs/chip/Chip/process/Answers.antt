@@ -29,7 +29,7 @@ returns-clause-cut g c =
           may =
               subst
               (λ (i : ImageData). MayStand c.carry_on.new.self.kept.memory.cells i.version (opening_of i) (kept_by (left_of plan) ds one.0) (pending_by (left_of plan) one.0))
-              (sym c.carry_on.ensures.image) one.1.left.stands;
+              (sym c.carry_on.ensures.image) (one.1.left.stands c.args.self.now.image.version);
         };
       },
     ))
