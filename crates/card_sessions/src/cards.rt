@@ -1,5 +1,5 @@
 //! The cards that are tried, and what is sent to them.
-ghost use Rattle.std.specs.Prelude.{◌≡◌, ◌<◌, true, OnOk, OnErr};
+ghost use Rattle.std.specs.Prelude.{◌≡◌, ◌<◌, ◌≤◌, true, OnOk, OnErr};
 ghost use Rattle.card_app.specs.SeenChip.{IsChipOn, IsChipOff, is_on};
 ghost use Rattle.card_files.specs.Kept.{IsDirectoryFile};
 
@@ -291,6 +291,16 @@ fn app_of(
     })
 }
 
+/// The form of the state before the first decision.
+fn version_of(variant: Variant) -> u8
+    ensures { (1 ≤ result) × (result ≤ 2) }
+{
+    match variant {
+        Variant::OlderForm => 1,
+        _ => 2,
+    }
+}
+
 /// The image of a card.
 pub(crate) fn image_of(rt: &impl Abort, alloc: Global, variant: Variant) -> Result<Image, Fail> {
     let mut apps = Vec::new(alloc);
@@ -300,8 +310,7 @@ pub(crate) fn image_of(rt: &impl Abort, alloc: Global, variant: Variant) -> Resu
     } else {
         apps.push(app_of(rt, alloc, variant, "a0000000031010", 1)?)?;
     }
-    let version = if variant == Variant::OlderForm { 1 } else { 2 };
-    Ok(Image::new(apps, version, directory_of(variant)).expect(rt, "an image"))
+    Ok(Image::new(apps, version_of(variant), directory_of(variant)).expect(rt, "an image"))
 }
 
 /// A command and its answer.

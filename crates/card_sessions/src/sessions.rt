@@ -756,7 +756,7 @@ fn hold_each(rt: &impl Abort, alloc: Global, sessions: &[(Variant, &[Line])]) ->
     for (variant, session) in sessions {
         let image = image_of(rt, alloc, *variant)?;
         let pages = Held::new(alloc, MemoryPages::blank())?;
-        hold(rt, &image, pages, session);
+        hold(rt, &image, pages, *session);
     }
     Ok(())
 }
