@@ -1,5 +1,6 @@
 pub mod Lists
 pub mod Payments
+pub mod Ways
 pub mod Sending
 pub mod Moves
 pub mod Sounding
@@ -24,6 +25,7 @@ pub mod Beginnings
 pub mod Turning
 pub mod Checks
 pub mod Settling
+pub mod Stores
 pub mod Audits
 pub mod Replies
 pub mod Begins

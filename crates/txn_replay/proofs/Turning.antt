@@ -35,36 +35,6 @@ use Rattle.txn_replay.proofs.Payments.{payment_facts}
 use Rattle.txn_replay.proofs.Sounding.{turn_sound, has_card}
 use Rattle.txn_replay.proofs.Tallies.{counts_with}
 
--- a lane that has a purchase left isn't over, and so not all are
-pub below_over : (s : ScenarioData) (w : World) (n l : ℕ) → l < n → all_below s w n ≡ true → lane_over s w l ≡ true
-below_over s w zero l inside over = absurd (omega arith)
-below_over s w (suc n) l inside over = by_and (λ before others. below_over s w n l before others) (lane_over s w n) (all_below s w n) refl refl over
-  where
-    by_place : (l < n → all_below s w n ≡ true → lane_over s w l ≡ true) → lane_over s w n ≡ true → all_below s w n ≡ true → (l < n) ⊎ (l ≡ n)
-        → lane_over s w l ≡ true
-    by_place earlier this others (inl before) = earlier before others
-    by_place earlier this others (inr same) = ap (λ k. lane_over s w k) same ∙ this
-
-    place : (l < n) ⊎ (l ≡ n)
-    place = elim (cases_eq l n) [ inl same ↦ inr same | inr other ↦ inl (omega arith) ]
-
-    by_and : (l < n → all_below s w n ≡ true → lane_over s w l ≡ true) → (a b : Bool) → lane_over s w n ≡ a → all_below s w n ≡ b → (a && b) ≡ true → lane_over s w l ≡ true
-    by_and earlier true true this others both = by_place earlier this others place
-    by_and earlier true false this others both = cc
-    by_and earlier false b this others both = cc
-
-pub over_next : (s : ScenarioData) (w : World) (l : ℕ) → lane_over s w l ≡ true → next_of s w l ≡ None
-over_next s w l over = by (is_none (lane_at w l).running) (next_of s w l) refl over
-  where
-    by : (a : Bool) (o : Option Payment) → next_of s w l ≡ o → (a && is_none o) ≡ true → next_of s w l ≡ None
-    by true None is both = is
-    by true (Some p) is both = cc
-    by false o is both = cc
-
-pub not_over : (s : ScenarioData) (w : World) (l : ℕ) (p : Payment) → next_of s w l ≡ Some p → all_over s w ≡ true → ⊥
-not_over s w l p is over =
-    let none : None ≡ Some p = sym (over_next s w l (below_over s w (length s.lanes) l (payment_facts s l _ p is).inside over)) ∙ is in cc
-
 chip_is_on : (chip : ChipSeen) (session : List Exchange) (ds : List Decided) (plan : Option Tear) (made : ℕ) → ChipOn chip session ds plan made → chip_on chip ≡ true
 chip_is_on chip session ds plan made on = on.on
 

@@ -22,7 +22,7 @@ pub record IsFew (s : ScenarioData) (w : World) : Type 0 where
   pub lanes : (l : ℕ) (row : LaneRow) → slice_get w.lanes l ≡ Some row → IsFewIn s l row
   pub ended : ended_count w ≤ purchase_count s.lanes
   -- the captures of each lane, or the opening of its store and what it may have found
-  pub settlements : length (settlements s w) ≤ s.copies * purchase_count s.lanes + (1 + s.copies * 7) * length s.lanes
+  pub settlements : 1 ≤ s.copies → length (settlements s w) ≤ s.copies * purchase_count s.lanes + (1 + s.copies * 7) * length s.lanes
 
 -- so in every world that a run comes to
 abbrev pub WorldsAreFew : Type 0

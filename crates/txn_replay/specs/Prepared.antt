@@ -6,7 +6,7 @@ use Rattle.report_text.specs.declared.line.Line.{Line}
 use Rattle.txn_replay.specs.Part.{Part, Moved}
 use Rattle.txn_replay.specs.Payment.{Payment}
 use Rattle.txn_replay.specs.Standing.{LaneKeeps, ShelfStands}
-use Rattle.txn_replay.specs.Stored.{IsStored}
+use Rattle.txn_replay.specs.Stored.{StoredBy}
 use Rattle.txn_replay.specs.Storing.{Before, Ends, Begins, OpensAndBegins}
 use Rattle.txn_replay.specs.declared.lane.Lane.{Lane}
 
@@ -14,7 +14,8 @@ use Rattle.txn_replay.specs.declared.lane.Lane.{Lane}
 pub record StoreRests (p : Payment) (lane : Lane) (shelf : ShelfSeen) (part : Part) : Type 0 where
   pub keeps : LaneKeeps lane part.lane
   pub shelf_is : ShelfStands shelf p part.lane
-  pub stored : p.durable ≡ true → IsStored part.lane
+  pub stored : StoredBy p.durable part.lane
+  pub before : part.lane.store.found ≡ None
   pub rests : part.lane.running ≡ None
   pub free : part.card.holder ≡ None
 

@@ -21,7 +21,7 @@ use Rattle.txn_replay.specs.Slot.{SlotSeen, SlotOn, IsSlotOf, HasLost, is_on}
 use Rattle.txn_replay.specs.Sound.{IsSound}
 use Rattle.txn_replay.specs.Standing.{RunStands, LaneKeeps, CardStands, ShelfFor, LaneFits, lane_left, shelf_left}
 use Rattle.txn_replay.specs.Steps.{Asks, checks, Step}
-use Rattle.txn_replay.specs.Stored.{IsStored, IsSettledTo}
+use Rattle.txn_replay.specs.Stored.{StoresStand, IsSettledTo}
 use Rattle.txn_replay.specs.World.{Holder, CardRow, LaneRow, World, card_at, lane_at}
 use Rattle.txn_replay.specs.declared.event.Event.{Event}
 use Rattle.txn_replay.specs.declared.lane.Lane.{Lane}
@@ -81,7 +81,7 @@ pub record WorldStands (v : WorldSeen) (w : World) : Type 0 where
       → SlotStands v.scenario w slot card (card_at w i)
   pub lanes : (l : ℕ) (lane : Lane) → slice_get v.lanes l ≡ Some lane → LaneAt v.scenario l lane (lane_at w l)
   pub shelves : (l : ℕ) (shelf : ShelfSeen) → slice_get v.shelves l ≡ Some shelf → ShelfAt v.scenario l shelf (lane_at w l)
-  pub stored : (l : ℕ) → durable_of v.scenario l ≡ true → IsStored (lane_at w l)
+  pub stored : StoresStand v.scenario w
   pub messages : HostStands v.host w.messages
   pub tally : v.tally ≡ counts w
 

@@ -26,7 +26,7 @@ use Rattle.txn_replay.specs.Part.{Part, Moved}
 use Rattle.txn_replay.specs.Payment.{Payment, deal_for}
 use Rattle.txn_replay.specs.Reading.{last_past, past_card, latest_ending}
 use Rattle.txn_replay.specs.Slot.{SlotSeen, SlotOn, SlotOff, IsSlotOf, HasLost, is_on}
-use Rattle.txn_replay.specs.Stored.{IsStored}
+use Rattle.txn_replay.specs.Stored.{StoredBy}
 use Rattle.txn_replay.specs.World.{Holder, CardRow, LaneRow, Past}
 use Rattle.txn_replay.specs.declared.lane.Lane.{Lane}
 use Rattle.txn_replay.specs.declared.payment.Payment.{Payment as Paying}
@@ -176,7 +176,8 @@ PlaceFor p slot row (Some holder) (Some replies) = SlotOn slot row p.planned.tea
 pub record PartStands (p : Payment) (lane : Lane) (shelf : ShelfSeen) (slot : SlotSeen) (part : Part) : Type 0 where
   pub lane_is : LaneStands lane p part.lane
   pub shelf_is : ShelfStands shelf p part.lane
-  pub stored : p.durable ≡ true → IsStored part.lane
+  pub stored : StoredBy p.durable part.lane
+  pub before : part.lane.store.found ≡ None
   pub place : PlaceFor p slot part.card part.card.holder part.lane.running
   pub is : IsSlotOf slot p.card
   pub losses : HasLost slot part.card.losses

@@ -1,11 +1,11 @@
 -- What holds of the stores in every world of a run, and of each while the settlement goes through them (this project's own).
-use Rattle.std.specs.Prelude.{◌≡◌, ◌⊎◌, ◌==◌, ℕ, zero, suc, ◌+◌, ◌-◌, ◌/◌, ◌≤◌, ◌<◌, Bool, true, false, is_some, List, [], length, take, drop, slice_get, Option, Some, None, unwrap_or}
+use Rattle.std.specs.Prelude.{◌≡◌, ◌⊎◌, ◌==◌, ℕ, ◌-◌, ◌/◌, ◌≤◌, ◌<◌, Bool, true, false, is_some, List, [], length, take, drop, Option, Some, None, unwrap_or}
 use Rattle.capture_store.specs.Calls.{found_by}
-use Rattle.capture_store.specs.StoreRow.{StoreRow}
+use Rattle.capture_store.specs.StoreRow.{StoreRow, new_store}
 use Rattle.report_text.specs.declared.line.Line.{Line}
 use Rattle.scenario.specs.Plan.{ScenarioData}
 use Rattle.txn_replay.specs.Payment.{durable_of}
-use Rattle.txn_replay.specs.Run.{Place, Scheduled, Round, Settling, Auditing, Finished, Reached}
+use Rattle.txn_replay.specs.Run.{Place, Settling, Auditing, Finished, Reached, all_over}
 use Rattle.txn_replay.specs.Steps.{settlements_from}
 use Rattle.txn_replay.specs.World.{LaneRow, World, lane_at}
 
@@ -21,21 +21,21 @@ pub record IsStored (row : LaneRow) : Type 0 where
   pub clean : is_some row.store.commits ≡ true → IsOpen row.store
   pub opens : is_some row.running ≡ true → is_some row.store.commits ≡ true
   pub room : is_some row.running ≡ true → row.store.due ≡ false
-  pub before : is_some row.running ≡ true → row.store.found ≡ None
-  -- a closed store has no delivery to come
-  pub closed : row.store.commits ≡ None → row.store.due ≡ false
 
--- so in every world that a run comes to, of each lane that keeps its captures durably
+-- a lane that doesn't keep its captures durably has no store
+abbrev pub StoredBy : Bool → LaneRow → Type 0
+StoredBy true row = IsStored row
+StoredBy false row = row.store ≡ new_store
+
+-- so for each lane; and only the settlement opens a store for good, when every purchase is over
+pub record StoresStand (s : ScenarioData) (w : World) : Type 0 where
+  pub lanes : (l : ℕ) → StoredBy (durable_of s l) (lane_at w l)
+  pub before : (l : ℕ) → ((lane_at w l).store.found ≡ None) ⊎ (all_over s w ≡ true)
+
 abbrev pub StoresAreKept : Type 0
 StoresAreKept =
-    (s : ScenarioData) (place : Place) (n : ℕ) (choices : List Bool) (lines : List Line) (w : World) (l : ℕ)
-    → durable_of s l ≡ true → Reached s place n choices lines w → IsStored (lane_at w l)
-
--- each other lane has no store
-abbrev pub CapturesStay : Type 0
-CapturesStay =
-    (s : ScenarioData) (place : Place) (n : ℕ) (choices : List Bool) (lines : List Line) (w : World) (l : ℕ)
-    → durable_of s l ≡ true → Reached s place n choices lines w → (lane_at w l).captures ≡ []
+    (s : ScenarioData) (place : Place) (n : ℕ) (choices : List Bool) (lines : List Line) (w : World)
+    → Reached s place n choices lines w → StoresStand s w
 
 -- before its place the settlement hasn't opened the store
 pub record IsUnopened (store : StoreRow) : Type 0 where

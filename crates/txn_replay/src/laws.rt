@@ -5,7 +5,7 @@ ghost use Rattle.txn_replay.specs.Choices.{NoneIsOpen, RunIsOne};
 ghost use Rattle.txn_replay.specs.Laws.{RunsAreFair, WholeRunsAreFair, WorldsAreSound, IdleLanesStay, LanesStayApart, LossesAreTold, StuckIsOver, CalmIsOver};
 ghost use Rattle.txn_replay.specs.PagesTell.{PagesTellTotals};
 ghost use Rattle.txn_replay.specs.Respelled.{DialectsShow, WholeDialectsShow};
-ghost use Rattle.txn_replay.specs.Stored.{StoresAreKept, CapturesStay, SettlementGoesThrough, StoresAreEmptied};
+ghost use Rattle.txn_replay.specs.Stored.{StoresAreKept, SettlementGoesThrough, StoresAreEmptied};
 ghost use Rattle.txn_replay.specs.Telling.{GivenIsTold, GivenIsLeft, HeldIsSure, AnsweredIsSure};
 ghost use Rattle.txn_replay.specs.Told.{RunsTellLosses, WholeRunsTellLosses, RunsTellReplies, RunsTellMessages, PastsEnd};
 
@@ -101,7 +101,6 @@ pub fn captures_are_sent()
 /// what its opening has found, and behind it nothing is left in a store and no call is lost.
 pub fn stores_are_emptied()
     ensures kept { StoresAreKept }
-    ensures captures { CapturesStay }
     ensures through { SettlementGoesThrough }
     ensures emptied { StoresAreEmptied }
 {}
