@@ -41,6 +41,7 @@ pub mod Pieces
 pub mod Done
 pub mod Fairness
 pub mod Exchanging
+pub mod Preparing
 pub mod Rows
 pub mod Gives
 pub mod Sureness

@@ -1,5 +1,5 @@
 -- What a value stands for of a run.
-use Rattle.std.specs.Prelude.{◌≡◌, ⊤, ℕ, ◌+◌, ◌*◌, ◌-◌, ◌≤◌, ◌<◌, ◌==◌, Bool, true, false, List, ◌++◌, length, map, fold, Option, Some, None, option_map, option_and_then}
+use Rattle.std.specs.Prelude.{◌≡◌, ⊤, ℕ, ◌+◌, ◌*◌, ◌-◌, ◌≤◌, ◌<◌, ◌==◌, Bool, true, false, List, [], ◌∷◌, ◌++◌, length, map, fold, Option, Some, None, is_none, option_map, option_and_then}
 use Rattle.std.specs.Global.{Box}
 use Rattle.std.specs.List.{All}
 use Rattle.auth_message.specs.Whole.{IsMessage}
@@ -138,6 +138,14 @@ count_past counts past = count_end counts (length past.replies) past.end
 abbrev pub counted : Counts → List Past → Counts
 counted counts pasts = fold count_past counts pasts
 
+-- one that has no end record was told nothing
+abbrev pub IsPast : Past → Type 0
+IsPast past = is_none past.end ≡ true → past.replies ≡ []
+
+abbrev pub ArePasts : List Past → Type 0
+ArePasts [] = ⊤
+ArePasts (past ∷ pasts) = IsPast past × ArePasts pasts
+
 -- an exchange has led to this
 pub record MovedTo (p : Payment) (lane : Lane) (shelf : ShelfSeen) (slot : SlotSeen) (lines : List Line) (m : Moved) : Type 0 where
   pub lane_is : LaneStands lane p m.part.lane
@@ -147,7 +155,7 @@ pub record MovedTo (p : Payment) (lane : Lane) (shelf : ShelfSeen) (slot : SlotS
 
 -- and the purchase that ended in it, if one did, is counted
 abbrev pub IsCounted : Counts → Counts → List Past → List Past → Type 0
-IsCounted before after earlier pasts = (ended : List Past) × (pasts ≡ earlier ++ ended) × (after ≡ counted before ended)
+IsCounted before after earlier pasts = (ended : List Past) × (pasts ≡ earlier ++ ended) × (after ≡ counted before ended) × ArePasts ended
 
 -- an exchange has led to this, and the purchase that ended in it, if one did, is counted
 pub record Led (p : Payment) (lane : Lane) (shelf : ShelfSeen) (slot : SlotSeen) (before after : Counts) (lines : List Line) (part : Part) (m : Moved) : Type 0 where
