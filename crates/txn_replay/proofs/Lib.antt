@@ -22,6 +22,7 @@ pub mod Exchanges
 pub mod Tallies
 pub mod Choices
 pub mod Beginnings
+pub mod Planning
 pub mod Turning
 pub mod Checks
 pub mod Settling
