@@ -56,15 +56,15 @@ none_is : (o : Option (Box KernelData)) → is_none o ≡ true → o ≡ None
 none_is None is = refl
 none_is (Some kernel) is = cc
 
-module _ (v : WorldSeen) (w : World) (stands : WorldStands v w) (l : ℕ) (p : Payment) (is : next_of v.scenario w l ≡ Some p) (lane : Lane) (shelf : ShelfSeen) (slot : SlotSeen)
-    (lane_there : slice_get v.lanes l ≡ Some lane) (shelf_there : slice_get v.shelves l ≡ Some shelf) (slot_there : slice_get v.slots p.planned.card ≡ Some slot) where
+module _ (v : WorldSeen) (w : World) (stands : WorldStands v w) (l : ℕ) (p : Payment) (is : next_of v.scenario w l ≡ Some p) (lane : Lane) (slot : SlotSeen) where
   -- a lane whose next purchase waits for its card
-  pub idle_held : (held : Bool) → held ≡ (is_none lane.running && is_on slot) → held ≡ true
+  pub idle_held : slice_get v.lanes l ≡ Some lane → slice_get v.slots p.planned.card ≡ Some slot
+      → (held : Bool) → held ≡ (is_none lane.running && is_on slot) → held ≡ true
       → ((kept : List Decided) (pending : Option Decided) → SlotOff slot kept pending → held ≡ false) → IsIdle v.scenario w l
-  idle_held held exact waits off =
+  idle_held lane_there slot_there held exact waits off =
       let both : (is_none lane.running ≡ true) × (is_on slot ≡ true) = both_true (is_none lane.running) (is_on slot) (sym exact ∙ waits) in
       let placed : CardStands slot p.card (plan_for v.scenario (card_at w p.planned.card).holder) (card_at w p.planned.card) =
-      card_stands v w stands l p is lane shelf slot lane_there shelf_there slot_there in
+      card_stands v w stands l p is slot slot_there in
       by (card_at w p.planned.card).holder refl placed.stands (lane_rests v w stands l lane lane_there (none_is lane.running both.0))
     where
       by : (holder : Option Holder) → (card_at w p.planned.card).holder ≡ holder → PlaceStands slot (plan_for v.scenario holder) (card_at w p.planned.card) holder
@@ -73,9 +73,9 @@ module _ (v : WorldSeen) (w : World) (stands : WorldStands v w) (l : ℕ) (p : P
       by (Some h) has place rests = record { rests = rests; waits = inr (record { payment = p; holder = h; is = is; held = has }) }
 
   -- no other purchase has the card where the lane doesn't wait
-  pub free_holder : PartStands p lane shelf slot (part_of w l p.planned.card) → (is_none lane.running && is_on slot) ≡ false → (h : Holder)
+  pub free_holder : (shelf : ShelfSeen) → PartStands p lane shelf slot (part_of w l p.planned.card) → (is_none lane.running && is_on slot) ≡ false → (h : Holder)
       → (card_at w p.planned.card).holder ≡ Some h → h ≡ this_one p (part_of w l p.planned.card)
-  free_holder part free h has = by (lane_at w l).running refl
+  free_holder shelf part free h has = by (lane_at w l).running refl
     where
       waits : (running : Option (Box KernelData)) → lane.running ≡ running → (lane_at w l).running ≡ None → RunStands running p None → is_on slot ≡ true → ⊥
       waits None none rests run on =

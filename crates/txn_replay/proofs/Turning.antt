@@ -53,6 +53,15 @@ plan_is : (s : ScenarioData) (w : World) (l : ℕ) (p : Payment) → next_of s w
 plan_is s w l p is =
     ap (λ k. plan_in (payment_in s k (length (lane_at w l).ended))) (payment_facts s l _ p is).lane ∙ ap plan_in is
 
+-- its card, which isn't an audited one
+pub card_stands : (v : WorldSeen) (w : World) → WorldStands v w → (l : ℕ) (p : Payment) → next_of v.scenario w l ≡ Some p → (slot : SlotSeen)
+    → slice_get v.slots p.planned.card ≡ Some slot → CardStands slot p.card (plan_for v.scenario (card_at w p.planned.card).holder) (card_at w p.planned.card)
+card_stands v w stands l p is slot slot_there =
+    elim (stands.slots p.planned.card slot p.card slot_there (payment_facts v.scenario l _ p is).card) [
+      | inl here ↦ here
+      | inr audited ↦ absurd (not_over v.scenario w l p is audited.over)
+    ]
+
 module _ (v : WorldSeen) (w : World) (stands : WorldStands v w) (l : ℕ) (p : Payment) (is : next_of v.scenario w l ≡ Some p) (lane : Lane) (shelf : ShelfSeen) (slot : SlotSeen)
     (lane_there : slice_get v.lanes l ≡ Some lane) (shelf_there : slice_get v.shelves l ≡ Some shelf) (slot_there : slice_get v.slots p.planned.card ≡ Some slot) where
   abbrev part : Part
@@ -61,13 +70,8 @@ module _ (v : WorldSeen) (w : World) (stands : WorldStands v w) (l : ℕ) (p : P
   card_there : slice_get v.scenario.cards p.planned.card ≡ Some p.card
   card_there = (payment_facts v.scenario l _ p is).card
 
-  -- its card, which isn't an audited one
-  pub card_stands : CardStands slot p.card (plan_for v.scenario (card_at w p.planned.card).holder) (card_at w p.planned.card)
-  card_stands =
-      elim (stands.slots p.planned.card slot p.card slot_there card_there) [
-        | inl here ↦ here
-        | inr audited ↦ absurd (not_over v.scenario w l p is audited.over)
-      ]
+  placed_card : CardStands slot p.card (plan_for v.scenario (card_at w p.planned.card).holder) (card_at w p.planned.card)
+  placed_card = card_stands v w stands l p is slot slot_there
 
   lane_stands : LaneStands lane p (lane_at w l)
   lane_stands =
@@ -95,9 +99,9 @@ module _ (v : WorldSeen) (w : World) (stands : WorldStands v w) (l : ℕ) (p : P
     shelf_is = shelf_stands v.scenario l p (lane_at w l) is shelf (stands.shelves l shelf shelf_there);
     stored = subst (λ (b : Bool). StoredBy b (lane_at w l)) (sym (payment_facts v.scenario l _ p is).durable) (stands.stored.lanes l);
     before = first;
-    place = placed (card_at w p.planned.card).holder (lane_at w l).running refl refl card_stands.stands;
-    is = card_stands.is;
-    losses = card_stands.losses;
+    place = placed (card_at w p.planned.card).holder (lane_at w l).running refl refl placed_card.stands;
+    is = placed_card.is;
+    losses = placed_card.losses;
   }
 
   module _ (later : Lane) (behind : ShelfSeen) (next : SlotSeen) (host : HostData) (tally : Counts) (lines : List Line) (one other : Bool)
