@@ -36,6 +36,7 @@ settings_of lane = record {
   pin_key = issuer_keys.pin;
   exceptions = [];
   aids = aid_row ∷ [];
+  pse = false;
 }
 
 -- the lanes take turns
@@ -47,4 +48,4 @@ unfoldable pub purchases_of : ℕ → ℕ → List Planned
 purchases_of count lane = map (planned_at count) (filter (stands_on lane) (range_with_len 0 count))
 
 unfoldable pub lane_of : ℕ → ℕ → LaneData
-lane_of count lane = record { settings = settings_of lane; purchases = purchases_of count lane; iso = false }
+lane_of count lane = record { settings = settings_of lane; purchases = purchases_of count lane; iso = false; durable = false }

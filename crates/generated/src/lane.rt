@@ -52,6 +52,7 @@ fn settings(alloc: Global, issuer: &HostKeys, lane: u32) -> Result<Settings, All
         pin_key: issuer.pin.bytes(),
         exceptions: Vec::new(alloc),
         aids,
+        pse: false,
     })
 }
 
@@ -86,6 +87,7 @@ fn lane(alloc: Global, issuer: &HostKeys, count: u32, number: u32) -> Result<Lan
         settings,
         purchases,
         iso: false,
+        durable: false,
     })
 }
 

@@ -1,5 +1,6 @@
 pub mod Lists
 pub mod Payments
+pub mod Ways
 pub mod Sending
 pub mod Moves
 pub mod Sounding
@@ -21,9 +22,11 @@ pub mod Exchanges
 pub mod Tallies
 pub mod Choices
 pub mod Beginnings
+pub mod Planning
 pub mod Turning
 pub mod Checks
 pub mod Settling
+pub mod Stores
 pub mod Audits
 pub mod Replies
 pub mod Begins
@@ -39,6 +42,7 @@ pub mod Pieces
 pub mod Done
 pub mod Fairness
 pub mod Exchanging
+pub mod Preparing
 pub mod Rows
 pub mod Gives
 pub mod Sureness
