@@ -1,4 +1,5 @@
 pub mod Pieces
 pub mod Words
 pub mod Text
+pub mod Packed
 pub mod CommandLine

@@ -8,9 +8,10 @@ ghost use Rattle.report_text.specs.Pieces.{newline, hex_or_dash, digits_text};
 ghost use Rattle.report_text.specs.Words.{ending_text};
 ghost use Rattle.report_text.specs.Text.{line_text, shown_text, all_shown, arc_text, cryptogram_text, scripts_text, parts_text};
 
+use crate::head::Head;
 use crate::pieces::{amount, append, digits, hex, hex_or_dash, number, tag, two_bytes};
 use crate::words::ending;
-use crate::{EndParts, Line, Shown};
+use crate::{EndParts, Line, LineAt, Shown};
 use arrayvec::ArrayVec;
 use ber_tlv::Tag;
 use emv_dict::{Digits, Ending};
@@ -49,6 +50,36 @@ pub fn write_line(line: &Line, out: &mut Text)
         Line::Object { tag, value } => object(out, *tag, value.as_slice()),
         Line::ReadOk => read_ok(out),
         Line::ReadEnded { ending } => read_ended(out, *ending),
+    }
+}
+
+/// Writes the text of a line where it stands, with its newline, to `out`, in place of what it held.
+#[tactic(auto, unfolding(crate::specs::Text::line_text))]
+pub fn write_packed(line: &LineAt<'_>, out: &mut Text)
+    ensures { out.new.items ≡ line_text line.now }
+{
+    let bytes = line.bytes;
+    match line.head {
+        Head::Power { lane, card, apps } => power(out, *lane, card.as_slice(), apps.as_slice()),
+        Head::PowerCanned { lane, card } => power_word(out, *lane, card.as_slice(), b" canned"),
+        Head::PowerTorn { lane, card } => power_word(out, *lane, card.as_slice(), b" torn"),
+        Head::ToCard { lane } => exchange(out, b"L", *lane, b" > ", bytes),
+        Head::FromCard { lane } => exchange(out, b"L", *lane, b" < ", bytes),
+        Head::Torn { lane } => event(out, *lane, b" < torn"),
+        Head::Gone { lane } => event(out, *lane, b" < gone"),
+        Head::ToHost { lane } => exchange(out, b"L", *lane, b" host > ", bytes),
+        Head::FromHost { lane } => exchange(out, b"L", *lane, b" host < ", bytes),
+        Head::NoReply { lane } => event(out, *lane, b" host < none"),
+        Head::End {
+            lane,
+            number,
+            parts,
+        } => end(out, *lane, *number, parts),
+        Head::SettleCall { lane } => exchange(out, b"S", *lane, b" > ", bytes),
+        Head::SettleReply { lane } => exchange(out, b"S", *lane, b" < ", bytes),
+        Head::AuditPower { card, apps } => audit_power(out, card.as_slice(), apps.as_slice()),
+        Head::AuditAsk { card } => audit(out, card.as_slice(), b" > ", bytes),
+        Head::AuditAnswer { card } => audit(out, card.as_slice(), b" < ", bytes),
     }
 }
 
