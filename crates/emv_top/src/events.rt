@@ -33,7 +33,7 @@ pub fn turn<P: Pages, K: Sink>(
 {
     room.lines.clear();
     match world.turn(lane, &mut room.lines) {
-        Ok(went) => match write_lines(room.lines.as_slice(), &mut room.text, sink) {
+        Ok(went) => match write_lines(&room.lines, &mut room.text, sink) {
             Ok(()) => Ok(went),
             Err(stop) => Err(stop),
         },
@@ -58,7 +58,7 @@ pub fn read_turn<P: Pages, K: Sink>(
 {
     room.lines.clear();
     match world.turn(0, &mut room.lines) {
-        Ok(went) => match write_shown(room.lines.as_slice(), &mut room.text, sink) {
+        Ok(went) => match write_shown(&room.lines, &mut room.text, sink) {
             Ok(()) => Ok(went),
             Err(stop) => Err(stop),
         },
@@ -86,7 +86,7 @@ pub fn settle<P: Pages, K: Sink>(
 {
     room.lines.clear();
     match world.settle(number, &mut room.lines) {
-        Ok(true) => match write_lines(room.lines.as_slice(), &mut room.text, sink) {
+        Ok(true) => match write_lines(&room.lines, &mut room.text, sink) {
             Ok(()) => Ok(true),
             Err(stop) => Err(stop),
         },
@@ -120,7 +120,7 @@ pub fn audit<P: Pages, K: Sink>(
     if !world.audit(number, &mut room.lines) {
         return Ok(false);
     }
-    match write_lines(room.lines.as_slice(), &mut room.text, sink) {
+    match write_lines(&room.lines, &mut room.text, sink) {
         Ok(()) => Ok(true),
         Err(stop) => Err(stop),
     }

@@ -1,5 +1,5 @@
 -- The lines of an event, as heads and the bytes of all of them.
-use Rattle.std.specs.Prelude.{◌≡◌, ℕ, ◌+◌, ◌≤◌, List, [], ◌∷◌, take, drop, length}
+use Rattle.std.specs.Prelude.{◌≡◌, ℕ, Bool, true, false, ◌+◌, ◌≤◌, List, [], ◌∷◌, take, drop, length}
 use Rattle.std.specs.List.{AllByRecursion}
 use Rattle.report_text.specs.declared.line.Line.{Line}
 use Rattle.report_text.specs.declared.line.Line.TheVariants as line
@@ -29,6 +29,11 @@ line_at (head.SettleReply lane) bytes = line.SettleReply lane (record { items = 
 line_at (head.AuditPower card apps) bytes = line.AuditPower card apps
 line_at (head.AuditAsk card) bytes = line.AuditAsk card (record { items = bytes })
 line_at (head.AuditAnswer card) bytes = line.AuditAnswer card (record { items = bytes })
+
+-- the line says how a purchase ended
+abbrev pub is_end : Line → Bool
+is_end (line.End lane number parts) = true
+is_end other = false
 
 -- each line has the next of the bytes, as many as its place says
 abbrev pub lines_at : List Place → List ℕ → List Line

@@ -1,7 +1,7 @@
 //! The lines of an event in one place: heads, and one room for the bytes of all of them.
 ghost use Rattle.std.specs.Prelude.{◌≡◌, ◌<◌, ◌≤◌, ◌++◌, [], ◌∷◌, length, MatchOption};
 ghost use Rattle.report_text.specs.declared.line.Line.TheVariants as line;
-ghost use Rattle.report_text.specs.Packed.{line_at};
+ghost use Rattle.report_text.specs.Packed.{line_at, is_end};
 
 use crate::head::{Head, Place};
 use crate::{EndParts, Shown};
@@ -227,6 +227,18 @@ impl<'a> Model for LineAt<'a> {
     ghost view = { λ line. line_at line.head.now line.bytes.now };
 
     ghost invariant = { λ line. length line.bytes.now ≤ 2048 };
+}
+
+impl<'a> LineAt<'a> {
+    /// Whether the line says how a purchase ended.
+    pub fn is_end(&self) -> bool
+        ensures { result ≡ is_end self.now }
+    {
+        match self.head {
+            Head::End { .. } => true,
+            _ => false,
+        }
+    }
 }
 
 /// Lines that are left to be read. Contracts see them as a list.

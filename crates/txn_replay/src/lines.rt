@@ -10,10 +10,8 @@ use ber_tlv::append;
 use card_state::{AppState, CardState, flags};
 use emv_dict::Ac;
 use kernel::EndRecord;
-use report_text::{EndParts, Line, Shown};
-
-/// The lines of one event.
-pub type Lines = ArrayVec<Line, 8>;
+pub use report_text::Lines;
+use report_text::{EndParts, Shown};
 
 /// An application's counters.
 #[tactic(auto, unfolding(crate::specs::Lines::shown_state))]
@@ -83,20 +81,24 @@ pub(crate) fn end_line(lane: u8, number: u32, ended: &EndRecord) -> Line
         atc_ac: last_of(&ended.last),
         scripts: results_of(&ended.scripts),
     };
+<<<<<<< HEAD
     Line::End {
         lane,
         number,
         parts,
     }
+=======
+    lines.end(lane, number, parts);
+>>>>>>> c3bfbb0835c752fe93273bcbc8727e243d0611bf
 }
 
-/// The bytes of a line.
-fn bytes_of<const N: usize>(bytes: &[u8]) -> ArrayVec<u8, N>
-    requires { length bytes.now ≤ N }
-    ensures { result.items ≡ bytes.now }
+/// The name of a card.
+fn name_of(name: &[u8]) -> ArrayVec<u8, 16>
+    requires { length name.now ≤ 16 }
+    ensures { result.items ≡ name.now }
 {
     let mut copy = ArrayVec::new();
-    append(&mut copy, bytes);
+    append(&mut copy, name);
     copy
 }
 
@@ -107,14 +109,8 @@ pub(crate) fn add_answer(lane: u8, command: &[u8], answer: &[u8], lines: &mut Li
     requires answer { length answer.now ≤ 258 }
     ensures { lines.new.items ≡ lines.old.items ++ spec.answer_lines lane command.now answer.now }
 {
-    lines.push(Line::ToCard {
-        lane,
-        bytes: bytes_of(command),
-    });
-    lines.push(Line::FromCard {
-        lane,
-        bytes: bytes_of(answer),
-    });
+    lines.to_card(lane, command);
+    lines.from_card(lane, answer);
 }
 
 /// One at which the power is cut.
@@ -123,11 +119,8 @@ pub(crate) fn add_torn(lane: u8, command: &[u8], lines: &mut Lines)
     requires command { length command.now ≤ 261 }
     ensures { lines.new.items ≡ lines.old.items ++ spec.torn_lines lane command.now }
 {
-    lines.push(Line::ToCard {
-        lane,
-        bytes: bytes_of(command),
-    });
-    lines.push(Line::Torn { lane });
+    lines.to_card(lane, command);
+    lines.torn(lane);
 }
 
 /// One for which no canned answer is left.
@@ -136,11 +129,8 @@ pub(crate) fn add_gone(lane: u8, command: &[u8], lines: &mut Lines)
     requires command { length command.now ≤ 261 }
     ensures { lines.new.items ≡ lines.old.items ++ spec.gone_lines lane command.now }
 {
-    lines.push(Line::ToCard {
-        lane,
-        bytes: bytes_of(command),
-    });
-    lines.push(Line::Gone { lane });
+    lines.to_card(lane, command);
+    lines.gone(lane);
 }
 
 /// What stood on the wire to the host, and what came back, or silence.
@@ -151,17 +141,11 @@ pub(crate) fn add_host(lane: u8, call: &[u8], reply: Option<&[u8]>, lines: &mut 
     ensures lines { lines.new.items ≡ lines.old.items ++ spec.wire_lines lane call.now (option_map (λ reply. reply.now) reply.entry) }
     ensures count { length lines.new.items ≡ length lines.old.items + 2 }
 {
-    lines.push(Line::ToHost {
-        lane,
-        bytes: bytes_of(call),
-    });
-    lines.push(match reply {
-        Some(reply) => Line::FromHost {
-            lane,
-            bytes: bytes_of(reply),
-        },
-        None => Line::NoReply { lane },
-    });
+    lines.to_host(lane, call);
+    match reply {
+        Some(reply) => lines.from_host(lane, reply),
+        None => lines.no_reply(lane),
+    }
 }
 
 /// A card is powered up.
@@ -170,11 +154,7 @@ pub(crate) fn add_power(lane: u8, name: &[u8], state: &CardState, lines: &mut Li
     requires name { length name.now ≤ 16 }
     ensures { lines.new.items ≡ lines.old.items ++ Power lane (record { items = name.now }) (record { items = map spec.shown_state state.now.apps.items }) ∷ [] }
 {
-    lines.push(Line::Power {
-        lane,
-        card: bytes_of(name),
-        apps: shown_all(state),
-    });
+    lines.power(lane, name_of(name), shown_all(state));
 }
 
 /// A card of canned answers is powered up.
@@ -183,10 +163,7 @@ pub(crate) fn add_power_canned(lane: u8, name: &[u8], lines: &mut Lines)
     requires name { length name.now ≤ 16 }
     ensures { lines.new.items ≡ lines.old.items ++ PowerCanned lane (record { items = name.now }) ∷ [] }
 {
-    lines.push(Line::PowerCanned {
-        lane,
-        card: bytes_of(name),
-    });
+    lines.power_canned(lane, name_of(name));
 }
 
 /// The power is cut as a card is powered up.
@@ -195,10 +172,7 @@ pub(crate) fn add_power_torn(lane: u8, name: &[u8], lines: &mut Lines)
     requires name { length name.now ≤ 16 }
     ensures { lines.new.items ≡ lines.old.items ++ PowerTorn lane (record { items = name.now }) ∷ [] }
 {
-    lines.push(Line::PowerTorn {
-        lane,
-        card: bytes_of(name),
-    });
+    lines.power_torn(lane, name_of(name));
 }
 
 /// What stood on the wire for a settlement message, and for the host's reply to it.
@@ -208,14 +182,8 @@ pub(crate) fn add_settlement(lane: u8, call: &[u8], reply: &[u8], lines: &mut Li
     requires reply { length reply.now ≤ 2048 }
     ensures { lines.new.items ≡ lines.old.items ++ spec.settle_wire_lines lane call.now reply.now }
 {
-    lines.push(Line::SettleCall {
-        lane,
-        bytes: bytes_of(call),
-    });
-    lines.push(Line::SettleReply {
-        lane,
-        bytes: bytes_of(reply),
-    });
+    lines.settle_call(lane, call);
+    lines.settle_reply(lane, reply);
 }
 
 /// A card is powered up for the audit.
@@ -224,10 +192,7 @@ pub(crate) fn add_audit_power(name: &[u8], state: &CardState, lines: &mut Lines)
     requires name { length name.now ≤ 16 }
     ensures { lines.new.items ≡ lines.old.items ++ AuditPower (record { items = name.now }) (record { items = map spec.shown_state state.now.apps.items }) ∷ [] }
 {
-    lines.push(Line::AuditPower {
-        card: bytes_of(name),
-        apps: shown_all(state),
-    });
+    lines.audit_power(name_of(name), shown_all(state));
 }
 
 /// A command of the audit, and its answer.
@@ -239,12 +204,6 @@ pub(crate) fn add_audit(name: &[u8], command: &[u8], answer: &[u8], lines: &mut 
     ensures { lines.new.items ≡ lines.old.items ++ AuditAsk (record { items = name.now }) (record { items = command.now })
         ∷ AuditAnswer (record { items = name.now }) (record { items = answer.now }) ∷ [] }
 {
-    lines.push(Line::AuditAsk {
-        card: bytes_of(name),
-        bytes: bytes_of(command),
-    });
-    lines.push(Line::AuditAnswer {
-        card: bytes_of(name),
-        bytes: bytes_of(answer),
-    });
+    lines.audit_ask(name_of(name), command);
+    lines.audit_answer(name_of(name), answer);
 }
