@@ -79,25 +79,14 @@ pub fn write_lines<K: Sink>(lines: &Lines, text: &mut Text, sink: &mut K) -> Res
     Ok(())
 }
 
-<<<<<<< HEAD
-/// Hands a line to the sink that a reading shows: all but an end line.
-fn emit_shown<K: Sink>(line: &Line, text: &mut Text, sink: &mut K) -> Result<(), Stop>
-=======
 /// Hands a line of an event to the sink that a reading shows: all but the end line.
 fn emit_shown<K: Sink>(line: &LineAt<'_>, text: &mut Text, sink: &mut K) -> Result<(), Stop>
->>>>>>> c3bfbb0835c752fe93273bcbc8727e243d0611bf
     ensures all { OnOk result (Appends (K.held sink.old) (K.held sink.new) (text_of (without_end line.now))) }
     ensures front { OnErr result (AppendsFront (K.held sink.old) (K.held sink.new) (text_of (without_end line.now))) }
     ensures stop { HasStop (K.faults sink.old) (K.faults sink.new) result }
 {
-<<<<<<< HEAD
-    match line {
-        Line::End { .. } | Line::EndLost { .. } => Ok(()),
-        other => emit(other, text, sink),
-=======
     if line.is_end() {
         return Ok(());
->>>>>>> c3bfbb0835c752fe93273bcbc8727e243d0611bf
     }
     emit_packed(line, text, sink)
 }

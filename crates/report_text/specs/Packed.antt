@@ -24,15 +24,17 @@ line_at (head.ToHost lane) bytes = line.ToHost lane (record { items = bytes })
 line_at (head.FromHost lane) bytes = line.FromHost lane (record { items = bytes })
 line_at (head.NoReply lane) bytes = line.NoReply lane
 line_at (head.End lane number parts) bytes = line.End lane number parts
+line_at (head.EndLost lane number) bytes = line.EndLost lane number
 line_at (head.SettleCall lane) bytes = line.SettleCall lane (record { items = bytes })
 line_at (head.SettleReply lane) bytes = line.SettleReply lane (record { items = bytes })
 line_at (head.AuditPower card apps) bytes = line.AuditPower card apps
 line_at (head.AuditAsk card) bytes = line.AuditAsk card (record { items = bytes })
 line_at (head.AuditAnswer card) bytes = line.AuditAnswer card (record { items = bytes })
 
--- the line says how a purchase ended
+-- the line says how a purchase ended, or that it was lost
 abbrev pub is_end : Line → Bool
 is_end (line.End lane number parts) = true
+is_end (line.EndLost lane number) = true
 is_end other = false
 
 -- each line has the next of the bytes, as many as its place says

@@ -43,6 +43,10 @@ pub(crate) enum Head {
         number: u32,
         parts: EndParts,
     },
+    EndLost {
+        lane: u8,
+        number: u32,
+    },
     SettleCall {
         lane: u8,
     },

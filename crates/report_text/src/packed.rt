@@ -154,6 +154,14 @@ impl Lines {
         );
     }
 
+    /// The lane's purchase of this number, from 1, was lost with its terminal.
+    pub fn end_lost(&mut self, lane: u8, number: u32)
+        requires { length self.old.items < 8 }
+        ensures { self.new.items ≡ self.old.items ++ line.EndLost lane number ∷ [] }
+    {
+        self.push(Head::EndLost { lane, number }, &[]);
+    }
+
     /// A settlement message of a lane.
     pub fn settle_call(&mut self, lane: u8, bytes: &[u8])
         requires room { length self.old.items < 8 }
@@ -230,12 +238,12 @@ impl<'a> Model for LineAt<'a> {
 }
 
 impl<'a> LineAt<'a> {
-    /// Whether the line says how a purchase ended.
+    /// Whether the line says how a purchase ended, or that it was lost.
     pub fn is_end(&self) -> bool
         ensures { result ≡ is_end self.now }
     {
         match self.head {
-            Head::End { .. } => true,
+            Head::End { .. } | Head::EndLost { .. } => true,
             _ => false,
         }
     }

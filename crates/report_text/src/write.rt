@@ -76,6 +76,7 @@ pub fn write_packed(line: &LineAt<'_>, out: &mut Text)
             number,
             parts,
         } => end(out, *lane, *number, parts),
+        Head::EndLost { lane, number } => end_lost(out, *lane, *number),
         Head::SettleCall { lane } => exchange(out, b"S", *lane, b" > ", bytes),
         Head::SettleReply { lane } => exchange(out, b"S", *lane, b" < ", bytes),
         Head::AuditPower { card, apps } => audit_power(out, card.as_slice(), apps.as_slice()),

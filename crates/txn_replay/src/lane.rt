@@ -27,7 +27,7 @@ ghost use Rattle.txn_replay.specs.Storing.{lane_lost};
 ghost use Rattle.txn_replay.specs.Seen.{IsNewLane, done_below, is_lane_done};
 ghost use Rattle.txn_replay.specs.World.{LaneRow};
 
-use crate::lines::{Lines, end_line};
+use crate::lines::{Lines, end_parts};
 use crate::payment::Payment;
 use auth_message::Message;
 use capture_store::Shelf;
@@ -122,7 +122,7 @@ pub(crate) fn finish<'s, P: Pages>(
     let ended = kernel.end(tally);
     lane.place = Some(kernel);
     lane.ended += 1;
-    let line = end_line(at.lane, lane.ended, &ended);
+    let parts = end_parts(&ended);
     let EndRecord {
         ending,
         tvr: _,
@@ -137,13 +137,10 @@ pub(crate) fn finish<'s, P: Pages>(
     lane.ending = Some(ending);
     match keep_capture(at, &mut lane.captures, shelf, capture) {
         Outcome::Told => {
-            lines.push(line);
+            lines.end(at.lane, lane.ended, parts);
             add_approval(&mut lane.log, ending, pan, amount_of(at.planned));
         }
-        Outcome::Lost => lines.push(Line::EndLost {
-            lane: at.lane,
-            number: lane.ended,
-        }),
+        Outcome::Lost => lines.end_lost(at.lane, lane.ended),
     }
 }
 
@@ -204,10 +201,7 @@ pub(crate) fn lose_purchase(at: &Payment<'_>, lane: &mut Lane<'_>, lines: &mut L
     lane.ended += 1;
     lane.place = None;
     lane.ending = None;
-    lines.push(Line::EndLost {
-        lane: at.lane,
-        number: lane.ended,
-    });
+    lines.end_lost(at.lane, lane.ended);
 }
 
 /// What reading gave in the dialogue of this place.

@@ -1,8 +1,8 @@
 //! The lines of a report, as they are made.
-ghost use Rattle.std.specs.Prelude.{◌≡◌, ◌+◌, ◌≤◌, ◌<◌, ◌++◌, ◌∷◌, [], length, map, option_map, IfSome};
+ghost use Rattle.std.specs.Prelude.{◌≡◌, ℕ, ◌+◌, ◌≤◌, ◌<◌, ◌++◌, ◌∷◌, [], length, map, option_map, IfSome};
 ghost use Rattle.kernel.specs.Ended.{EndData};
 ghost use Rattle.kernel.specs.Shown.{shown as shown_end};
-ghost use Rattle.report_text.specs.declared.line.Line.TheVariants.{Power, PowerCanned, PowerTorn, AuditPower, AuditAsk, AuditAnswer};
+ghost use Rattle.report_text.specs.declared.line.Line.TheVariants.{Power, PowerCanned, PowerTorn, End, AuditPower, AuditAsk, AuditAnswer};
 ghost use Rattle.txn_replay.specs.Lines as spec;
 
 use arrayvec::ArrayVec;
@@ -68,11 +68,11 @@ fn results_of(results: &ArrayVec<[u8; 5], 8>) -> ArrayVec<[u8; 5], 8>
     copy
 }
 
-/// The end line of a lane's purchase of this number.
-pub(crate) fn end_line(lane: u8, number: u32, ended: &EndRecord) -> Line
-    ensures { (end : EndData) → ended.now ≡ shown_end end → result ≡ spec.end_line lane number end }
+/// What the end line of a purchase tells.
+pub(crate) fn end_parts(ended: &EndRecord) -> EndParts
+    ensures { (lane number : ℕ) (end : EndData) → ended.now ≡ shown_end end → End lane number result ≡ spec.end_line lane number end }
 {
-    let parts = EndParts {
+    EndParts {
         ending: ended.ending,
         tvr: ended.tvr,
         tsi: ended.tsi,
@@ -80,16 +80,7 @@ pub(crate) fn end_line(lane: u8, number: u32, ended: &EndRecord) -> Line
         arc: ended.code,
         atc_ac: last_of(&ended.last),
         scripts: results_of(&ended.scripts),
-    };
-<<<<<<< HEAD
-    Line::End {
-        lane,
-        number,
-        parts,
     }
-=======
-    lines.end(lane, number, parts);
->>>>>>> c3bfbb0835c752fe93273bcbc8727e243d0611bf
 }
 
 /// The name of a card.
