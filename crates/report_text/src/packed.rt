@@ -220,6 +220,7 @@ impl Lines {
 }
 
 /// A line where it stands. Contracts see the line.
+#[derive(Drop)]
 pub struct LineAt<'a> {
     pub(crate) head: &'a Head,
     pub(crate) bytes: &'a [u8],
@@ -250,6 +251,7 @@ impl<'a> LineAt<'a> {
 }
 
 /// Lines that are left to be read. Contracts see them as a list.
+#[derive(Drop)]
 pub struct LinesLeft<'a> {
     places: &'a [Place],
     bytes: &'a [u8],
