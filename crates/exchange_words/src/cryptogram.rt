@@ -1,5 +1,8 @@
 //! GENERATE AC in words: what is asked for and why, and what is answered (EMV 4.3 Book 3 sections 6.5.5 and
 //! 10.7 to 10.11).
+ghost use Rattle.std.specs.Prelude.{◌≡◌};
+ghost use Rattle.exchange_words.specs.Statuses as spec;
+
 use crate::fields::{tell_fields, tell_fields_beside};
 use crate::lane::{LaneState, keep};
 use action_words::{Asking, Row, reason_of, tell_reason};
@@ -11,7 +14,9 @@ use object_words::{Fields, KnownCodes, ResultsStyle, Style, fits, number_in, val
 use word_lines::WordLines;
 
 /// The short name of a kind.
-pub fn kind_name(kind: Kind) -> &'static [u8] {
+pub fn kind_name(kind: Kind) -> &'static [u8]
+    ensures { result.now ≡ spec.kind_name kind }
+{
     match kind {
         Kind::Aac => b"AAC",
         Kind::Tc => b"TC",

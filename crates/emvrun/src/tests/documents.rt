@@ -9,7 +9,7 @@ use std::test::Fail;
 mod fields;
 
 /// The text with one text in place of another.
-fn replaced(alloc: Global, text: &str, old: &str, new: &str) -> Option<String> {
+pub(super) fn replaced(alloc: Global, text: &str, old: &str, new: &str) -> Option<String> {
     let (front, rest) = text.split_once(old)?;
     match format!(in alloc; "{front}{new}{rest}") {
         Ok(text) => Some(text),
