@@ -2,4 +2,3 @@ pub mod Pieces
 pub mod Words
 pub mod Text
 pub mod Packed
-pub mod CommandLine
