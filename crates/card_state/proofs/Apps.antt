@@ -159,7 +159,7 @@ module _ (v : Version) (bs : List ℕ) where
   some_fits s is = size_known v bs s (sym is)
 
 first_fails : (a b : Bool) → a ≡ false → (a && b) ≡ false
-first_fails true b fails = fails
+first_fails true b fails = cc
 first_fails false b fails = refl
 
 second_fails : (a b : Bool) → b ≡ false → (a && b) ≡ false
