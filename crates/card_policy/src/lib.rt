@@ -77,7 +77,16 @@ pub fn approves(state: &AppState, which: Which, amount: u64) -> bool
     ensures exact { result ≡ spec.approves state.now which amount }
     ensures alone { IsTrue result ↔ ApprovesAlone state.now which amount }
 {
-    !state.auth_failed && (state.count < state.count_limit && is_sum_within(state, which, amount))
+    !state.auth_failed && is_within_limits(state, which, amount)
+}
+
+/// Whether one more offline approval of this amount is within the limits.
+fn is_within_limits(state: &AppState, which: Which, amount: u64) -> bool
+    ensures exact { result ≡ spec.is_within_limits state.now which amount }
+    ensures limits { IsTrue result
+        ↔ ((state.now.count + 1 ≤ state.now.count_limit) × IsWithin state.now which amount) }
+{
+    state.count < state.count_limit && is_sum_within(state, which, amount)
 }
 
 /// Whether one more offline approval of this amount keeps the sum of its currency within its limit.

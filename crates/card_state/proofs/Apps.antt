@@ -159,12 +159,12 @@ module _ (v : Version) (bs : List ℕ) where
   some_fits s is = size_known v bs s (sym is)
 
 first_fails : (a b : Bool) → a ≡ false → (a && b) ≡ false
-first_fails true b no = no
-first_fails false b no = refl
+first_fails true b fails = cc
+first_fails false b fails = refl
 
 second_fails : (a b : Bool) → b ≡ false → (a && b) ≡ false
-second_fails true b no = no
-second_fails false b no = refl
+second_fails true b fails = fails
+second_fails false b fails = refl
 
 not_le : (m n : ℕ) → n < m → nat_le m n ≡ false
 not_le m n above = grind (arith, nat_tests)
@@ -172,7 +172,7 @@ not_le m n above = grind (arith, nat_tests)
 module _ (bs : List ℕ) where
   none_of_one : begins One bs ≡ false → None ≡ app_in One bs
   unfolding app_in
-  none_of_one no = sym (ap (λ b. if b then Some (fields_one bs) else None) no)
+  none_of_one fails = sym (ap (λ b. if b then Some (fields_one bs) else None) fails)
 
   pub one_short : length bs < 32 → None ≡ app_in One bs
   one_short few = none_of_one (first_fails (nat_le 32 (length bs)) (is_flagged bs) (not_le 32 (length bs) few))
@@ -188,7 +188,7 @@ module _ (bs : List ℕ) where
 
   none_of_two : begins Two bs ≡ false → None ≡ app_in Two bs
   unfolding app_in
-  none_of_two no = sym (ap (λ b. if b then Some (fields_of bs) else None) no)
+  none_of_two fails = sym (ap (λ b. if b then Some (fields_of bs) else None) fails)
 
   pub two_short : length bs < 50 → None ≡ app_in Two bs
   two_short few = none_of_two (first_fails (nat_le 50 (length bs)) (is_flagged bs && has_rows (drop 32 bs)) (not_le 50 (length bs) few))
@@ -204,9 +204,9 @@ module _ (bs : List ℕ) where
     here = is_rest ∙ take_rest bs 32
 
     pub two_rowless : has_rows rest ≡ false → None ≡ app_in Two bs
-    two_rowless no =
+    two_rowless fails =
         none_of_two (second_fails (nat_le 50 (length bs)) (is_flagged bs && has_rows (drop 32 bs))
-        (second_fails (is_flagged bs) (has_rows (drop 32 bs)) (ap (λ (more : List ℕ). has_rows more) (sym here) ∙ no)))
+        (second_fails (is_flagged bs) (has_rows (drop 32 bs)) (ap (λ (more : List ℕ). has_rows more) (sym here) ∙ fails)))
 
     pub two_there : 50 ≤ length bs → get_or bs 23 0 ≤ 3 → has_rows rest ≡ true → (s t : AppState) → s ≡ fields_one bs → t ≡ with_more s rest
         → Some t ≡ app_in Two bs
@@ -250,14 +250,14 @@ step_read v n bs s ss (Some ts) first rest is =
     let same : s ∷ ts ≡ ss = cc in
     subst (λ (xs : List AppState). AreRead v (suc n) bs xs) same (more_read v n bs s ts first (rest ts refl))
 
-app_read : (v : Version) (n : ℕ) (bs : List ℕ) (ss : List AppState) (o : Option AppState) (others : AppState → Option (List AppState))
+app_read : (v : Version) (n : ℕ) (bs : List ℕ) (ss : List AppState) (o : Option AppState) (behind : AppState → Option (List AppState))
     → ((s : AppState) → o ≡ Some s → IsRead v bs s)
-    → ((s : AppState) (ts : List AppState) → IsRead v bs s → others s ≡ Some ts → AreRead v n (drop (size_in v s) bs) ts)
-    → option_and_then (λ (s : AppState). option_map (λ (ts : List AppState). s ∷ ts) (others s)) o ≡ Some ss → AreRead v (suc n) bs ss
-app_read v n bs ss None others first rest is = cc
-app_read v n bs ss (Some s) others first rest is =
+    → ((s : AppState) (ts : List AppState) → IsRead v bs s → behind s ≡ Some ts → AreRead v n (drop (size_in v s) bs) ts)
+    → option_and_then (λ (s : AppState). option_map (λ (ts : List AppState). s ∷ ts) (behind s)) o ≡ Some ss → AreRead v (suc n) bs ss
+app_read v n bs ss None behind first rest is = cc
+app_read v n bs ss (Some s) behind first rest is =
     let read : IsRead v bs s = first s refl in
-    step_read v n bs s ss (others s) read (λ ts found. rest s ts read found) is
+    step_read v n bs s ss (behind s) read (λ ts found. rest s ts read found) is
 
 pub apps_in-are_read : (v : Version) (n : ℕ) (bs : List ℕ) (ss : List AppState) → ((i : ℕ) → get_or bs i 0 < 256) → apps_in v n bs ≡ Some ss
     → AreRead v n bs ss
@@ -269,9 +269,16 @@ apps_in-are_read v (suc n) bs ss fits is =
 
 -- reading one application after the other: what is read in all, with those in front so far
 
-pub nothing_read : (o : Option (List AppState)) → o ≡ option_map (λ (ss : List AppState). [] ++ ss) o
+nothing_read : (o : Option (List AppState)) → o ≡ option_map (λ (ss : List AppState). [] ++ ss) o
 nothing_read None = refl
 nothing_read (Some ss) = refl
+
+pub start_read : (v : Version) (n left : ℕ) (bytes : List ℕ) (front : List AppState) → front ≡ [] → left ≡ n
+    → apps_in v n bytes ≡ option_map (λ (ss : List AppState). front ++ ss) (apps_in v left bytes)
+start_read v n left bytes front empty same =
+    nothing_read (apps_in v n bytes)
+    ∙ ap (λ (xs : List AppState). option_map (λ (ss : List AppState). xs ++ ss) (apps_in v n bytes)) (sym empty)
+    ∙ ap (λ (k : ℕ). option_map (λ (ss : List AppState). front ++ ss) (apps_in v k bytes)) (sym same)
 
 pushed : (front : List AppState) (s : AppState) (o : Option (List AppState))
     → option_map (λ (ss : List AppState). front ++ ss) (option_map (λ (ss : List AppState). s ∷ ss) o)

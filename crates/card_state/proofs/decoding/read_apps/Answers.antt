@@ -1,11 +1,15 @@
-use Rattle.std.proofs.Common.{◌≡◌, ◌+◌, ◌-◌, ◌++◌, List, length, take, drop, suc, option_map, rules, sym, ap, ◌∙◌, arith}
+use Rattle.std.proofs.lemmas.Bool.Decides.{nat_tests}
+use Rattle.std.proofs.Common.{◌≡◌, ◌<◌, ◌+◌, ◌-◌, ◌++◌, List, length, take, drop, suc, option_map, rules, sym, ap, ◌∙◌, arith}
 use Rattle.card_state.specs.declared.state.AppState.{AppState}
 use Rattle.card_state.specs.Layout.{apps_in}
-use Rattle.card_state.proofs.Apps.{nothing_read, one_more_read, not_read, whole_read, more_left}
+use Rattle.card_state.proofs.Apps.{start_read, one_more_read, not_read, whole_read, more_left}
 use Rattle.card_state.proofs.decoding.read_apps.Goals as goal
 
 pub loop-i-init : goal.loop-i-init
-loop-i-init c = record { count = search rules; left = nothing_read (apps_in c.args.version c.args.count c.args.bytes.now) }
+loop-i-init c = record {
+  count = search rules;
+  left = start_read c.args.version c.args.count (c.args.count - 0) c.args.bytes.now c.new-apps.result.items c.new-apps.ensures (omega arith);
+}
 
 pub loop-i-preserved : goal.loop-i-preserved
 loop-i-preserved c =
@@ -28,10 +32,12 @@ returns-in-None c =
 
 pub returns-then-not-is_empty : goal.returns-then-not-is_empty
 returns-then-not-is_empty c =
+    let some : 0 < length c.loop-i.rest.now = grind (arith, nat_tests, c.if-not-is_empty.ensures) in
     sym (more_left c.args.version (apps_in c.args.version c.args.count c.args.bytes.now) c.loop-i.apps.items c.loop-i.rest.now (c.args.count - c.loop-i.i)
-    (omega arith) (omega arith) c.loop-i.invariant.left)
+    (omega arith) some c.loop-i.invariant.left)
 
 pub returns : goal.returns
 returns c =
+    let none : length c.loop-i.rest.now ≡ 0 = grind (arith, nat_tests, c.if-not-is_empty.ensures) in
     sym (whole_read c.args.version (apps_in c.args.version c.args.count c.args.bytes.now) c.loop-i.apps.items c.loop-i.rest.now (c.args.count - c.loop-i.i)
-    (omega arith) (omega arith) c.loop-i.invariant.left)
+    (omega arith) none c.loop-i.invariant.left)

@@ -3,7 +3,7 @@ use Rattle.std.proofs.Common.{◌≡◌, [], ◌∷◌, Some, None, ap, sym, sub
 use Rattle.card_state.specs.Totals.{totals}
 use Rattle.card_state.specs.declared.state.CardState.{CardState}
 use Rattle.card_state.proofs.ShortLogs.{totals_short}
-use Rattle.card_state.specs.Encoding.{HasShortLogs}
+use Rattle.card_state.specs.Encoding.{encoding, HasShortLogs}
 use Rattle.card_pages.specs.Pages.{MayStand, found_of}
 use Rattle.card_pages.specs.SeenKept.{KeptState}
 use Rattle.card_pages.proofs.PowerUps.{first, second, may_among, still_may, finds, kept_on}
@@ -30,8 +30,8 @@ unreachable-requires g c =
     let none : None ≡ Some state = sym c.in-None.is ∙ read in
     cc none
 
-pub invariant_of-self-clause-1 : goal.invariant_of-self-clause-1
-invariant_of-self-clause-1 g c =
+pub invariant_of-self : goal.invariant_of-self
+invariant_of-self g c =
     let opening = c.args.opening.now in
     let s = c.requires.stands in
     let cells = c.self.inside.place.memory.cells in
@@ -41,8 +41,10 @@ invariant_of-self-clause-1 g c =
     let list = found_of s.1 s.2 found.0 in
     let read = c.decode.ensures.reads (totals opening list) found.1 (sym (c.state.ensures.value ∙ found.2)) in
     let both : Some c.in-Some.state ≡ Some (totals opening list) = sym c.in-Some.is ∙ read in
-    let same : totals opening list ≡ c.in-Some.state = cc both in
-    subst (λ (t : CardState). HasShortLogs t) same (totals_short opening list found.3)
+    let same : totals opening list ≡ c.in-Some.state = cc both in (
+      λ on. found.2 ∙ ap (λ (t : CardState). encoding t) same,
+      subst (λ (t : CardState). HasShortLogs t) same (totals_short opening list found.3),
+    )
 
 pub returns-clause-found : goal.returns-clause-found
 returns-clause-found g c version kept pending stands =
