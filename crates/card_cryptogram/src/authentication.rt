@@ -68,9 +68,9 @@ fn by_status(session: &Key16, first: [u8; 8], body: &[u8]) -> Auth
     ensures right { spec.is_authenticated result ≡ true → result ≡ Two (spec.status_in body.now) }
     ensures wrong { spec.is_authenticated result ≡ false → result ≡ Absent }
 {
-    let (head, further) = body.split_at(8);
+    let (_, further) = body.split_at(8);
     let status = status_of(body);
-    if four_of(&head[..4]) == arpc_two(session, first, status, further) {
+    if four_of(&body[..4]) == arpc_two(session, first, status, further) {
         Auth::Two(status)
     } else {
         Auth::Absent
