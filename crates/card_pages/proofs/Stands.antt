@@ -191,7 +191,7 @@ module _ (opening : CardState) (ds : List Decided) (d : Decided) where
       let alone : Cut = record { before = []; cut = d } in
       let plan_is : place.memory.plan ≡ plan = ap (λ (m : Memory). m.plan) same ∙ on.plan_is in
       let number : next place.memory.commit ≡ commit_of (made + 1) =
-      ap (λ (m : Memory). next m.commit) same ∙ ap next on.commit_is ∙ next_number made in
+      ap (λ (m : Memory). next m.commit) same ∙ ap (λ (n : ℕ). next n) on.commit_is ∙ next_number made in
       let named : is_named plan (commit_of (made + 1)) ≡ true =
       ap (λ n. is_named plan n) (sym number) ∙ ap (λ (p : Option Tear). is_named p (next place.memory.commit)) (sym plan_is)
       ∙ cuts_named place.memory.plan (next place.memory.commit) (commit_writes place.state text) torn.cut in

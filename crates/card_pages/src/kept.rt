@@ -1,5 +1,5 @@
 //! The pages of a card in their place, with the state that they hold while it is on.
-ghost use Rattle.std.specs.Prelude.{◌≡◌, ◌⊎◌, ◌<◌, ◌≤◌, ℕ, List, [], ◌∷◌, Bool, Option, Some, None, length, slice_get, true, false, IsTrue, OnOk, OnErr};
+ghost use Rattle.std.specs.Prelude.{◌≡◌, ◌<◌, ◌≤◌, ℕ, List, [], ◌∷◌, Bool, Option, Some, None, length, slice_get, true, false, IsTrue, OnOk, OnErr};
 ghost use Rattle.card_state.specs.Decisions.{Decided};
 ghost use Rattle.card_state.specs.Encoding.{HasShortLogs};
 ghost use Rattle.card_state.specs.Totals.{totals};
@@ -61,7 +61,7 @@ impl Convert for Upgrade<'_> {
 /// Writes a card's state before its first decision, in version 1 or 2, to pages, which are off and have no plan,
 /// before and behind the call.
 pub fn format<P: Pages>(opening: &CardState, version: u8, pages: P) -> P
-    requires version { (version ≡ 1) ⊎ (version ≡ 2) }
+    requires version { (1 ≤ version) × (version ≤ 2) }
     requires none { totals opening.now [] ≡ opening.now }
     requires short { HasShortLogs opening.now }
     requires off { (P.memory pages).on ≡ false }
