@@ -20,6 +20,7 @@ pub(crate) fn app_at(image: &Image, app: u8) -> &AppImage
 }
 
 /// The state of the application of this number.
+#[tactic(auto, using(crate::proofs::ShortIn::short_in))]
 pub(crate) fn state_at(state: &CardState, app: u8) -> &AppState
     requires { app < length state.now.apps.items }
     ensures found { slice_get state.now.apps.items app ≡ Some result.now }

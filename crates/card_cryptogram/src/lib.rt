@@ -4,9 +4,9 @@
 #![tactic(auto)]
 
 mod asked;
-mod authentication;
 mod bodies;
 mod fields;
+mod issuer;
 mod options;
 mod orders;
 mod phase;
@@ -17,11 +17,9 @@ pub use asked::{
     NEXT_OCCURRENCE, has_issuer_auth, is_by_name, is_class, is_name_size, is_of_list,
     is_record_named, kind_asked, phase_behind,
 };
-pub use authentication::{
-    auth_of, authentication, is_authenticated, is_authentication_size, steered_by,
-};
 pub use bodies::{Body, cryptogram, issuer_data, put, replace, write_body};
 pub use fields::{Given, code_given, first_given, given_from};
+pub use issuer::{auth_of, authentication, is_authenticated, is_authentication_size, steered_by};
 pub use options::write_options;
 pub use orders::{Order, limit_order, limit_to, pin_order, plain_order, size_of};
 pub use phase::{First, Phase};

@@ -1,4 +1,4 @@
-ghost use Rattle.std.specs.Prelude.{◌≡◌, [], List, ℕ, IsTrue, ◌<◌, ◌≤◌, ◌-◌, ◌↔◌, ◌⊎◌, false, length, slice_get, is_some, IfOk, IsOk, IfSome, None, MatchResult, Some, option_map, option_copied};
+ghost use Rattle.std.specs.Prelude.{◌≡◌, [], List, ℕ, IsTrue, ◌<◌, ◌≤◌, ◌-◌, ◌↔◌, false, length, slice_get, is_some, IfOk, IsOk, IfSome, None, MatchResult, Some, option_map, option_copied};
 ghost use Rattle.std.specs.List.{All};
 ghost use Rattle.card_state.specs.Encoding.{HasShortLogs};
 ghost use Rattle.card_state.specs.Totals.{totals};
@@ -83,7 +83,7 @@ impl Image {
     /// The form of the card's state before its first decision, 1 or 2.
     pub fn version(&self) -> u8
         ensures version { result ≡ self.now.version }
-        ensures known { (result ≡ 1) ⊎ (result ≡ 2) }
+        ensures known { (1 ≤ result) × (result ≤ 2) }
     {
         self.version
     }

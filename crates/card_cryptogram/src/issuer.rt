@@ -1,5 +1,5 @@
 //! How EXTERNAL AUTHENTICATE authenticates the issuer (EMV 4.3 Book 2 section 8.2).
-ghost use Rattle.std.specs.Prelude.{◌≡◌, ◌≤◌, true, false, length, drop, if◌then◌else◌};
+ghost use Rattle.std.specs.Prelude.{◌≡◌, ◌≤◌, IsTrue, true, false, length, drop, if◌then◌else◌};
 ghost use Rattle.card_state.specs.declared.decision.Auth.TheVariants.{Absent, One, Two};
 ghost use Rattle.card_cryptogram.specs.Authentication as spec;
 
@@ -11,7 +11,9 @@ use triple_des::Key16;
 
 /// Whether the data of EXTERNAL AUTHENTICATE may have so many bytes: from 8 to 16.
 pub fn is_authentication_size(size: usize) -> bool
-    ensures { result ≡ spec.is_authentication_size size }
+    ensures exact { result ≡ spec.is_authentication_size size }
+    ensures least { IsTrue result → 8 ≤ size }
+    ensures most { IsTrue result → size ≤ 16 }
 {
     8 <= size && size <= 16
 }
@@ -68,9 +70,9 @@ fn by_status(session: &Key16, first: [u8; 8], body: &[u8]) -> Auth
     ensures right { spec.is_authenticated result ≡ true → result ≡ Two (spec.status_in body.now) }
     ensures wrong { spec.is_authenticated result ≡ false → result ≡ Absent }
 {
-    let (head, further) = body.split_at(8);
+    let (_, further) = body.split_at(8);
     let status = status_of(body);
-    if four_of(&head[..4]) == arpc_two(session, first, status, further) {
+    if four_of(&body[..4]) == arpc_two(session, first, status, further) {
         Auth::Two(status)
     } else {
         Auth::Absent
