@@ -85,7 +85,7 @@ fn replies_are_those_of_independent_implementations(rt: HostRuntime) -> Result<(
 }
 
 #[test]
-fn replies_by_method_two_are_those_of_independent_implementations(
+fn replies_by_method_two_are_those_of_an_independent_implementation(
     rt: HostRuntime,
 ) -> Result<(), Fail> {
     for ByStatus { status, history } in HISTORIES_BY_METHOD_TWO {

@@ -34,8 +34,8 @@ four_bytes status WrongPin = refl
 
 second : (p q : Bool) → IsTrue (p && q) → q ≡ true
 second true true both = refl
-second true false both = absurd both
-second false q both = absurd both
+second true false both = both
+second false q both = cc
 
 -- an account's status leaves bit 8 to the code
 pub status_small : (status : ℕ) → IsTrue (is_status status) → status < 128
@@ -81,6 +81,7 @@ right_two session arqc front status four four_more eight is =
 
 -- they answer the request's cryptogram
 pub response_is_right : (method : Method) (status : ℕ) (session arqc : List ℕ) (code : Code) → is_right_response session arqc (response_by method status session arqc code) ≡ true
+unfolding size_of
 response_is_right One status session arqc code =
     right_one session arqc (arpc_of session arqc (code_bytes code)) (code_bytes code) (length-arpc session arqc (code_bytes code)) (response_size One status session arqc code) refl
 response_is_right Two status session arqc code =

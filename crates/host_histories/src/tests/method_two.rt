@@ -1,5 +1,5 @@
-//! Histories of hosts whose accounts authenticate the issuer by method 2, with the replies of independent
-//! implementations.
+//! Histories of hosts whose accounts authenticate the issuer by method 2, with the replies of an independent
+//! implementation.
 use super::fixture::{Currency, Opening, Planned};
 use super::table::{APPROVED, History, Turn};
 
