@@ -184,8 +184,7 @@ is_entry app bytes is =
       objects =
           read_again entry ((0x4F, app.name) ∷ (0x50, app.label) ∷ object_if 0x87 priority)
           (append_assoc (written 0x4F app.name) (written 0x50 app.label) (written_some 0x87 priority)
-          ∙ ap (λ (bs : List ℕ). written 0x4F app.name ++ (written 0x50 app.label ++ bs)) (some_written 0x87 priority))
-          (
+          ∙ ap (λ (bs : List ℕ). written 0x4F app.name ++ (written 0x50 app.label ++ bs)) (some_written 0x87 priority)) (
             one_byte_tag 0x4F refl refl (omega arith),
             (one_byte_tag 0x50 refl refl (omega arith), if_tags 0x87 priority (one_byte_tag 0x87 refl refl (omega arith))),
           );

@@ -4,6 +4,7 @@ use Rattle.std.specs.List.{All}
 use Rattle.std.proofs.lemmas.Bool.{and_parts, eqb-true, leb-true, not-true}
 use Rattle.std.proofs.lemmas.List.Elements.{All-weaker, All-map}
 use Rattle.card_state.proofs.Unused.{totals-none}
+use Rattle.card_state.specs.Encoding.{HasShortLogs}
 use Rattle.card_state.specs.Totals.{totals, IsUnused}
 use Rattle.card_state.specs.declared.state.LogRow.{LogRow}
 use Rattle.card_state.specs.declared.state.AppState.{AppState}
@@ -67,7 +68,7 @@ no_totals out image same is =
     subst (λ (s : CardState). totals s [] ≡ s) (sym same) (totals-none (opening_of image) each)
 
 -- and logs of at most ten rows
-pub short_logs : (out : CardState) (image : ImageData) → out ≡ opening_of image → IsImage image → All (λ s. s.log_max ≤ 10) out.apps.items
+pub short_logs : (out : CardState) (image : ImageData) → out ≡ opening_of image → IsImage image → HasShortLogs out
 short_logs out image same is =
     let Short : AppState → Type 0 = λ s. s.log_max ≤ 10 in
     let each : All Short (map (λ a. a.opening) image.apps) =

@@ -1,5 +1,6 @@
-ghost use Rattle.std.specs.Prelude.{◌≡◌, [], List, ℕ, IsTrue, ◌<◌, ◌≤◌, ◌-◌, ◌↔◌, false, length, slice_get, is_some, IfOk, IsOk, IfSome, None, MatchResult, Some, option_map, option_copied};
+ghost use Rattle.std.specs.Prelude.{◌≡◌, [], List, ℕ, IsTrue, ◌<◌, ◌≤◌, ◌-◌, ◌↔◌, ◌⊎◌, false, length, slice_get, is_some, IfOk, IsOk, IfSome, None, MatchResult, Some, option_map, option_copied};
 ghost use Rattle.std.specs.List.{All};
+ghost use Rattle.card_state.specs.Encoding.{HasShortLogs};
 ghost use Rattle.card_state.specs.Totals.{totals};
 ghost use Rattle.card_files.specs.Control.{fci_bytes, IsFci};
 ghost use Rattle.card_files.specs.Faults.{image_fault};
@@ -82,7 +83,7 @@ impl Image {
     /// The form of the card's state before its first decision, 1 or 2.
     pub fn version(&self) -> u8
         ensures version { result ≡ self.now.version }
-        ensures known { (1 ≤ result) × (result ≤ 2) }
+        ensures known { (result ≡ 1) ⊎ (result ≡ 2) }
     {
         self.version
     }
@@ -175,7 +176,7 @@ impl Image {
     pub fn opening(&self, out: &mut CardState)
         ensures value { out.new ≡ opening_of self.now }
         ensures totals { totals out.new [] ≡ out.new }
-        ensures logs { All (λ s. s.log_max ≤ 10) out.new.apps.items }
+        ensures short { HasShortLogs out.new }
     {
         out.blocked = false;
         out.apps.clear();

@@ -383,7 +383,11 @@ fn has_a_directory(rt: HostRuntime) -> Result<(), Fail> {
     assert!(rt; !image.directory_record(2, &mut out) && !image.directory_record(255, &mut out));
 
     // No application has the directory's name, or one that begins with it, behind all other faults.
-    for (end, pse, fault) in [(0x31, Some(10), true), (0x32, Some(10), false), (0x31, None, false)] {
+    for (end, pse, fault) in [
+        (0x31, Some(10), true),
+        (0x32, Some(10), false),
+        (0x31, None, false),
+    ] {
         let mut apps = apps_of(&rt, alloc, &[1, 2])?;
         assert!(rt; apps.len() == 2);
         let mut name = [0; 15];

@@ -23,8 +23,8 @@ returns-clause-totals c =
     c.loop-image.invariant.free c.loop-image.invariant.opened c.apps-image-items.ensures.apps)
     c.apps-image-items.ensures.image
 
-pub returns-clause-logs : goal.returns-clause-logs
-returns-clause-logs c =
+pub returns-clause-short : goal.returns-clause-short
+returns-clause-short c =
     short_logs c.loop-image.out c.args.self.now
     (filled c.loop-image.out c.apps-image-items.result.now c.args.self.now c.loop-image.image-index c.loop-image-test.false
     c.loop-image.invariant.free c.loop-image.invariant.opened c.apps-image-items.ensures.apps)
