@@ -284,9 +284,12 @@ fn second_sum(out: &mut Text, sum: Option<u64>)
     ensures text { out.new.items ≡ out.old.items ++ second_text sum }
     ensures len { array_vec_len out.new ≤ array_vec_len out.old + 41 }
 {
-    if let Some(sum) = sum {
-        append(out, b",");
-        number(out, sum);
+    match sum {
+        None => {}
+        Some(sum) => {
+            append(out, b",");
+            number(out, sum);
+        }
     }
 }
 

@@ -482,14 +482,11 @@ fn app_with(
 ) -> AppImage
     ensures { result ≡ app_with keys.now files holder counters access extras }
 {
-    let derived = master_key(&keys.ac, &holder.pan, holder.sequence);
     let mac_key = master_key(&keys.mac, &holder.pan, holder.sequence);
     let enc_key = master_key(&keys.enc, &holder.pan, holder.sequence);
-    let ac_key = own_or(derived, access.ac_key);
-    let opening = opening_of(&counters, &access, &extras);
+    let derived = master_key(&keys.ac, &holder.pan, holder.sequence);
     let aip = files.aip;
     let currency = holder.currency;
-    let currency_two = extras.currency_two;
     AppImage {
         name: files.name,
         label: files.label,
@@ -505,10 +502,10 @@ fn app_with(
         pan: holder.pan,
         sequence: holder.sequence,
         currency,
-        opening,
+        opening: opening_of(&counters, &access, &extras),
         tries: access.tries,
-        ac_key,
-        currency_two,
+        ac_key: own_or(derived, access.ac_key),
+        currency_two: extras.currency_two,
         limit_two: extras.limit_two,
         log: extras.log,
         log_sfi: extras.log_sfi,
