@@ -13,5 +13,5 @@ returns-clause-stands c = λ table rest moment command passed. record {
   passed = asks_on step.Power step.Select (selecting_by _ c.args.settings.now.aids c.args.confirm) (selected_then (deal_of table)) [] rest passed
       (directory_rest c.begin-listing.result) c.begin-listing.ensures.leads;
   tied = moment;
-  shows = rw command (rest_wants c.begin-listing.result _ c.ask.ensures);
+  shows = rw command (rest_wants c.begin-listing.result _ c.ask.ensures.wants);
 }
