@@ -9,6 +9,9 @@ pub returns-in-Ask-clause-stands : goal.returns-in-Ask-clause-stands
 returns-in-Ask-clause-stands c = λ log course rest passed leads.
     rw c.requires.objects (c.ask_directory.ensures.stands log course rest passed (rw c.in-Ask.is at leads))
 
+pub returns-in-Ask-clause-fits : goal.returns-in-Ask-clause-fits
+returns-in-Ask-clause-fits c = rw c.requires.objects c.ask_directory.ensures.fits
+
 pub returns-in-Found-clause-stands : goal.returns-in-Found-clause-stands
 returns-in-Found-clause-stands c = λ log course rest passed leads. c.ask_search.ensures.stands log course rest passed (rw c.in-Found.is at leads)
 
