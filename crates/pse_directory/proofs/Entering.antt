@@ -11,7 +11,8 @@ use Rattle.emv_dict.specs.declared.purchase.AidRow.{AidRow}
 use Rattle.pse_directory.specs.Directory.{kept, listed_by, listed_in}
 use Rattle.pse_directory.specs.Entries.{EntryData, entry_in, entry_of, joined, entries_of, entries_in}
 use Rattle.pse_directory.specs.Keeping.{kept_with, with_candidate, with_entry, with_entries}
-use Rattle.pse_directory.proofs.Kept.{kept-fold, kept-kept}
+use Rattle.pse_directory.specs.Said.{Holds, said_entries}
+use Rattle.pse_directory.proofs.Kept.{kept-fold}
 
 -- what is left of a record, with the candidates so far
 abbrev pub read_on : List AidRow → List CandidateData → Result (List ItemData) TlvFault → Option (List CandidateData)
@@ -62,6 +63,12 @@ none_by rows all (Some entries) is = cc
 
 pub none_of : (rows : List AidRow) (all : List CandidateData) (read : Result (List ItemData) TlvFault) → read_on rows all read ≡ None → entries_in read ≡ None
 none_of rows all read is = none_by rows all (entries_in read) is
+
+-- what the entries that were taken made of the candidates
+pub held_by : (rows : List AidRow) (old new : List CandidateData) (entries : Option (List EntryData)) → option_map (with_entries rows old) entries ≡ Some new
+    → (held : List EntryData) × (said_entries entries ≡ Holds held) × (new ≡ with_entries rows old held)
+held_by rows old new None is = cc
+held_by rows old new (Some entries) is = (entries, refl, cc)
 
 -- the candidates of entries, one behind another
 with_candidate-fold : (rows : List AidRow) (all : List CandidateData) (candidate : Option CandidateData) (later : List CandidateData)

@@ -42,7 +42,7 @@ none_left (first ∷ behind) cause left begins = absurd begins
 
 pub list_leads : (whole list start : Course) (answers : List (List ℕ)) (among : List CandidateData) (cause : Cause) (left : List CandidateData)
     → BeginsWith among (search.Ended cause) left → Leads whole answers (found_or opening list among) → Leads list [] start → Leads whole answers start
-list_leads whole list start answers [] cause left begins leads begun later = leads later ∙ begun later
+list_leads whole list start answers [] cause left begins leads begun = λ later. leads later ∙ begun later
 list_leads whole list start answers (first ∷ behind) cause left begins leads begun = absurd begins
 
 pub never_chosen : (among : List CandidateData) (choice : _) (left : List CandidateData) → BeginsWith among (search.Chosen choice) left → ⊥
@@ -65,7 +65,7 @@ selecting_list_is (first ∷ behind) cause state begins = absurd begins
 
 pub selecting_list_leads : (whole list start : Course) (answers : List (List ℕ)) (among : List CandidateData) (cause : Cause)
     → SelectBeginsWith among (select.Ended cause) → Leads whole answers (found_or opening list among) → Leads list [] start → Leads whole answers start
-selecting_list_leads whole list start answers [] cause begins leads begun later = leads later ∙ begun later
+selecting_list_leads whole list start answers [] cause begins leads begun = λ later. leads later ∙ begun later
 selecting_list_leads whole list start answers (first ∷ behind) cause begins leads begun = absurd begins
 
 -- one answer more

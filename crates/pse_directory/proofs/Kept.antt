@@ -3,7 +3,7 @@ use Rattle.std.proofs.Common.{◌≡◌, ◌≤◌, ◌<◌, ℕ, zero, suc, ◌
 use Rattle.std.specs.List.{AllByRecursion, list_any}
 use Rattle.std.specs.Str.{bytes_eq}
 use Rattle.std.proofs.lemmas.Bool.Decides.{nat_tests}
-use Rattle.std.proofs.lemmas.List.{take_all, take-append-le, length-take-le, length_push}
+use Rattle.std.proofs.lemmas.List.{take_all, take-append-le, length-take-le}
 use Rattle.app_select.specs.Candidates.{CandidateData, has_name, firsts_behind, firsts}
 use Rattle.app_select.specs.Laws.{HasDistinctNames}
 use Rattle.app_select.proofs.Names.{firsts-there, firsts-distinct}

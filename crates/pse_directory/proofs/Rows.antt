@@ -45,7 +45,7 @@ any_named rows name (one ∷ found) = ap (λ (b : Bool). bytes_eq one.name name 
 
 out_named : (rows : List AidRow) (name : List ℕ) (found : List Found)
     → (list_any (has_name name) (all_named rows found) || nat_le 16 (length (all_named rows found))) ≡ (list_any (λ other. bytes_eq other.name name) found || nat_le 16 (length found))
-out_named rows name found = rw (any_named rows name found, length-map (named_by rows) found) refl
+out_named rows name found = rw (any_named rows name found, length-map) refl
 
 module _ (rows : List AidRow) (entry : EntryData) (found : List Found) where
   -- the terminal supports no such name

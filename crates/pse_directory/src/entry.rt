@@ -97,10 +97,16 @@ fn has_name(found: &Found, name: &Name) -> bool
     found.name == *name
 }
 
+fn is_there(found: &[Found], name: &Name) -> bool
+    ensures { result ≡ list_any (λ other. bytes_eq other.name name.now) found.now }
+{
+    found.iter().any(|other| has_name(other, name))
+}
+
 /// Whether no application of this name is taken: one is there, or there is no room.
 fn is_left_out(found: &[Found], name: &Name) -> bool
     ensures exact { result ≡ (list_any (λ other. bytes_eq other.name name.now) found.now || nat_le 16 (length found.now)) }
     ensures room { result ≡ false → length found.now < 16 }
 {
-    found.iter().any(|other| has_name(other, name)) || MOST_NAMES <= found.len()
+    is_there(found, name) || MOST_NAMES <= found.len()
 }

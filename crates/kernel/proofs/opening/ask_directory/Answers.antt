@@ -11,5 +11,5 @@ pub returns-clause-stands : goal.returns-clause-stands
 returns-clause-stands c = λ log course rest passed equal. record {
   passed = asks_on step.Select step.Select course (selected_then (deal_of c.args.table.now)) log rest passed (directory_rest c.args.listing) equal;
   tied = c.requires;
-  shows = rest_wants c.args.listing _ c.ask.ensures;
+  shows = rest_wants c.args.listing _ c.ask.ensures.wants;
 }

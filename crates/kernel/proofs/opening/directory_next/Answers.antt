@@ -9,8 +9,11 @@ pub returns-in-Ask-clause-stands : goal.returns-in-Ask-clause-stands
 returns-in-Ask-clause-stands c = λ log course rest passed leads.
     rw c.requires.objects (c.ask_directory.ensures.stands log course rest passed (rw c.in-Ask.is at leads))
 
+pub returns-in-Ask-clause-fits : goal.returns-in-Ask-clause-fits
+returns-in-Ask-clause-fits c = rw c.requires.objects c.ask_directory.ensures.fits
+
 pub returns-in-Found-clause-stands : goal.returns-in-Found-clause-stands
-returns-in-Found-clause-stands c = λ log course rest passed leads. c.ask_search-in-Found.ensures.stands log course rest passed (rw c.in-Found.is at leads)
+returns-in-Found-clause-stands c = λ log course rest passed leads. c.ask_search.ensures.stands log course rest passed (rw c.in-Found.is at leads)
 
 pub returns-in-List-clause-stands : goal.returns-in-List-clause-stands
 returns-in-List-clause-stands c = λ log course rest passed leads. c.ask_search-in-List.ensures.stands log course rest passed (rw c.in-List.is at leads)

@@ -20,7 +20,7 @@ returns-in-Directory-clause-stands c = λ table objects before rest at_stage.
     let s = c.in-Directory.state in
     let stands : OpeningStands table objects (stage.Directory s) before rest = rw c.in-Directory.is at at_stage in record {
       passed = λ later. gone_on (cut_of s.begun) step.Select (directory_rest s.listing) (selected_then (deal_of table)) before rest stands.passed table.command.items stands.shows later
-          ∙ ap (λ (at : Step). let gone : Standing Mark = over [] (CutOff at) before later in gone) (sym c.step_of-in-Directory.ensures);
+          ∙ ap (λ (at : Step). let gone : Standing Mark = over [] (CutOff at) before later in gone) (sym c.step_of.ensures);
       tied = stands.tied;
       shows = tt;
     }
@@ -30,7 +30,7 @@ returns-in-Select-clause-stands c = λ table objects before rest at_stage.
     let s = c.in-Select.state in
     let stands : OpeningStands table objects (stage.Select s) before rest = rw c.in-Select.is at at_stage in record {
       passed = λ later. gone_on (cut_of s.begun) step.Select (rest_with s.search table.candidates) (selected_then (deal_of table)) before rest stands.passed table.command.items stands.shows later
-          ∙ ap (λ (at : Step). let gone : Standing Mark = over [] (CutOff at) before later in gone) (sym c.step_of-begun.ensures);
+          ∙ ap (λ (at : Step). let gone : Standing Mark = over [] (CutOff at) before later in gone) (sym c.step_of-in-Select.ensures);
       tied = stands.tied;
       shows = tt;
     }
