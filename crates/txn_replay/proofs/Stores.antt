@@ -224,7 +224,7 @@ lane_stored p part one other durable stored first =
         by false = copied_stored p message part.lane at.rests (ap is_some on.on) stored
 
 -- a lane without a store never has one
-plain_stored : (p : Payment) (part : Part) (one other : Bool) → p.durable ≡ false → part.lane.store ≡ new_store
+pub plain_stored : (p : Payment) (part : Part) (one other : Bool) → p.durable ≡ false → part.lane.store ≡ new_store
     → (lane_piece p part one other).part.lane.store ≡ new_store
 plain_stored p part one other durable none =
     lane_ways (λ m. m.part.lane.store ≡ new_store) p part
@@ -249,7 +249,7 @@ plain_stored p part one other durable none =
     later_store before _ (messaging message) is = is
 
 -- no turn opens a store for settlement
-piece_found : (p : Payment) (part : Part) (one other : Bool) → part.lane.store.found ≡ None → (lane_piece p part one other).part.lane.store.found ≡ None
+pub piece_found : (p : Payment) (part : Part) (one other : Bool) → part.lane.store.found ≡ None → (lane_piece p part one other).part.lane.store.found ≡ None
 piece_found p part one other first =
     lane_ways (λ m. m.part.lane.store.found ≡ None) p part
     first
