@@ -26,7 +26,10 @@ pub mod Planning
 pub mod Turning
 pub mod Checks
 pub mod Settling
+pub mod Places
 pub mod Stores
+pub mod Through
+pub mod Steppings
 pub mod Audits
 pub mod Replies
 pub mod Begins

@@ -1,11 +1,11 @@
 -- Where the steps of the settlement stand: a lane's own behind those of the lanes before it; in a lane its store's opening
 -- first, and then the copies of each message that it found.
-use Rattle.std.proofs.Common.{◌≡◌, ◌⊎◌, ℕ, zero, suc, ◌+◌, ◌-◌, ◌*◌, ◌/◌, ◌≤◌, ◌<◌, Bool, true, false, List, [], ◌∷◌, ◌++◌, length, take, replicate, slice_get, Option, Some, None, refl, sym, ap, ◌∙◌, subst, inl, inr, arith, length-append}
+use Rattle.std.proofs.Common.{◌≡◌, ◌⊎◌, ℕ, zero, suc, ◌+◌, ◌-◌, ◌*◌, ◌/◌, ◌%◌, ◌==◌, ◌≤◌, ◌<◌, Bool, true, false, List, [], ◌∷◌, ◌++◌, length, take, replicate, slice_get, Option, Some, None, refl, sym, ap, ◌∙◌, subst, inl, inr, arith, length-append}
 use Rattle.std.specs.List.{flat_map}
 use Rattle.std.specs.Prelude.{if◌then◌else◌, unwrap_or}
 use Rattle.std.proofs.lemmas.List.{length-replicate}
 use Rattle.std.proofs.lemmas.Option.{same_Some, get_or_from_slice_get}
-use Rattle.std.proofs.Math.Nat.{add-div_left, div-eq_of_lt, div_self}
+use Rattle.std.proofs.Math.Nat.{add-div_left, add-mod_left, div-eq_of_lt, div_self, mod-eq_of_lt, mod_self}
 use Rattle.scenario.specs.Plan.{ScenarioData}
 use Rattle.txn_replay.specs.Payment.{durable_of}
 use Rattle.txn_replay.specs.Steps.{Settlement, Opens, Sends, copies_of, dropped_copies, lane_settlements, settlements_from, settlements}
@@ -17,6 +17,7 @@ use Rattle.txn_replay.proofs.Settling.{copy_is, plain_are}
 pub record InCopies (copies : ℕ) (messages : List (List ℕ)) (n : ℕ) (message : List ℕ) (drops : Bool) : Type 0 where
   pub there : slice_get messages (n / copies) ≡ Some message
   pub next : (n + 1) / copies ≡ n / copies + (if drops then 1 else 0)
+  pub last : drops ≡ ((n + 1) % copies == 0)
 
 abbrev pub IsCopy : ℕ → ℕ → List (List ℕ) → ℕ → Settlement → Type 0
 IsCopy copies l messages n (Opens lane) = ⊥
@@ -27,13 +28,23 @@ early_copy : (copies n : ℕ) (message : List ℕ) (messages : List (List ℕ)) 
 early_copy copies n message messages below =
     let none : n / copies ≡ 0 = div-eq_of_lt (omega (arith, below)) in
     let still : (n + 1) / copies ≡ 0 = div-eq_of_lt (omega (arith, below)) in
-    record { there = ap (λ q. slice_get (message ∷ messages) q) none; next = still ∙ sym (ap (λ q. q + 0) none) }
+    let rest : (n + 1) % copies ≡ suc n = mod-eq_of_lt (omega (arith, below)) ∙ (let e : n + 1 ≡ suc n = omega arith in e) in
+    record {
+      there = ap (λ q. slice_get (message ∷ messages) q) none;
+      next = still ∙ sym (ap (λ q. q + 0) none);
+      last = sym (ap (λ r. r == 0) rest);
+    }
 
 last_copy : (copies n : ℕ) (message : List ℕ) (messages : List (List ℕ)) → n + 1 ≡ copies → InCopies copies (message ∷ messages) n message true
 last_copy copies n message messages is =
     let none : n / copies ≡ 0 = div-eq_of_lt (omega (arith, is)) in
     let one : (n + 1) / copies ≡ 1 = ap (λ x. x / copies) is ∙ div_self (omega (arith, is)) in
-    record { there = ap (λ q. slice_get (message ∷ messages) q) none; next = one ∙ sym (ap (λ q. q + 1) none) }
+    let rest : (n + 1) % copies ≡ 0 = ap (λ x. x % copies) is ∙ mod_self copies in
+    record {
+      there = ap (λ q. slice_get (message ∷ messages) q) none;
+      next = one ∙ sym (ap (λ q. q + 1) none);
+      last = sym (ap (λ r. r == 0) rest);
+    }
 
 -- one message further
 later_copy : (copies n m l : ℕ) (message : List ℕ) (messages : List (List ℕ)) (at : Settlement) → 1 ≤ copies → n ≡ copies + m → IsCopy copies l messages m at
@@ -44,11 +55,14 @@ later_copy copies n m l message messages (Sends lane sent drops) some is one =
     let next : (n + 1) / copies ≡ suc ((m + 1) / copies) =
     ap (λ x. x / copies) (let e : n + 1 ≡ copies + (m + 1) = omega (arith, is) in e)
     ∙ add-div_left (m + 1) (omega (arith, some))
-    ∙ (let e : (m + 1) / copies + 1 ≡ suc ((m + 1) / copies) = omega arith in e) in (
+    ∙ (let e : (m + 1) / copies + 1 ≡ suc ((m + 1) / copies) = omega arith in e) in
+    let rest : (n + 1) % copies ≡ (m + 1) % copies =
+    ap (λ x. x % copies) (let e : n + 1 ≡ copies + (m + 1) = omega (arith, is) in e) ∙ add-mod_left copies (m + 1) in (
       one.0,
       record {
         there = ap (λ q. slice_get (message ∷ messages) q) quotient ∙ one.1.there;
         next = next ∙ ap (λ q. suc q) one.1.next ∙ sym (ap (λ q. q + (if drops then 1 else 0)) quotient);
+        last = one.1.last ∙ sym (ap (λ r. r == 0) rest);
       },
     )
 

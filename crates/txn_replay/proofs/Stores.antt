@@ -371,7 +371,7 @@ module _ (s : ScenarioData) where
       first : (i : ℕ) → (lane_at w i).store.found ≡ None
       first i = elim (stand.before i) [ | inl none ↦ none | inr over ↦ absurd (not_over s w l p is over) ]
 
-  turn_stand : (w : World) (l : ℕ) (choices : List Bool) → StoresStand s w → StoresStand s (happens s w (Turn l) choices).world
+  pub turn_stand : (w : World) (l : ℕ) (choices : List Bool) → StoresStand s w → StoresStand s (happens s w (Turn l) choices).world
   turn_stand w l choices stand = record {
     lanes = turn_stores w l choices (next_of s w l) refl stand;
     before = turn_before w l choices (next_of s w l) refl stand;
@@ -392,7 +392,7 @@ module _ (s : ScenarioData) where
             | inr same ↦ same ∙ none
           ]
 
-  settle_stand : (w : World) (choices : List Bool) (o : Option Settlement) → ((at : Settlement) → o ≡ Some at → IsOfStore s w at) → all_over s w ≡ true
+  pub settle_stand : (w : World) (choices : List Bool) (o : Option Settlement) → ((at : Settlement) → o ≡ Some at → IsOfStore s w at) → all_over s w ≡ true
       → StoresStand s w → StoresStand s (settles s w choices o).world
   settle_stand w choices None durable over stand = stand
   settle_stand w choices (Some (Opens l)) durable over stand = record {
@@ -418,7 +418,7 @@ module _ (s : ScenarioData) where
   audit_stand w choices (Some (Asks i card command)) stand =
       record { lanes = stand.lanes; before = λ k. elim (stand.before k) [ | inl none ↦ inl none | inr over ↦ inr over ] }
 
-  first_stand : StoresStand s (first_world s)
+  pub first_stand : StoresStand s (first_world s)
   first_stand = record {
     lanes = λ l. subst (λ (row : LaneRow). StoredBy (durable_of s l) row) (sym (get_or-map_const s.lanes l new_lane)) (new_stored (durable_of s l));
     before = λ l. inl (ap (λ (row : LaneRow). row.store.found) (get_or-map_const s.lanes l new_lane));
