@@ -46,6 +46,7 @@ pub mod Done
 pub mod Fairness
 pub mod Exchanging
 pub mod Preparing
+pub mod Storings
 pub mod Rows
 pub mod Gives
 pub mod Sureness

@@ -3,6 +3,7 @@
 use Rattle.std.proofs.Common.{◌≡◌, ◌⊎◌, ℕ, zero, suc, ◌+◌, ◌-◌, ◌*◌, ◌/◌, ◌%◌, ◌==◌, ◌≤◌, ◌<◌, Bool, true, false, List, [], ◌∷◌, ◌++◌, length, take, replicate, slice_get, Option, Some, None, refl, sym, ap, ◌∙◌, subst, inl, inr, arith, length-append}
 use Rattle.std.specs.List.{flat_map}
 use Rattle.std.specs.Prelude.{if◌then◌else◌, unwrap_or}
+use Rattle.std.proofs.lemmas.Bool.Decides.{nat_tests}
 use Rattle.std.proofs.lemmas.List.{length-replicate}
 use Rattle.std.proofs.lemmas.Option.{same_Some, get_or_from_slice_get}
 use Rattle.std.proofs.Math.Nat.{add-div_left, add-mod_left, div-eq_of_lt, div_self, mod-eq_of_lt, mod_self}
@@ -23,16 +24,19 @@ abbrev pub IsCopy : ℕ → ℕ → List (List ℕ) → ℕ → Settlement → T
 IsCopy copies l messages n (Opens lane) = ⊥
 IsCopy copies l messages n (Sends lane message drops) = (lane ≡ l) × InCopies copies messages n message drops
 
+not_zero : (n : ℕ) → 0 < n → (n == 0) ≡ false
+not_zero n some = grind (arith, nat_tests)
+
 -- a copy but the last, and the last
 early_copy : (copies n : ℕ) (message : List ℕ) (messages : List (List ℕ)) → n + 1 < copies → InCopies copies (message ∷ messages) n message false
 early_copy copies n message messages below =
     let none : n / copies ≡ 0 = div-eq_of_lt (omega (arith, below)) in
     let still : (n + 1) / copies ≡ 0 = div-eq_of_lt (omega (arith, below)) in
-    let rest : (n + 1) % copies ≡ suc n = mod-eq_of_lt (omega (arith, below)) ∙ (let e : n + 1 ≡ suc n = omega arith in e) in
+    let rest : (n + 1) % copies ≡ n + 1 = mod-eq_of_lt (omega (arith, below)) in
     record {
       there = ap (λ q. slice_get (message ∷ messages) q) none;
       next = still ∙ sym (ap (λ q. q + 0) none);
-      last = sym (ap (λ r. r == 0) rest);
+      last = sym (not_zero ((n + 1) % copies) (omega (arith, rest)));
     }
 
 last_copy : (copies n : ℕ) (message : List ℕ) (messages : List (List ℕ)) → n + 1 ≡ copies → InCopies copies (message ∷ messages) n message true
@@ -49,7 +53,7 @@ last_copy copies n message messages is =
 -- one message further
 later_copy : (copies n m l : ℕ) (message : List ℕ) (messages : List (List ℕ)) (at : Settlement) → 1 ≤ copies → n ≡ copies + m → IsCopy copies l messages m at
     → IsCopy copies l (message ∷ messages) n at
-later_copy copies n m l message messages (Opens lane) some is no = no
+later_copy copies n m l message messages (Opens lane) some is never = never
 later_copy copies n m l message messages (Sends lane sent drops) some is one =
     let quotient : n / copies ≡ suc (m / copies) = ap (λ x. x / copies) is ∙ add-div_left m (omega (arith, some)) ∙ (let e : m / copies + 1 ≡ suc (m / copies) = omega arith in e) in
     let next : (n + 1) / copies ≡ suc ((m + 1) / copies) =
@@ -114,7 +118,7 @@ store_step copies l row zero at some is = subst (λ (x : Settlement). IsStoreSte
 store_step copies l row (suc n) at some is = by at (in_copies copies l (unwrap_or row.store.found []) n at some is)
   where
     by : (x : Settlement) → IsCopy copies l (unwrap_or row.store.found []) n x → IsStoreStep copies l row (suc n) x
-    by (Opens lane) no = absurd no
+    by (Opens lane) never = absurd never
     by (Sends lane message drops) one = record { lane_is = one.0; place = n; is = omega arith; in_it = one.1 }
 
 -- one of another lane sends what was captured, and drops nothing

@@ -32,26 +32,12 @@ use Rattle.txn_replay.proofs.Places.{OpensAt, StoreSends, SendsBy, before_lane, 
 use Rattle.txn_replay.proofs.Sending.{LanesLike, settle_like}
 use Rattle.txn_replay.proofs.Settling.{IsOfStore, StepOf, durable_steps, lane_in, settles_inside, step_of}
 use Rattle.txn_replay.proofs.Sounding.{settled_sound}
+use Rattle.txn_replay.proofs.Storings.{keeps_with}
 use Rattle.txn_replay.proofs.Stores.{few_found, settle_stand}
 use Rattle.txn_replay.proofs.Tallies.{counts_with}
 use Rattle.txn_replay.proofs.Waiting.{below_over, over_next, stays_over}
 
 -- a lane that keeps what it kept, with another store and other messages made for the host
-keeps_with : (lane : Lane) (row : LaneRow) (sent : List (List ℕ)) (store : StoreRow) → LaneKeeps lane row
-    → ((found : Bool) → All IsMessage (found_by store.list store.lost found)) → lane.found ≡ option_map length store.found
-    → LaneKeeps lane (record row { sent = sent; store = store })
-keeps_with lane row sent store keeps stored found = record {
-  ended = keeps.ended;
-  log = keeps.log;
-  amounts = keeps.amounts;
-  captures = keeps.captures;
-  messages = keeps.messages;
-  stored = stored;
-  found = found;
-  card = keeps.card;
-  ending = keeps.ending;
-}
-
 at_with : (s : ScenarioData) (l : ℕ) (lane : Lane) (row : LaneRow) (sent : List (List ℕ)) (store : StoreRow) → LaneAt s l lane row
     → ((found : Bool) → All IsMessage (found_by store.list store.lost found)) → lane.found ≡ option_map length store.found
     → LaneAt s l lane (record row { sent = sent; store = store })

@@ -255,11 +255,8 @@ module _ (s : ScenarioData) (some : 1 ≤ s.copies) where
     other_lane m differs = get_or-set_other w.lanes l m sent_row new_lane differs
 
     here : k < before_lane s w l + steps_in s w l
-    here = here_from
-      where
-        here_from : k < before_lane s w l + steps_in s w l
-        unfolding steps_in
-        here_from = omega (arith, at.is, at.within)
+    unfolding steps_in
+    here = omega (arith, at.is, at.within)
 
     before_sent : (m : ℕ) → durable_of s m ≡ true → k + 1 ≤ before_lane s sent m → IsUnopened (lane_at sent m).store
     before_sent m on within =
@@ -319,7 +316,7 @@ module _ (s : ScenarioData) (some : 1 ≤ s.copies) where
             }
               where
                 still : (o : Option ℕ) → is_some o ≡ true → is_some (option_map (λ made. made + 1) o) ≡ true
-                still None no = no
+                still None none = none
                 still (Some n) yes = refl
 
     sent_to : IsSettledTo s sent (k + 1)
