@@ -1,5 +1,5 @@
 -- Lists that grow at their end, or that change at one place.
-use Rattle.std.proofs.Common.{◌≡◌, ◌≢◌, ℕ, zero, suc, ◌⊎◌, ◌+◌, ◌<◌, ◌≤◌, List, [], ◌∷◌, ◌++◌, length, take, drop, get_or, set, map, slice_get, Some, refl, sym, ap, ◌∙◌, subst, true, false, nat_lt, arith, inl, inr}
+use Rattle.std.proofs.Common.{◌≡◌, ◌≢◌, ℕ, zero, suc, ◌⊎◌, ◌+◌, ◌<◌, ◌≤◌, List, [], ◌∷◌, ◌++◌, length, take, drop, replicate, get_or, set, map, slice_get, Some, refl, sym, ap, ◌∙◌, subst, true, false, nat_lt, arith, inl, inr}
 use Rattle.std.proofs.lemmas.Bool.{cases_eq}
 use Rattle.std.proofs.lemmas.Bool.Decides.{nat_tests}
 use Rattle.std.proofs.lemmas.List.{get_or-set_same, get_or-set_other}
@@ -122,3 +122,12 @@ set_both {A} {B} P xs ys l a b d inside new old j x there =
       | inr differs ↦
           subst (λ (y : B). P j x y) (sym (get_or-set_other ys l j b d differs)) (old j x (sym (set_other xs l j a differs) ∙ there))
     ]
+
+-- one more of the same
+pub replicate_push : {A : Type 0} (n : ℕ) (x : A) → replicate n x ++ x ∷ [] ≡ replicate (suc n) x
+replicate_push zero x = refl
+replicate_push {A} (suc n) x = ap (λ (xs : List A). x ∷ xs) (replicate_push n x)
+
+pub map_replicate : {A B : Type 0} (f : A → B) (n : ℕ) (x : A) → map f (replicate n x) ≡ replicate n (f x)
+map_replicate f zero x = refl
+map_replicate {A} {B} f (suc n) x = ap (λ (xs : List B). f x ∷ xs) (map_replicate f n x)

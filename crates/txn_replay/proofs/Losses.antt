@@ -157,7 +157,7 @@ delivery_told p part (message ∷ others) = by (is_cut p.planned.terminal_tear p
         omega (arith, both, none, none_copied p message part.messages p.copies)
     by false = omega (arith, none_copied p message part.messages p.copies)
 
-lane_told : (p : Payment) (part : Part) (one other : Bool) → Told part (lane_piece p part one other)
+pub lane_told : (p : Payment) (part : Part) (one other : Bool) → Told part (lane_piece p part one other)
 lane_told p part one other =
     lane_ways (Told part) p part
     (let none : count [] ≡ 0 = refl in omega (arith, none))
