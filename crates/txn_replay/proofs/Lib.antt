@@ -53,6 +53,8 @@ pub mod Sureness
 pub mod Lining
 pub mod Hearing
 pub mod Messaging
+pub mod Losing
+pub mod Capturing
 pub mod Respelling
 pub mod Lost
 pub mod Unique

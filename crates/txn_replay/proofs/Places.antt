@@ -19,6 +19,9 @@ pub record InCopies (copies : ℕ) (messages : List (List ℕ)) (n : ℕ) (messa
   pub there : slice_get messages (n / copies) ≡ Some message
   pub next : (n + 1) / copies ≡ n / copies + (if drops then 1 else 0)
   pub last : drops ≡ ((n + 1) % copies == 0)
+  -- so many copies were sent before it, and behind it
+  pub rest : (n + 1) % copies ≡ (if drops then 0 else n % copies + 1)
+  pub whole : drops ≡ true → n % copies + 1 ≡ copies
 
 abbrev pub IsCopy : ℕ → ℕ → List (List ℕ) → ℕ → Settlement → Type 0
 IsCopy copies l messages n (Opens lane) = ⊥
@@ -33,10 +36,13 @@ early_copy copies n message messages below =
     let none : n / copies ≡ 0 = div-eq_of_lt (omega (arith, below)) in
     let still : (n + 1) / copies ≡ 0 = div-eq_of_lt (omega (arith, below)) in
     let rest : (n + 1) % copies ≡ n + 1 = mod-eq_of_lt (omega (arith, below)) in
+    let before : n % copies ≡ n = mod-eq_of_lt (omega (arith, below)) in
     record {
       there = ap (λ q. slice_get (message ∷ messages) q) none;
       next = still ∙ sym (ap (λ q. q + 0) none);
       last = sym (not_zero ((n + 1) % copies) (omega (arith, rest)));
+      rest = rest ∙ sym (ap (λ k. k + 1) before);
+      whole = λ drops. cc;
     }
 
 last_copy : (copies n : ℕ) (message : List ℕ) (messages : List (List ℕ)) → n + 1 ≡ copies → InCopies copies (message ∷ messages) n message true
@@ -44,10 +50,13 @@ last_copy copies n message messages is =
     let none : n / copies ≡ 0 = div-eq_of_lt (omega (arith, is)) in
     let one : (n + 1) / copies ≡ 1 = ap (λ x. x / copies) is ∙ div_self (omega (arith, is)) in
     let rest : (n + 1) % copies ≡ 0 = ap (λ x. x % copies) is ∙ mod_self copies in
+    let before : n % copies ≡ n = mod-eq_of_lt (omega (arith, is)) in
     record {
       there = ap (λ q. slice_get (message ∷ messages) q) none;
       next = one ∙ sym (ap (λ q. q + 1) none);
       last = sym (ap (λ r. r == 0) rest);
+      rest = rest;
+      whole = λ drops. omega (arith, before, is);
     }
 
 -- one message further
@@ -61,12 +70,15 @@ later_copy copies n m l message messages (Sends lane sent drops) some is one =
     ∙ add-div_left (m + 1) (omega (arith, some))
     ∙ (let e : (m + 1) / copies + 1 ≡ suc ((m + 1) / copies) = omega arith in e) in
     let rest : (n + 1) % copies ≡ (m + 1) % copies =
-    ap (λ x. x % copies) (let e : n + 1 ≡ copies + (m + 1) = omega (arith, is) in e) ∙ add-mod_left copies (m + 1) in (
+    ap (λ x. x % copies) (let e : n + 1 ≡ copies + (m + 1) = omega (arith, is) in e) ∙ add-mod_left copies (m + 1) in
+    let before : n % copies ≡ m % copies = ap (λ x. x % copies) is ∙ add-mod_left copies m in (
       one.0,
       record {
         there = ap (λ q. slice_get (message ∷ messages) q) quotient ∙ one.1.there;
         next = next ∙ ap (λ q. suc q) one.1.next ∙ sym (ap (λ q. q + (if drops then 1 else 0)) quotient);
         last = one.1.last ∙ sym (ap (λ r. r == 0) rest);
+        rest = rest ∙ one.1.rest ∙ ap (λ k. if drops then 0 else k + 1) (sym before);
+        whole = λ ends. ap (λ k. k + 1) before ∙ one.1.whole ends;
       },
     )
 

@@ -56,11 +56,15 @@ lanes_behind s i (r ∷ rows) (suc l) (suc m) row there below =
     )
 
 -- how many steps a lane has
-steps_in : ScenarioData → World → ℕ → ℕ
+pub steps_in : ScenarioData → World → ℕ → ℕ
 steps_in s w l = length (lane_settlements s.copies l (lane_at w l) (durable_of s l))
 
+pub steps_within : (s : ScenarioData) (w : World) (l k : ℕ) (at : Settlement) → (step : StepAt s w k l at) → step.offset < steps_in s w l
+unfolding steps_in
+steps_within s w l k at step = step.within
+
 -- those of a lane that keeps its captures durably: its opening, and the copies of what that found
-store_steps : (s : ScenarioData) (w : World) (l : ℕ) → 1 ≤ s.copies → durable_of s l ≡ true
+pub store_steps : (s : ScenarioData) (w : World) (l : ℕ) → 1 ≤ s.copies → durable_of s l ≡ true
     → steps_in s w l ≡ 1 + s.copies * length (unwrap_or (lane_at w l).store.found [])
 unfolding steps_in
 store_steps s w l some on =
@@ -68,7 +72,7 @@ store_steps s w l some on =
     dropped_length s.copies l (unwrap_or (lane_at w l).store.found []) some in
     ap (λ (b : Bool). length (lane_settlements s.copies l (lane_at w l) b)) on ∙ ap (λ n. suc n) count
 
-later_lane : (s : ScenarioData) (w : World) (l m : ℕ) → l < length w.lanes → l < m → before_lane s w l + steps_in s w l ≤ before_lane s w m
+pub later_lane : (s : ScenarioData) (w : World) (l m : ℕ) → l < length w.lanes → l < m → before_lane s w l + steps_in s w l ≤ before_lane s w m
 unfolding steps_in
 later_lane s w l m inside below =
     let there : slice_get w.lanes l ≡ Some (lane_at w l) = slice_get-get_or w.lanes l new_lane inside in
@@ -76,13 +80,13 @@ later_lane s w l m inside below =
     subst (λ (n : ℕ). before_lane s w l + length (lane_settlements s.copies n (lane_at w l) (durable_of s n)) ≤ before_lane s w m) same
     (lanes_behind s 0 w.lanes l m (lane_at w l) there below)
 
-all_lanes : (s : ScenarioData) (w : World) (l : ℕ) → l < length w.lanes → before_lane s w l + steps_in s w l ≤ length (settlements s w)
+pub all_lanes : (s : ScenarioData) (w : World) (l : ℕ) → l < length w.lanes → before_lane s w l + steps_in s w l ≤ length (settlements s w)
 all_lanes s w l inside =
     subst (λ (rows : List LaneRow). before_lane s w l + steps_in s w l ≤ length (settlements_from s 0 rows)) (take-length w.lanes)
     (later_lane s w l (length w.lanes) inside inside)
 
 -- the steps of the first lanes stay where none of these changes, or where one has captured and found the same
-take_set : (rows : List LaneRow) (l m : ℕ) (row : LaneRow) → m ≤ l → take m (set rows l row) ≡ take m rows
+pub take_set : (rows : List LaneRow) (l m : ℕ) (row : LaneRow) → m ≤ l → take m (set rows l row) ≡ take m rows
 take_set [] l m row within = refl
 take_set (r ∷ rows) l zero row within = refl
 take_set (r ∷ rows) zero (suc m) row within = absurd (omega arith)
@@ -93,7 +97,7 @@ like_steps : (copies l : ℕ) (x y : LaneRow) (durable : Bool) → x.captures �
 like_steps copies l x y false captures found = (λ i. lane_settlements copies l (record x { captures = captures i }) false)
 like_steps copies l x y true captures found = (λ i. lane_settlements copies l (record x { store = record x.store { found = found i } }) true)
 
-like_set : (s : ScenarioData) (i : ℕ) (rows : List LaneRow) (l m : ℕ) (row : LaneRow) → row.captures ≡ (get_or rows l new_lane).captures
+pub like_set : (s : ScenarioData) (i : ℕ) (rows : List LaneRow) (l m : ℕ) (row : LaneRow) → row.captures ≡ (get_or rows l new_lane).captures
     → row.store.found ≡ (get_or rows l new_lane).store.found → settlements_from s i (take m (set rows l row)) ≡ settlements_from s i (take m rows)
 unfolding settlements_from
 like_set s i [] l m row captures found = refl
@@ -104,7 +108,7 @@ like_set s i (r ∷ rows) (suc l) (suc m) row captures found =
     ap (λ xs. lane_settlements s.copies i r (durable_of s i) ++ xs) (like_set s (i + 1) rows l m row captures found)
 
 -- what is left behind all steps of a lane
-through_all : (store : StoreRow) (copies steps : ℕ) → 1 ≤ copies → (through : IsThrough store copies steps) → copies * length through.found ≤ steps → store.list ≡ []
+pub through_all : (store : StoreRow) (copies steps : ℕ) → 1 ≤ copies → (through : IsThrough store copies steps) → copies * length through.found ≤ steps → store.list ≡ []
 through_all store copies steps some through all =
     let most : length through.found ≤ steps / copies = le-div (length through.found) steps copies (omega (arith, some)) (turned all) in
     through.list ∙ drop_past through.found (steps / copies) most
@@ -156,7 +160,7 @@ module _ (s : ScenarioData) (some : 1 ≤ s.copies) where
       (through_more (lane_at w m).store s.copies (k - before_lane s w m - 1) some through (omega (arith, made, count, product)))
 
   -- a lane of the scenario
-  inside_lanes : (w : World) (l : ℕ) → IsSound s w → durable_of s l ≡ true → l < length w.lanes
+  pub inside_lanes : (w : World) (l : ℕ) → IsSound s w → durable_of s l ≡ true → l < length w.lanes
   inside_lanes w l sound on = let count : length w.lanes ≡ length s.lanes = sound.lane_count in omega (arith, in_scenario s l on)
 
   -- an opening
@@ -323,7 +327,7 @@ module _ (s : ScenarioData) (some : 1 ≤ s.copies) where
     sent_to = record { before = before_sent; behind = behind_sent }
 
   -- the lane of a message that is sent
-  of_lane : (w : World) (k n l : ℕ) (message : List ℕ) (drops : Bool) → StepAt s w k n (Sends l message drops) → l ≡ n
+  pub of_lane : (w : World) (k n l : ℕ) (message : List ℕ) (drops : Bool) → StepAt s w k n (Sends l message drops) → l ≡ n
   of_lane w k n l message drops one = by (durable_of s n) one.inner
     where
       by : (durable : Bool) → slice_get (lane_settlements s.copies n (lane_at w n) durable) one.offset ≡ Some (Sends l message drops) → l ≡ n
@@ -339,9 +343,9 @@ module _ (s : ScenarioData) (some : 1 ≤ s.copies) where
       sent_to w k l message drops (subst (λ n. StepAt s w k n (Sends l message drops)) (sym same) found.1) (sends_at s w k l message drops some here) sound through
 
 -- before the settlement no store was opened for it, and one that is open waits for the next purchase of its lane
-record IsUntouched (s : ScenarioData) (w : World) : Type 0 where
-  found : (l : ℕ) → (lane_at w l).store.found ≡ None
-  next : (l made : ℕ) → (lane_at w l).store.commits ≡ Some made → next_of s w l ≡ None → ⊥
+pub record IsUntouched (s : ScenarioData) (w : World) : Type 0 where
+  pub found : (l : ℕ) → (lane_at w l).store.found ≡ None
+  pub next : (l made : ℕ) → (lane_at w l).store.commits ≡ Some made → next_of s w l ≡ None → ⊥
 
 turn_untouched : (s : ScenarioData) (w : World) (l : ℕ) (choices : List Bool) (o : Option Payment) → next_of s w l ≡ o → StoresStand s w → IsUntouched s w
     → IsUntouched s (turned_by w l choices o).world
@@ -371,7 +375,7 @@ turn_untouched s w l choices (Some p) is stand untouched = record {
         plain_stored p part (choice_in choices 0) (choice_in choices 1) durable plain in
         let both : None ≡ Some made = sym (ap (λ (x : StoreRow). x.commits) after) ∙ on in cc
 
-abbrev IsTurning : Place → Type 0
+abbrev pub IsTurning : Place → Type 0
 IsTurning (Scheduled k) = ⊤
 IsTurning (Round l) = ⊤
 IsTurning (Settling k) = ⊥
@@ -385,7 +389,7 @@ first_untouched s = record {
       (let off : None ≡ Some made = sym (ap (λ (row : LaneRow). row.store.commits) (get_or-map_const s.lanes l new_lane)) ∙ on in cc);
 }
 
-reached_untouched : (s : ScenarioData) (place : Place) (n : ℕ) (choices : List Bool) (lines : List Line) (w : World) → Reached s place n choices lines w
+pub reached_untouched : (s : ScenarioData) (place : Place) (n : ℕ) (choices : List Bool) (lines : List Line) (w : World) → Reached s place n choices lines w
     → IsTurning place → IsUntouched s w
 reached_untouched s _ _ _ _ _ start turning = first_untouched s
 reached_untouched s _ _ _ _ _ (scheduled {l = l} {c = c} {w = v} {w' = v'} before at step) turning =
@@ -440,19 +444,19 @@ emptied_by s w k l some sound on through past =
         ]
 
 -- what the settlement comes to at each place
-abbrev Comes : ScenarioData → World → Place → Type 0
+abbrev pub Comes : ScenarioData → World → Place → Type 0
 Comes s w (Scheduled k) = ⊤
 Comes s w (Round l) = ⊤
 Comes s w (Settling k) = IsSettledTo s w k
 Comes s w (Auditing k) = (l : ℕ) → durable_of s l ≡ true → IsEmptied (lane_at w l).store
 Comes s w Finished = (l : ℕ) → durable_of s l ≡ true → IsEmptied (lane_at w l).store
 
-audit_lanes : (w : World) (choices : List Bool) (o : Option Check) → (audits w choices o).world.lanes ≡ w.lanes
+pub audit_lanes : (w : World) (choices : List Bool) (o : Option Check) → (audits w choices o).world.lanes ≡ w.lanes
 audit_lanes w choices None = refl
 audit_lanes w choices (Some (PowersUp i card)) = refl
 audit_lanes w choices (Some (Asks i card command)) = refl
 
-comes : (s : ScenarioData) (place : Place) (n : ℕ) (choices : List Bool) (lines : List Line) (w : World) → 1 ≤ s.copies → Reached s place n choices lines w
+pub comes : (s : ScenarioData) (place : Place) (n : ℕ) (choices : List Bool) (lines : List Line) (w : World) → 1 ≤ s.copies → Reached s place n choices lines w
     → Comes s w place
 comes s _ _ _ _ _ some start = tt
 comes s _ _ _ _ _ some (scheduled before at step) = tt
