@@ -211,7 +211,7 @@ module _ (p : Payment) (part : Part) (stored : p.durable ≡ true → IsStored p
       lane_ways (λ m. Behind p part m.part m.lines) p part
       (none_more p part part [] (λ k. refl) (λ on sent kept. kept))
       (λ choice so. piece_tells p part (Came p part) (Behind p part) (tells_sent p part (unlost so)) choice)
-      (λ at off.
+      (λ at off cut.
       none_more p part (record part { lane = lane_lost part.lane }) _ (λ k. lost_untold p part [] k)
       (λ on sent kept. subst (λ (cs : List Caught). RowKeeps cs sent part.lane.store) (sym (lost_caught p part)) kept))
       (λ choice at off full.

@@ -197,9 +197,9 @@ module _ (p : Payment) (part : Part) (h : Holder) where
     own = gives_told p part h has;
     again = λ one at off. again_told (opened_to_add part.lane.store one) has;
     opened = λ one at off. none p part h part.card [] refl (none_untold None);
-    lost = λ at. none p part h part.card _ refl (lost_untold p.lane (length part.lane.ended + 1) None);
+    lost = λ at cut. none p part h part.card _ refl (lost_untold p.lane (length part.lane.ended + 1) None);
     sent = λ at message. none p part h part.card _ refl (copies_untold p message part.messages p.copies None);
-    sent_lost = λ at message.
+    sent_lost = λ at message cut.
         none p part h part.card _ refl
         (untold_both (copy_lines p message part.messages p.copies) (EndLost p.lane (length part.lane.ended + 1) ∷ [])
         (copies_untold p message part.messages p.copies) (lost_untold p.lane (length part.lane.ended + 1)) None);

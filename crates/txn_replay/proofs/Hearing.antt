@@ -263,13 +263,13 @@ module _ (s : ScenarioData) (p : Payment) (part : Part) (t : LaneTold) (is : pay
     again = λ one at off.
         tells_heard s p (part_with (opened_to_add part.lane.store one) part) t is (told_with (opened_to_add part.lane.store one) part.lane.sent);
     opened = λ one at off. (told_with (opened_to_add part.lane.store one) part.lane.sent, λ k other u. refl);
-    lost = λ at. lost_told at.rests part.lane.sent part.lane.store [] (λ k u. refl);
+    lost = λ at cut. lost_told at.rests part.lane.sent part.lane.store [] (λ k u. refl);
     sent = λ at message. (
       subst (λ (u : LaneTold). IsLaneTold s p.lane (lane_copied p message part.lane) u) (sym (copies_unheard p.lane t message part.messages p.copies))
           (told_with (lane_copied p message part.lane).store (lane_copied p message part.lane).sent),
       λ k other u. copies_unheard k u message part.messages p.copies,
     );
-    sent_lost = λ at message.
+    sent_lost = λ at message cut.
         lost_told at.rests (lane_copied p message part.lane).sent (lane_copied p message part.lane).store (copy_lines p message part.messages p.copies)
         (λ k u. copies_unheard k u message part.messages p.copies);
   }
@@ -442,9 +442,9 @@ module _ (p : Payment) (part : Part) where
     own = tells_ends p part;
     again = λ one at off. tells_ends p (part_with (opened_to_add part.lane.store one) part);
     opened = λ one at off number past here. inl here;
-    lost = λ at. lost_ends p part _ (record part { lane = lane_lost part.lane }) refl;
+    lost = λ at cut. lost_ends p part _ (record part { lane = lane_lost part.lane }) refl;
     sent = λ at message number past here. inl here;
-    sent_lost = λ at message. lost_ends p part _ (record (copied p message part) { lane = lane_lost (lane_copied p message part.lane) }) refl;
+    sent_lost = λ at message cut. lost_ends p part _ (record (copied p message part) { lane = lane_lost (lane_copied p message part.lane) }) refl;
   }
 
 abbrev AllEnd : ScenarioData → World → Type 0

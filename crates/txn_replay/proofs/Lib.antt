@@ -30,6 +30,7 @@ pub mod Places
 pub mod Stores
 pub mod Through
 pub mod Steppings
+pub mod Giving
 pub mod Audits
 pub mod Replies
 pub mod Begins

@@ -196,9 +196,9 @@ module _ (p : Payment) (part : Part) where
     own = tells_losing p part;
     again = λ one at off. again_losing one;
     opened = λ one at off. none_lost p part (part_with (opened_to_add part.lane.store one) part) [] refl (λ k. refl);
-    lost = λ at. lost_so p part [] (λ k. refl) (record part { lane = lane_lost part.lane }) refl;
+    lost = λ at cut. lost_so p part [] (λ k. refl) (record part { lane = lane_lost part.lane }) refl;
     sent = λ at message. none_lost p part (copied p message part) _ refl (copies_none p part message part.messages p.copies);
-    sent_lost = λ at message.
+    sent_lost = λ at message cut.
         lost_so p part (copy_lines p message part.messages p.copies) (copies_none p part message part.messages p.copies)
         (record (copied p message part) { lane = lane_lost (lane_copied p message part.lane) }) refl;
   }

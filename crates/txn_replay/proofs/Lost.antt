@@ -274,9 +274,9 @@ module _ (p : Payment) (part : Part) (before : List Line) (known : (replies : Li
     own = tells_lost p part before known;
     again = λ one at off. tells_lost p (part_with (opened_to_add part.lane.store one) part) before known;
     opened = λ one at off. rests_so (part_with (opened_to_add part.lane.store one) part) [] at.rests refl;
-    lost = λ at. rests_so (record part { lane = lane_lost part.lane }) _ at.rests refl;
+    lost = λ at cut. rests_so (record part { lane = lane_lost part.lane }) _ at.rests refl;
     sent = λ at message. rests_so (copied p message part) _ at.rests (quiet_copies p message part.messages p.copies);
-    sent_lost = λ at message.
+    sent_lost = λ at message cut.
         rests_so (record (copied p message part) { lane = lane_lost (lane_copied p message part.lane) }) _ at.rests
         (quiet-append (copy_lines p message part.messages p.copies) (EndLost p.lane (length part.lane.ended + 1) ∷ [])
         (quiet_copies p message part.messages p.copies) refl);

@@ -154,9 +154,9 @@ module _ (p : Payment) (part : Part) where
     own = tells_messages p part;
     again = λ one at off. tells_messages p (part_with (opened_to_add part.lane.store one) part);
     opened = λ one at off. (sym (append-nil (spelled p.iso part.lane.sent)), λ k other. refl);
-    lost = λ at. (sym (append-nil (spelled p.iso part.lane.sent)), λ k other. refl);
+    lost = λ at cut. (sym (append-nil (spelled p.iso part.lane.sent)), λ k other. refl);
     sent = λ at message. copied_told p part message;
-    sent_lost = λ at message.
+    sent_lost = λ at message cut.
         (let told = copied_told p part message in (
           told.0 ∙ ap (λ (xs : List (List ℕ)). spelled p.iso part.lane.sent ++ xs)
               (sym (lost_untold p part p.lane p.lane (length part.lane.ended + 1) (copy_lines p message part.messages p.copies))),

@@ -195,7 +195,7 @@ lane_stored p part one other durable stored first =
     lane_ways (λ m. IsStored m.part.lane) p part
     stored
     goes
-    (λ at off. lost_stored part.lane stored)
+    (λ at off cut. lost_stored part.lane stored)
     (λ choice at off full. opened_stored part.lane choice at.rests stored)
     (λ choice second at off room.
     piece_stored p (part_with (opened_to_add part.lane.store choice) part) second durable (opened_stored part.lane choice at.rests stored)
@@ -234,7 +234,7 @@ plain_stored p part one other durable none =
     (λ lane replies end later.
     ap (λ (b : Bool). if b then ended_by p.planned.terminal_tear lane.store end.capture else lane.store) durable
     ∙ later_store part.lane lane later none) choice)
-    (λ at off. not at)
+    (λ at off cut. not at)
     (λ choice at off full. not at)
     (λ choice second at off room. not at)
     (λ at on. not at)
@@ -254,7 +254,7 @@ piece_found p part one other first =
     lane_ways (λ m. m.part.lane.store.found ≡ None) p part
     first
     (λ choice so. plain_found part choice first)
-    (λ at off. first)
+    (λ at off cut. first)
     (λ choice at off full. first)
     (λ choice second at off room. plain_found (part_with (opened_to_add part.lane.store choice) part) second first)
     (λ at on. delivered part.lane.store.list)

@@ -130,9 +130,9 @@ module _ (p : Payment) (part : Part) (sure : HeldSure p.card.image part.card)
     own = sure_told p part sure has;
     again = λ one at off. again_sure (opened_to_add part.lane.store one);
     opened = λ one at off some. cc;
-    lost = λ at some. cc;
+    lost = λ at cut some. cc;
     sent = λ at message some. not_any _ (any_copies p message part.messages p.copies) some;
-    sent_lost = λ at message some.
+    sent_lost = λ at message cut some.
         not_any _ (any_both (copy_lines p message part.messages p.copies) (EndLost p.lane (length part.lane.ended + 1) ∷ [])
         (any_copies p message part.messages p.copies) refl) some;
   }

@@ -135,7 +135,7 @@ through_more store copies steps some through all =
 is_durable_past : (s : ScenarioData) (l : ℕ) → length s.lanes ≤ l → durable_of s l ≡ false
 is_durable_past s l over = ap is_durable (slice_get_past s.lanes l over)
 
-in_scenario : (s : ScenarioData) (l : ℕ) → durable_of s l ≡ true → l < length s.lanes
+pub in_scenario : (s : ScenarioData) (l : ℕ) → durable_of s l ≡ true → l < length s.lanes
 in_scenario s l on =
     elim (cases_order l (length s.lanes)) [
       | inl same ↦ absurd (past (omega (arith, same)))

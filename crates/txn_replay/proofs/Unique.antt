@@ -102,9 +102,9 @@ module _ (p : Payment) (part : Part) (none : leaves_choice p.planned.tear ≡ fa
     own = tells_closed p part none closed;
     again = λ one at off. tells_closed p (part_with (opened_to_add part.lane.store one) part) none closed;
     opened = λ one at off. closed;
-    lost = λ at. closed;
+    lost = λ at cut. closed;
     sent = λ at message. closed;
-    sent_lost = λ at message. closed;
+    sent_lost = λ at message cut. closed;
   }
 
 -- a call that a plan without a choice cuts is left undone, or done
@@ -154,7 +154,7 @@ lane_closed p part none closed one other =
     lane_ways (λ m. m.part.lane.store.lost ≡ None) p part
     closed
     (λ choice so. piece_closed part choice closed)
-    (λ at off. closed)
+    (λ at off cut. closed)
     (λ choice at off full. refl)
     (λ choice second at off room. piece_closed (part_with (opened_to_add part.lane.store choice) part) second refl)
     (λ at on. delivered part.lane.store.list)
