@@ -24,7 +24,10 @@ use crate::stop::Stop;
 use emv_ports::{Pages, Sink};
 use scenario::Scenario;
 use std::alloc::Global;
-use txn_replay::{NoWorld, World, dialects_show, losses_are_told, runs_are_fair};
+use txn_replay::{
+    NoWorld, World, captures_are_sent, dialects_show, losses_are_told, runs_are_fair,
+    stores_are_emptied,
+};
 
 /// The turns of the schedule.
 pub fn schedule<P: Pages, K: Sink>(
@@ -215,6 +218,8 @@ pub fn replay_whole<'s, P: Pages, K: Sink>(
     runs_are_decided();
     losses_are_told();
     dialects_show();
+    captures_are_sent();
+    stores_are_emptied();
     match World::new(alloc, scenario, bank) {
         Ok(world) => {
             let mut world = world;

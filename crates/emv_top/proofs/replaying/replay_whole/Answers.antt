@@ -8,7 +8,8 @@ use Rattle.emv_top.proofs.replaying.replay_whole.Goals as goal
 pub returns-in-Ok-replay_through-clause-whole : goal.returns-in-Ok-replay_through-clause-whole
 returns-in-Ok-replay_through-clause-whole g c =
     decided_whole c.args.scenario.now c.replay_through.new.world _ _ c.runs_are_fair.ensures.whole c.runs_are_decided.ensures
-    c.losses_are_told.ensures.whole c.dialects_show.ensures.whole c.requires.rules
+    c.losses_are_told.ensures.whole c.dialects_show.ensures.whole c.captures_are_sent.ensures.sent
+    c.stores_are_emptied.ensures.emptied c.requires.rules
     c.in-Ok-replay_through.ensures.ok
 
 pub returns-in-Err-Sink-clause-cut : goal.returns-in-Err-Sink-clause-cut
