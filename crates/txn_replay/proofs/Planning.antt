@@ -23,7 +23,7 @@ use Rattle.txn_replay.proofs.Ways.{AtRest, IsOn, Goes, lane_ways}
 abbrev pub StaysPlanned : ℕ → LaneRow → Type 0
 StaysPlanned count row = (made : ℕ) → row.store.commits ≡ Some made → length row.ended ≡ count
 
-ended_off : (plan : Option Tear) (store : StoreRow) (capture : Option (List ℕ)) → (ended_by plan store capture).commits ≡ None
+pub ended_off : (plan : Option Tear) (store : StoreRow) (capture : Option (List ℕ)) → (ended_by plan store capture).commits ≡ None
 ended_off plan store None = refl
 ended_off plan store (Some message) = refl
 

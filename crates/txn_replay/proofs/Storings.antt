@@ -1,14 +1,14 @@
 -- What comes before a purchase, way by way, and what it leaves of the store and of the lost purchases.
 use Rattle.std.proofs.Common.{◌≡◌, ℕ, ◌+◌, ◌-◌, ◌≤◌, ◌<◌, ◌^◌, Bool, true, false, cond, List, [], ◌∷◌, ◌++◌, length, drop, replicate, slice_get, Option, Some, None, refl, sym, ap, ◌∙◌, subst, inl, inr, arith, length-append}
 use Rattle.std.specs.List.{All}
-use Rattle.std.specs.Prelude.{min, ◌==◌, if◌then◌else◌, not, is_some, option_map, option_and_then}
-use Rattle.std.proofs.lemmas.List.Elements.{All-drop}
+use Rattle.std.specs.Prelude.{min, ◌==◌, if◌then◌else◌, not, ◌&&◌, is_some, option_map, option_and_then, option_to_list}
+use Rattle.std.proofs.lemmas.List.Elements.{All-append, All-drop}
 use Rattle.std.proofs.lemmas.List.Sums.{sum_by-append, sum_by-cons}
 use Rattle.auth_message.specs.Whole.{IsMessage}
 use Rattle.capture_store.proofs.Sendings.{leaves_one}
 use Rattle.capture_store.specs.Calls.{Call, Adds, Drops, called, found_by, left_by}
 use Rattle.capture_store.specs.SeenShelf.{ShelfSeen, ShelfOn, ShelfOff, losses_of, is_on as has_power, count_of}
-use Rattle.capture_store.specs.StoreRow.{StoreRow, commit_of, is_cut, opened, opened_to_add, made_call, cut_call, call_by, delivered_by}
+use Rattle.capture_store.specs.StoreRow.{StoreRow, commit_of, is_cut, opened, opened_to_add, made_call, cut_call, call_by, delivered_by, ended_by}
 use Rattle.emv_ports.specs.Causes.{one_more}
 use Rattle.emv_ports.specs.Cut.{is_named}
 use Rattle.emv_ports.specs.declared.tear.Tear.{Tear}
@@ -16,18 +16,23 @@ use Rattle.issuer_host.specs.History.{HostData, HostStands}
 use Rattle.report_text.specs.declared.line.Line.{Line}
 use Rattle.report_text.specs.declared.line.Line.TheVariants.{EndLost}
 use Rattle.txn_replay.specs.Counting.{capped, lost_count}
-use Rattle.txn_replay.specs.Part.{Part, Moved}
+use Rattle.txn_replay.specs.Part.{Part, Moved, loses_by, loses, lane_ended}
 use Rattle.txn_replay.specs.Payment.{Payment}
 use Rattle.txn_replay.specs.Prepared.{StoreRests, IsEnded, IsReady, PreparedBy}
 use Rattle.txn_replay.specs.Reading.{past_card, last_past}
-use Rattle.txn_replay.specs.Standing.{LaneKeeps, StorePlace, StoreStands, ShelfFor, shelf_left, stock_left}
+use Rattle.txn_replay.specs.Standing.{LaneKeeps, StorePlace, StoreStands, ShelfFor, ShelfStands, shelf_left, stock_left}
 use Rattle.txn_replay.specs.Stored.{IsOpen, IsStored, StoredBy}
 use Rattle.txn_replay.specs.Storing.{part_with, lane_lost, lost_with, copy_lines, lane_copied, copied, dropped_by, delivers_first, delivers, Before, Ends, Begins, OpensAndBegins, opened_for, opens_by, goes_through, stored_by, free_by, runs_by, before_by, before}
 use Rattle.txn_replay.specs.World.{Holder, LaneRow, Past, with_store}
+use Rattle.kernel.specs.Ended.{EndData}
 use Rattle.kernel.specs.Reply.{Reply}
+use Rattle.txn_replay.specs.Stocking.{is_lost, losses_behind, IsStoredBy}
+use Rattle.txn_replay.specs.declared.lane.Outcome.{Outcome}
+use Rattle.txn_replay.specs.declared.lane.Outcome.TheVariants.{Told, Lost}
 use Rattle.txn_replay.specs.declared.lane.Lane.{Lane}
 use Rattle.txn_replay.proofs.Endings.{last_past-push}
 use Rattle.txn_replay.proofs.Lists.{drop_at}
+use Rattle.txn_replay.proofs.Planning.{ended_off}
 use Rattle.txn_replay.proofs.Preparing.{place_on, place_off, count_is}
 
 -- one more lost purchase is one more loss of power, and one that isn't lost is none
@@ -291,3 +296,70 @@ module _ (p : Payment) (lane : Lane) (shelf : ShelfSeen) (part : Part) (rests : 
         messages = messages;
         lines_are = made;
       })
+
+-- a purchase that has ended, with what it captured
+call_list : (plan : Option Tear) (store : StoreRow) (message : List ℕ) (cut : Bool) → store.lost ≡ None → All IsMessage store.list → All IsMessage (message ∷ [])
+    → (found : Bool)
+    → All IsMessage (found_by (if cut then cut_call plan store (Adds message) else made_call store (Adds message)).list
+    (if cut then cut_call plan store (Adds message) else made_call store (Adds message)).lost found)
+call_list plan store message false none all one found =
+    subst (λ (o : Option Call). All IsMessage (found_by (store.list ++ message ∷ []) o found)) (sym none) (All-append IsMessage store.list (message ∷ []) all one)
+call_list plan store message true none all one found =
+    elim (leaves_one plan store.list (Adds message) found) [
+      | inl before ↦ subst (λ (xs : List (List ℕ)). All IsMessage xs) (sym before) all
+      | inr behind ↦ subst (λ (xs : List (List ℕ)). All IsMessage xs) (sym behind) (All-append IsMessage store.list (message ∷ []) all one)
+    ]
+
+pub ended_messages : (plan : Option Tear) (store : StoreRow) (capture : Option (List ℕ)) → store.lost ≡ None → All IsMessage store.list
+    → All IsMessage (option_to_list capture) → (found : Bool)
+    → All IsMessage (found_by (ended_by plan store capture).list (ended_by plan store capture).lost found)
+ended_messages plan store None none all one found = subst (λ (o : Option Call). All IsMessage (found_by store.list o found)) (sym none) all
+ended_messages plan store (Some message) none all one found = call_list plan store message (is_cut plan store) none all one found
+
+pub ended_found : (plan : Option Tear) (store : StoreRow) (capture : Option (List ℕ)) → (ended_by plan store capture).found ≡ store.found
+ended_found plan store None = refl
+ended_found plan store (Some message) = by (is_cut plan store)
+  where
+    by : (cut : Bool) → (if cut then cut_call plan store (Adds message) else made_call store (Adds message)).found ≡ store.found
+    by true = refl
+    by false = refl
+
+-- its store is off, and has lost its power where the purchase was lost
+pub stored_shelf : (p : Payment) (row : LaneRow) (replies : List Reply) (end : EndData) (shelf behind : ShelfSeen) (outcome : Outcome) → p.durable ≡ true
+    → ShelfStands shelf p row → has_power shelf ≡ true → IsStoredBy shelf behind p.planned.terminal_tear end.capture outcome
+    → ShelfStands behind p (lane_ended p replies end row)
+stored_shelf p row replies end shelf behind outcome durable stands on stored =
+    subst (λ (b : Bool). ShelfFor behind (record (lane_ended p replies end row) {
+      store = (if b then ended_by plan row.store end.capture else row.store)
+    }) plan b) (sym durable)
+    (record {
+      place = subst (λ (o : Option ℕ). StorePlace behind (ended_by plan row.store end.capture) plan o) (sym (ended_off plan row.store end.capture))
+          (stored.off row.store is_on);
+      losses = stored.losses ∙ ap (λ n. losses_behind outcome n) own.losses ∙ by outcome lost_is;
+    })
+  where
+    abbrev plan : Option Tear
+    plan = p.planned.terminal_tear
+
+    own : StoreStands shelf row plan
+    own = subst (λ (b : Bool). ShelfFor shelf row plan b) durable stands
+
+    is_on : ShelfOn shelf row.store plan
+    is_on = place_on shelf row.store plan row.store.commits own.place on
+
+    lost_is : is_lost outcome ≡ loses p row.store end.capture
+    lost_is = stored.told row.store is_on ∙ sym (ap (λ (b : Bool). b && loses_by plan row.store end.capture) durable)
+
+    by : (o : Outcome) → is_lost o ≡ loses p row.store end.capture
+        → losses_behind o (capped (lost_count row.ended)) ≡ capped (lost_count (lane_ended p replies end row).ended)
+    by Told told =
+        none_lost_more row.ended (record { began = row.began; replies = replies; end = Some end; lost = loses p row.store end.capture }) (sym told)
+    by Lost lost =
+        one_lost_more row.ended (record { began = row.began; replies = replies; end = Some end; lost = loses p row.store end.capture }) (sym lost)
+
+-- a lane without a store
+pub plain_shelf : (p : Payment) (row : LaneRow) (replies : List Reply) (end : EndData) (shelf behind : ShelfSeen) → p.durable ≡ false → ShelfStands shelf p row
+    → behind ≡ shelf → ShelfStands behind p (lane_ended p replies end row)
+plain_shelf p row replies end shelf behind plain stands same =
+    subst (λ (b : Bool). ShelfFor behind (lane_ended p replies end row) p.planned.terminal_tear b) (sym plain)
+    (same ∙ subst (λ (b : Bool). ShelfFor shelf row p.planned.terminal_tear b) plain stands)
