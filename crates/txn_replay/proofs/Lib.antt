@@ -48,6 +48,7 @@ pub mod Fairness
 pub mod Exchanging
 pub mod Preparing
 pub mod Storings
+pub mod Nexting
 pub mod Rows
 pub mod Gives
 pub mod Sureness
