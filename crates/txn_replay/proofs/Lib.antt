@@ -49,6 +49,7 @@ pub mod Exchanging
 pub mod Preparing
 pub mod Storings
 pub mod Nexting
+pub mod Finishing
 pub mod Rows
 pub mod Gives
 pub mod Sureness
