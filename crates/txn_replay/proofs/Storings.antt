@@ -20,7 +20,7 @@ use Rattle.txn_replay.specs.Part.{Part, Moved, loses_by, loses, lane_ended}
 use Rattle.txn_replay.specs.Payment.{Payment}
 use Rattle.txn_replay.specs.Prepared.{StoreRests, IsEnded, IsReady, PreparedBy}
 use Rattle.txn_replay.specs.Reading.{past_card, last_past}
-use Rattle.txn_replay.specs.Standing.{LaneKeeps, StorePlace, StoreStands, ShelfFor, ShelfStands, shelf_left, stock_left}
+use Rattle.txn_replay.specs.Standing.{LaneKeeps, StorePlace, StoreStands, ShelfFor, ShelfStands, HasRoom, shelf_left, stock_left}
 use Rattle.txn_replay.specs.Stored.{IsOpen, IsStored, StoredBy}
 use Rattle.txn_replay.specs.Storing.{part_with, lane_lost, lost_with, copy_lines, lane_copied, copied, dropped_by, delivers_first, delivers, Before, Ends, Begins, OpensAndBegins, opened_for, opens_by, goes_through, stored_by, free_by, runs_by, before_by, before}
 use Rattle.txn_replay.specs.World.{Holder, LaneRow, Past, with_store}
@@ -363,3 +363,22 @@ pub plain_shelf : (p : Payment) (row : LaneRow) (replies : List Reply) (end : En
 plain_shelf p row replies end shelf behind plain stands same =
     subst (λ (b : Bool). ShelfFor behind (lane_ended p replies end row) p.planned.terminal_tear b) (sym plain)
     (same ∙ subst (λ (b : Bool). ShelfFor shelf row p.planned.terminal_tear b) plain stands)
+
+-- either way, and the purchase was lost exactly where the outcome says so
+pub ending_shelf : (p : Payment) (row : LaneRow) (replies : List Reply) (end : EndData) (shelf behind : ShelfSeen) (outcome : Outcome) → ShelfStands shelf p row
+    → HasRoom shelf p.durable → (p.durable ≡ true → IsStoredBy shelf behind p.planned.terminal_tear end.capture outcome)
+    → (p.durable ≡ false → (outcome ≡ Told) × (behind ≡ shelf))
+    → ShelfStands behind p (lane_ended p replies end row) × (is_lost outcome ≡ loses p row.store end.capture)
+ending_shelf p row replies end shelf behind outcome stands room kept plain = by p.durable refl
+  where
+    by : (durable : Bool) → p.durable ≡ durable → ShelfStands behind p (lane_ended p replies end row) × (is_lost outcome ≡ loses p row.store end.capture)
+    by true is =
+        let own : StoreStands shelf row p.planned.terminal_tear = subst (λ (b : Bool). ShelfFor shelf row p.planned.terminal_tear b) is stands in
+        let on = place_on shelf row.store p.planned.terminal_tear row.store.commits own.place (room is).0 in (
+          stored_shelf p row replies end shelf behind outcome is stands (room is).0 (kept is),
+          (kept is).told row.store on ∙ sym (ap (λ (b : Bool). b && loses_by p.planned.terminal_tear row.store end.capture) is),
+        )
+    by false is = (
+      plain_shelf p row replies end shelf behind is stands (plain is).1,
+      ap is_lost (plain is).0 ∙ sym (ap (λ (b : Bool). b && loses_by p.planned.terminal_tear row.store end.capture) is),
+    )
