@@ -127,7 +127,7 @@ module _ (P : ImageData → CardRow → Type 0) (closed : Closed P) (p : Payment
       lane_ways (λ m. P p.card.image m.part.card) p part
       holds
       (λ choice so. piece_keeps part choice h has holds)
-      (λ at off. holds)
+      (λ at off cut. holds)
       (λ first at off full. holds)
       (λ first second at off room. piece_keeps (part_with (opened_to_add part.lane.store first) part) second h has holds)
       (λ at on. delivery_keeps part holds part.lane.store.list)

@@ -137,9 +137,9 @@ pub record StoreTells (p : Payment) (part : Part) (Came : LaneRow → List Reply
   pub again : (one : Bool) → AtRest p part → part.lane.store.commits ≡ None
       → Tells p (part_with (opened_to_add part.lane.store one) part) Came R
   pub opened : (one : Bool) → AtRest p part → part.lane.store.commits ≡ None → R (part_with (opened_to_add part.lane.store one) part) []
-  pub lost : AtRest p part → R (record part { lane = lane_lost part.lane }) (EndLost p.lane (length part.lane.ended + 1) ∷ [])
+  pub lost : AtRest p part → is_named p.planned.terminal_tear 0 ≡ true → R (record part { lane = lane_lost part.lane }) (EndLost p.lane (length part.lane.ended + 1) ∷ [])
   pub sent : AtRest p part → (message : List ℕ) → R (copied p message part) (copy_lines p message part.messages p.copies)
-  pub sent_lost : AtRest p part → (message : List ℕ)
+  pub sent_lost : AtRest p part → (message : List ℕ) → is_cut p.planned.terminal_tear part.lane.store ≡ true
       → R (record (copied p message part) { lane = lane_lost (lane_copied p message part.lane) })
       (copy_lines p message part.messages p.copies ++ EndLost p.lane (length part.lane.ended + 1) ∷ [])
 
@@ -149,7 +149,7 @@ lane_tells p part Came R tells one other =
     lane_ways (λ m. R m.part m.lines) p part
     tells.own.still
     (λ choice so. piece_tells p part Came R tells.own choice)
-    (λ at off. tells.lost at)
+    (λ at off cut. tells.lost at cut)
     (λ choice at off full. tells.opened choice at off)
     (λ choice second at off room. piece_tells p (part_with (opened_to_add part.lane.store choice) part) Came R (tells.again choice at off) second)
     (λ at on. delivered at part.lane.store.list)
@@ -157,9 +157,9 @@ lane_tells p part Came R tells one other =
   where
     delivered : AtRest p part → (list : List (List ℕ)) → R (delivers_first p part list).part (delivers_first p part list).lines
     delivered at [] = tells.own.still
-    delivered at (message ∷ others) = by (is_cut p.planned.terminal_tear part.lane.store)
+    delivered at (message ∷ others) = by (is_cut p.planned.terminal_tear part.lane.store) refl
       where
-        by : (cut : Bool) → R (dropped_by p (copied p message part) (copy_lines p message part.messages p.copies) cut).part
+        by : (cut : Bool) → is_cut p.planned.terminal_tear part.lane.store ≡ cut → R (dropped_by p (copied p message part) (copy_lines p message part.messages p.copies) cut).part
             (dropped_by p (copied p message part) (copy_lines p message part.messages p.copies) cut).lines
-        by true = tells.sent_lost at message
-        by false = tells.sent at message
+        by true is = tells.sent_lost at message is
+        by false is = tells.sent at message

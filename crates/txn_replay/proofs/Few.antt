@@ -256,7 +256,10 @@ settlements_length s l (row ∷ rows) some few =
     let all : length (lane_settlements s.copies l row (durable_of s l)) + length (settlements_from s (l + 1) rows)
     ≤ s.copies * (length row.captures + sum_by (λ (x : LaneRow). length x.captures) rows) + (1 + s.copies * 7) * (length rows + 1) =
     added s.copies _ (length row.captures) _ (sum_by (λ (x : LaneRow). length x.captures) rows) (1 + s.copies * 7) (length rows) one others in
-    rw (sum, both) all
+    let count : length rows + 1 ≡ length (row ∷ rows) = omega arith in
+    rw (sum, both)
+    (subst (λ n. length (lane_settlements s.copies l row (durable_of s l)) + length (settlements_from s (l + 1) rows)
+    ≤ s.copies * (length row.captures + sum_by (λ (x : LaneRow). length x.captures) rows) + (1 + s.copies * 7) * n) count all)
 
 pub few_of : (s : ScenarioData) (w : World) → IsSound s w → LanesFew s w → ((l : ℕ) → HasFewFound (lane_at w l)) → IsFew s w
 few_of s w sound few found =

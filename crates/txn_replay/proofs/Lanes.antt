@@ -104,7 +104,7 @@ module _ (B : LaneRow → Type 0) (p : Payment) (part : Part) (stays : B part.la
       stays
       (λ choice so. piece_lane B p part stays (λ lane replies later. runs part.lane lane replies stays refl later)
       (λ lane replies end later. ends part.lane lane replies end stays refl later) choice)
-      (λ at off. lost at)
+      (λ at off cut. lost at)
       (λ first at off full. opened first at off)
       (λ first second at off room.
       piece_lane B p (part_with (opened_to_add part.lane.store first) part) (opened first at off)

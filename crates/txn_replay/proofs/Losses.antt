@@ -157,12 +157,12 @@ delivery_told p part (message ∷ others) = by (is_cut p.planned.terminal_tear p
         omega (arith, both, none, none_copied p message part.messages p.copies)
     by false = omega (arith, none_copied p message part.messages p.copies)
 
-lane_told : (p : Payment) (part : Part) (one other : Bool) → Told part (lane_piece p part one other)
+pub lane_told : (p : Payment) (part : Part) (one other : Bool) → Told part (lane_piece p part one other)
 lane_told p part one other =
     lane_ways (Told part) p part
     (let none : count [] ≡ 0 = refl in omega (arith, none))
     (λ choice so. piece_told p part choice)
-    (λ at off. (let none : count (EndLost p.lane (length part.lane.ended + 1) ∷ []) ≡ 0 = refl in omega (arith, none)))
+    (λ at off cut. (let none : count (EndLost p.lane (length part.lane.ended + 1) ∷ []) ≡ 0 = refl in omega (arith, none)))
     (λ first at off full. (let none : count [] ≡ 0 = refl in omega (arith, none)))
     (λ first second at off room. piece_told p (part_with (opened_to_add part.lane.store first) part) second)
     (λ at on. delivery_told p part part.lane.store.list)

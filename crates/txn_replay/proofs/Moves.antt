@@ -136,7 +136,7 @@ lane_outcome p part one other has =
     lane_ways (λ m. Outcome p part m.part) p part
     (kept refl)
     (λ choice so. outcome p part choice has)
-    (λ at off. resting p part _ at refl refl)
+    (λ at off cut. resting p part _ at refl refl)
     (λ first at off full. resting p part (part_with (opened_to_add part.lane.store first) part) at refl refl)
     (λ first second at off room.
     opened_first p part (piece p (part_with (opened_to_add part.lane.store first) part) second).part (opened_to_add part.lane.store first) at

@@ -23,7 +23,7 @@ use Rattle.txn_replay.proofs.Ways.{AtRest, IsOn, Goes, lane_ways}
 abbrev pub StaysPlanned : ℕ → LaneRow → Type 0
 StaysPlanned count row = (made : ℕ) → row.store.commits ≡ Some made → length row.ended ≡ count
 
-ended_off : (plan : Option Tear) (store : StoreRow) (capture : Option (List ℕ)) → (ended_by plan store capture).commits ≡ None
+pub ended_off : (plan : Option Tear) (store : StoreRow) (capture : Option (List ℕ)) → (ended_by plan store capture).commits ≡ None
 ended_off plan store None = refl
 ended_off plan store (Some message) = refl
 
@@ -49,7 +49,7 @@ lane_planned p part one other durable =
     lane_ways (λ m. StaysPlanned (length part.lane.ended) m.part.lane) p part
     (λ made on. refl)
     (λ choice so. piece_planned p part choice durable)
-    (λ at off made on. (let no : None ≡ Some made = sym off ∙ on in cc))
+    (λ at off cut made on. (let no : None ≡ Some made = sym off ∙ on in cc))
     (λ choice at off full made on. refl)
     (λ choice second at off room. piece_planned p (part_with (opened_to_add part.lane.store choice) part) second durable)
     (λ at on. delivered part.lane.store.list)

@@ -37,11 +37,11 @@ runs_through p part one other replies ran = by p.durable
     by true = ap (λ (o : Option (List Reply)). behind p one other (runs_by p part one o)) ran
 
 -- a store that is on, by its row, and one that is off
-on_is : (shelf : ShelfSeen) (store : StoreRow) (plan : Option Tear) → ShelfOn shelf store plan → has_power shelf ≡ true
+pub on_is : (shelf : ShelfSeen) (store : StoreRow) (plan : Option Tear) → ShelfOn shelf store plan → has_power shelf ≡ true
 on_is None store plan on = absurd on
 on_is (Some seen) store plan on = on.on
 
-off_is : (shelf : ShelfSeen) (store : StoreRow) → ShelfOff shelf store → has_power shelf ≡ false
+pub off_is : (shelf : ShelfSeen) (store : StoreRow) → ShelfOff shelf store → has_power shelf ≡ false
 off_is None store off = absurd off
 off_is (Some seen) store off = off.off
 
@@ -56,6 +56,6 @@ place_off shelf store plan None place off = place
 place_off shelf store plan (Some made) on off = (let no : true ≡ false = sym (on_is shelf store plan on) ∙ off in cc)
 
 -- how many messages are in it
-count_is : (shelf : ShelfSeen) (store : StoreRow) (plan : Option Tear) → ShelfOn shelf store plan → count_of shelf ≡ length store.list
+pub count_is : (shelf : ShelfSeen) (store : StoreRow) (plan : Option Tear) → ShelfOn shelf store plan → count_of shelf ≡ length store.list
 count_is None store plan on = absurd on
 count_is (Some seen) store plan on = ap length on.list_is

@@ -21,13 +21,13 @@ IsOf l row durable (Opens lane) = (lane ≡ l) × (durable ≡ true)
 IsOf l row durable (Sends lane message drops) = IsSent l row durable lane message drops
 
 -- a copy of a message
-copy_is : (n : ℕ) (x : Settlement) (k : ℕ) (at : Settlement) → slice_get (replicate n x) k ≡ Some at → x ≡ at
+pub copy_is : (n : ℕ) (x : Settlement) (k : ℕ) (at : Settlement) → slice_get (replicate n x) k ≡ Some at → x ≡ at
 copy_is zero x k at is = cc
 copy_is (suc n) x zero at is = same_Some x at is
 copy_is (suc n) x (suc k) at is = copy_is n x k at is
 
 -- what each copy of each message is, each step is
-plain_are : (P : Settlement → Type 0) (copies l : ℕ) (messages : List (List ℕ)) (k : ℕ) (at : Settlement)
+pub plain_are : (P : Settlement → Type 0) (copies l : ℕ) (messages : List (List ℕ)) (k : ℕ) (at : Settlement)
     → ((j : ℕ) (message : List ℕ) → slice_get messages j ≡ Some message → P (Sends l message false))
     → slice_get (flat_map (copies_of copies l) messages) k ≡ Some at → P at
 plain_are P copies l [] k at each is = cc

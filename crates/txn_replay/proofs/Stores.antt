@@ -195,7 +195,7 @@ lane_stored p part one other durable stored first =
     lane_ways (λ m. IsStored m.part.lane) p part
     stored
     goes
-    (λ at off. lost_stored part.lane stored)
+    (λ at off cut. lost_stored part.lane stored)
     (λ choice at off full. opened_stored part.lane choice at.rests stored)
     (λ choice second at off room.
     piece_stored p (part_with (opened_to_add part.lane.store choice) part) second durable (opened_stored part.lane choice at.rests stored)
@@ -224,7 +224,7 @@ lane_stored p part one other durable stored first =
         by false = copied_stored p message part.lane at.rests (ap is_some on.on) stored
 
 -- a lane without a store never has one
-plain_stored : (p : Payment) (part : Part) (one other : Bool) → p.durable ≡ false → part.lane.store ≡ new_store
+pub plain_stored : (p : Payment) (part : Part) (one other : Bool) → p.durable ≡ false → part.lane.store ≡ new_store
     → (lane_piece p part one other).part.lane.store ≡ new_store
 plain_stored p part one other durable none =
     lane_ways (λ m. m.part.lane.store ≡ new_store) p part
@@ -234,7 +234,7 @@ plain_stored p part one other durable none =
     (λ lane replies end later.
     ap (λ (b : Bool). if b then ended_by p.planned.terminal_tear lane.store end.capture else lane.store) durable
     ∙ later_store part.lane lane later none) choice)
-    (λ at off. not at)
+    (λ at off cut. not at)
     (λ choice at off full. not at)
     (λ choice second at off room. not at)
     (λ at on. not at)
@@ -249,12 +249,12 @@ plain_stored p part one other durable none =
     later_store before _ (messaging message) is = is
 
 -- no turn opens a store for settlement
-piece_found : (p : Payment) (part : Part) (one other : Bool) → part.lane.store.found ≡ None → (lane_piece p part one other).part.lane.store.found ≡ None
+pub piece_found : (p : Payment) (part : Part) (one other : Bool) → part.lane.store.found ≡ None → (lane_piece p part one other).part.lane.store.found ≡ None
 piece_found p part one other first =
     lane_ways (λ m. m.part.lane.store.found ≡ None) p part
     first
     (λ choice so. plain_found part choice first)
-    (λ at off. first)
+    (λ at off cut. first)
     (λ choice at off full. first)
     (λ choice second at off room. plain_found (part_with (opened_to_add part.lane.store choice) part) second first)
     (λ at on. delivered part.lane.store.list)
@@ -371,7 +371,7 @@ module _ (s : ScenarioData) where
       first : (i : ℕ) → (lane_at w i).store.found ≡ None
       first i = elim (stand.before i) [ | inl none ↦ none | inr over ↦ absurd (not_over s w l p is over) ]
 
-  turn_stand : (w : World) (l : ℕ) (choices : List Bool) → StoresStand s w → StoresStand s (happens s w (Turn l) choices).world
+  pub turn_stand : (w : World) (l : ℕ) (choices : List Bool) → StoresStand s w → StoresStand s (happens s w (Turn l) choices).world
   turn_stand w l choices stand = record {
     lanes = turn_stores w l choices (next_of s w l) refl stand;
     before = turn_before w l choices (next_of s w l) refl stand;
@@ -392,7 +392,7 @@ module _ (s : ScenarioData) where
             | inr same ↦ same ∙ none
           ]
 
-  settle_stand : (w : World) (choices : List Bool) (o : Option Settlement) → ((at : Settlement) → o ≡ Some at → IsOfStore s w at) → all_over s w ≡ true
+  pub settle_stand : (w : World) (choices : List Bool) (o : Option Settlement) → ((at : Settlement) → o ≡ Some at → IsOfStore s w at) → all_over s w ≡ true
       → StoresStand s w → StoresStand s (settles s w choices o).world
   settle_stand w choices None durable over stand = stand
   settle_stand w choices (Some (Opens l)) durable over stand = record {
@@ -418,7 +418,7 @@ module _ (s : ScenarioData) where
   audit_stand w choices (Some (Asks i card command)) stand =
       record { lanes = stand.lanes; before = λ k. elim (stand.before k) [ | inl none ↦ inl none | inr over ↦ inr over ] }
 
-  first_stand : StoresStand s (first_world s)
+  pub first_stand : StoresStand s (first_world s)
   first_stand = record {
     lanes = λ l. subst (λ (row : LaneRow). StoredBy (durable_of s l) row) (sym (get_or-map_const s.lanes l new_lane)) (new_stored (durable_of s l));
     before = λ l. inl (ap (λ (row : LaneRow). row.store.found) (get_or-map_const s.lanes l new_lane));

@@ -29,7 +29,7 @@ pub data Goes (p : Payment) (part : Part) : Type 0 where
 module _ (Q : Moved → Type 0) (p : Payment) (part : Part)
     (stays : Q (still part))
     (goes : (choice : Bool) → Goes p part → Q (piece p part choice))
-    (loses : AtRest p part → part.lane.store.commits ≡ None → Q (lost_with p part []))
+    (loses : AtRest p part → part.lane.store.commits ≡ None → is_named p.planned.terminal_tear 0 ≡ true → Q (lost_with p part []))
     (finds : (one : Bool) → AtRest p part → part.lane.store.commits ≡ None → (opened_to_add part.lane.store one).due ≡ true
         → Q (record { part = part_with (opened_to_add part.lane.store one) part; lines = []; choices = 1 }))
     (opens : (one other : Bool) → AtRest p part → part.lane.store.commits ≡ None → (opened_to_add part.lane.store one).due ≡ false
@@ -40,9 +40,10 @@ module _ (Q : Moved → Type 0) (p : Payment) (part : Part)
   by_due one other true is at off = finds one at off is
   by_due one other false is at off = opens one other at off is
 
-  by_cut : (one other cut : Bool) → AtRest p part → part.lane.store.commits ≡ None → Q (behind p one other (opens_by p part one cut))
-  by_cut one other true at off = loses at off
-  by_cut one other false at off = by_due one other (opened_to_add part.lane.store one).due refl at off
+  by_cut : (one other cut : Bool) → is_named p.planned.terminal_tear 0 ≡ cut → AtRest p part → part.lane.store.commits ≡ None
+      → Q (behind p one other (opens_by p part one cut))
+  by_cut one other true is at off = loses at off is
+  by_cut one other false is at off = by_due one other (opened_to_add part.lane.store one).due refl at off
 
   by_delivery : (one other due : Bool) (made : ℕ) → AtRest p part → part.lane.store.commits ≡ Some made → part.lane.store.due ≡ due
       → Q (behind p one other (goes_through p part due))
@@ -51,7 +52,7 @@ module _ (Q : Moved → Type 0) (p : Payment) (part : Part)
 
   by_store : (one other : Bool) (commits : Option ℕ) → AtRest p part → part.lane.store.commits ≡ commits
       → Q (behind p one other (stored_by p part one commits))
-  by_store one other None at is = by_cut one other (is_named p.planned.terminal_tear 0) at is
+  by_store one other None at is = by_cut one other (is_named p.planned.terminal_tear 0) refl at is
   by_store one other (Some made) at is = by_delivery one other part.lane.store.due made at is refl
 
   by_holder : (one other : Bool) (holder : Option Holder) → p.durable ≡ true → part.lane.running ≡ None → part.card.holder ≡ holder

@@ -24,7 +24,7 @@ use Rattle.scenario_lanes.specs.declared.plan.Planned.{Planned}
 use Rattle.card_state.specs.Totals.{totals, apps_totals}
 use Rattle.txn_replay.specs.Part.{Part, lane_ended, ended_with}
 use Rattle.txn_replay.specs.Payment.{Payment, payment_in}
-use Rattle.txn_replay.specs.Run.{start, rounds, round, again, settlement, audit, auditing, finished, Run}
+use Rattle.txn_replay.specs.Run.{start, rounds, round, again, settlement, settling, audit, auditing, finished, Run}
 use Rattle.txn_replay.specs.Steps.{settlements_from, checks_from, happens}
 use Rattle.txn_replay.specs.Storing.{delivers, lane_piece}
 use Rattle.terminal_state.specs.Marks.{MomentData}

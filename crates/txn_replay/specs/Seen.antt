@@ -1,5 +1,5 @@
 -- The value of a whole run, and the world that it stands for.
-use Rattle.std.specs.Prelude.{◌≡◌, ◌⊎◌, ℕ, zero, suc, ◌+◌, ◌-◌, ◌≤◌, Bool, true, false, ◌&&◌, ◌==◌, nat_le, is_none, List, [], length, sum_by, slice_get, Option, Some, None}
+use Rattle.std.specs.Prelude.{◌≡◌, ◌⊎◌, ℕ, zero, suc, ◌+◌, ◌-◌, ◌≤◌, Bool, true, false, ◌&&◌, ◌==◌, nat_le, is_none, List, [], length, sum_by, count_by, slice_get, Option, Some, None}
 use Rattle.std.specs.List.{All}
 use Rattle.capture_store.specs.ListPages.{MayStandForList}
 use Rattle.capture_store.specs.SeenShelf.{ShelfSeen}
@@ -85,6 +85,10 @@ pub record WorldStands (v : WorldSeen) (w : World) : Type 0 where
   pub messages : HostStands v.host w.messages
   pub tally : v.tally ≡ counts w
 
+-- how many lanes keep their captures durably
+abbrev pub durable_count : List LaneData → ℕ
+durable_count lanes = count_by (λ lane. lane.durable) lanes
+
 -- a value stands for some world
 abbrev pub IsStanding : WorldSeen → Type 0
 IsStanding v = (w : World) × WorldStands v w
@@ -99,6 +103,8 @@ pub record IsWhole (v : WorldSeen) : Type 0 where
   pub keys : v.host.keys ≡ v.scenario.issuer
   pub accounts : v.host.accounts ≡ v.scenario.accounts
   pub blank : All IsBlank v.spare
+  -- each of the 64 pages is a card's, a store's or spare
+  pub pages : length v.spare + length v.scenario.cards + durable_count v.scenario.lanes ≡ 64
   pub standing : IsStanding v
 
 -- an event has led to what the value stands for

@@ -26,16 +26,16 @@ step_in lane index true copies number (settling.Opens at) = (at ≡ index) × (n
 step_in lane index true copies number (settling.Drains at drops) = (at ≡ index) × (1 + (number - 1) ≡ number) × (drops ≡ (number % copies == 0))
 step_in lane index true copies number (settling.Sends at message) = ⊥
 
--- the same step; which message a store sends, the store knows
-abbrev pub IsStep : Settlement → Settling → Type 0
-IsStep (Opens l) (settling.Opens lane) = l ≡ lane
-IsStep (Opens l) other = ⊥
-IsStep (Sends l message drops) (settling.Opens lane) = ⊥
-IsStep (Sends l message drops) (settling.Sends lane sent) = (l ≡ lane) × (message ≡ sent.now.items) × (drops ≡ false)
-IsStep (Sends l message drops) (settling.Drains lane last) = (l ≡ lane) × (drops ≡ last)
+-- the same step, of a lane that keeps its captures durably or not; which message a store sends, the store knows
+abbrev pub IsStep : (ℕ → Bool) → Settlement → Settling → Type 0
+IsStep durable (Opens l) (settling.Opens lane) = l ≡ lane
+IsStep durable (Opens l) other = ⊥
+IsStep durable (Sends l message drops) (settling.Opens lane) = ⊥
+IsStep durable (Sends l message drops) (settling.Sends lane sent) = (l ≡ lane) × (message ≡ sent.now.items) × (drops ≡ false) × (durable l ≡ false)
+IsStep durable (Sends l message drops) (settling.Drains lane last) = (l ≡ lane) × (drops ≡ last) × (durable l ≡ true)
 
-abbrev pub IsStepOf : Option Settlement → Option Settling → Type 0
-IsStepOf None None = ⊤
-IsStepOf (Some step) (Some found) = IsStep step found
-IsStepOf None (Some found) = ⊥
-IsStepOf (Some step) None = ⊥
+abbrev pub IsStepOf : (ℕ → Bool) → Option Settlement → Option Settling → Type 0
+IsStepOf durable None None = ⊤
+IsStepOf durable (Some step) (Some found) = IsStep durable step found
+IsStepOf durable None (Some found) = ⊥
+IsStepOf durable (Some step) None = ⊥

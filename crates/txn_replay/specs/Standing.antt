@@ -172,6 +172,12 @@ pub record PartRests (p : Payment) (lane : Lane) (shelf : ShelfSeen) (slot : Slo
   pub is : IsSlotOf slot p.card
   pub losses : HasLost slot part.card.losses
 
+-- with its store, which isn't opened for settlement
+pub record NextRests (p : Payment) (lane : Lane) (shelf : ShelfSeen) (slot : SlotSeen) (part : Part) : Type 0 where
+  pub part_rests : PartRests p lane shelf slot part
+  pub stored : StoredBy p.durable part.lane
+  pub before : part.lane.store.found ≡ None
+
 -- the card of a lane's purchase: off where none has it, on where another one has it, and on under the plan of the one
 -- that runs
 abbrev pub PlaceFor : Payment → SlotSeen → CardRow → Option Holder → Option (List Reply) → Type 0

@@ -59,7 +59,7 @@ pub record IsSettledTo (s : ScenarioData) (w : World) (k : ℕ) : Type 0 where
 abbrev pub SettlementGoesThrough : Type 0
 SettlementGoesThrough =
     (s : ScenarioData) (k n : ℕ) (choices : List Bool) (lines : List Line) (w : World)
-    → Reached s (Settling k) n choices lines w → IsSettledTo s w k
+    → 1 ≤ s.copies → Reached s (Settling k) n choices lines w → IsSettledTo s w k
 
 -- behind the settlement nothing is left in a store, and no call is lost
 pub record IsEmptied (store : StoreRow) : Type 0 where

@@ -1,12 +1,12 @@
 //! The pages of the cards and of the stores: each takes some of the bank, and gives them back.
-ghost use Rattle.std.specs.Prelude.{◌≡◌, ◌≤◌, ◌<◌, ◌+◌, ◌-◌, [], ◌∷◌, ℕ, List, Option, length, map, drop};
+ghost use Rattle.std.specs.Prelude.{◌≡◌, ◌≤◌, ◌<◌, ◌+◌, ◌-◌, [], ◌∷◌, ℕ, List, Option, true, is_some, length, map, drop};
 ghost use Rattle.std.specs.List.{All};
 ghost use Rattle.std.specs.Vec.{vec_len, vec_capacity};
 ghost use Rattle.emv_ports.specs.Memory.{Memory, IsBlank};
 ghost use Rattle.scenario.specs.CardRules.{IsKind};
 ghost use Rattle.scenario.specs.Seen.{seen_cards};
 ghost use Rattle.scenario_lanes.specs.Plan.{HaveRoom};
-ghost use Rattle.txn_replay.specs.Banked.{AreNew, AreGiven, AreNewStores, StoresAreGiven, IsStoreGiven, stores_in, with_pages, with_stores};
+ghost use Rattle.txn_replay.specs.Banked.{AreNew, AreGiven, IsNewStore, AreNewStores, StoresAreGiven, IsStoreGiven, stores_in, with_pages, with_stores};
 
 use crate::slot::Slot;
 use capture_store::Shelf;
@@ -60,15 +60,27 @@ pub(crate) fn take_stores<P: Pages>(
     ensures capacity { vec_capacity bank.new ≡ vec_capacity bank.old }
 {
     for (index, terminal) in terminals.iter().enumerate() {
-        let shelf = if terminal.durable {
-            Shelf::new(bank.remove(LAST_PAGES - index))
-        } else {
-            Shelf::absent()
-        };
+        let shelf = take_store(terminal.durable, LAST_PAGES - index, bank);
         let Ok(()) = shelves.push(shelf) else {
             unreachable!();
         };
     }
+}
+
+/// A store on the pages at this place, where the lane keeps its captures durably.
+fn take_store<P: Pages>(durable: bool, place: usize, bank: &mut Vec<P>) -> Shelf<P>
+    requires place { durable ≡ true → place < vec_len bank.old }
+    requires blank { All IsBlank (map P.memory bank.old.items) }
+    ensures new { IsNewStore result durable }
+    ensures length { vec_len bank.new + stores_in (result ∷ []) ≡ vec_len bank.old }
+    ensures some { is_some result ≡ durable }
+    ensures blank { All IsBlank (map P.memory bank.new.items) }
+    ensures capacity { vec_capacity bank.new ≡ vec_capacity bank.old }
+{
+    if durable {
+        return Shelf::new(bank.remove(place));
+    }
+    Shelf::absent()
 }
 
 /// The stores' pages, off, stand at their own places again, those of the last lane first.
@@ -94,7 +106,7 @@ fn put_back<P: Pages>(shelf: Shelf<P>, place: usize, bank: &mut Vec<P>)
     requires room { vec_len bank.old < vec_capacity bank.old }
     ensures given { (pages : Option Memory) × IsStoreGiven shelf pages × (map P.memory bank.new.items ≡ with_pages place pages (map P.memory bank.old.items)) }
     ensures length { vec_len bank.new ≡ vec_len bank.old + stores_in (shelf ∷ []) }
-    ensures capacity { vec_capacity bank.new ≡ vec_capacity bank.old }
+    ensures capacity { vec_capacity bank.old ≤ vec_capacity bank.new }
 {
     if let Some(pages) = shelf.into_pages() {
         let Ok(()) = bank.insert(place, pages) else {
@@ -109,6 +121,7 @@ pub(crate) fn give_pages<P: Pages>(slots: Vec<Slot<'_, P>>, spare: Vec<P>) -> Ve
     ensures given { AreGiven slots.entry.items 0 (map P.memory result.items) }
     ensures spare { drop (length slots.entry.items) (map P.memory result.items) ≡ map P.memory spare.items }
     ensures length { vec_len result ≡ length slots.entry.items + length spare.items }
+    ensures capacity { vec_capacity spare ≤ vec_capacity result }
 {
     let mut slots = slots;
     let mut bank = spare;

@@ -17,7 +17,7 @@ ghost use Rattle.txn_replay.specs.Part as step;
 ghost use Rattle.scenario_lanes.specs.Plan.{IsPlanned};
 ghost use Rattle.txn_replay.specs.Part.{Part};
 ghost use Rattle.txn_replay.specs.Payment.{Payment as Paid, deal_for};
-ghost use Rattle.txn_replay.specs.Standing.{PartRests, PartRuns, PartStands, Led, SameLane, LaneStands, rank_in, MovedTo, IsCounted, LaneFits, RunStands, lane_left, is_ended, is_over as over_test, HasRoom, shelf_left, seen_payment};
+ghost use Rattle.txn_replay.specs.Standing.{PartRests, NextRests, PartRuns, PartStands, Led, SameLane, LaneStands, rank_in, MovedTo, IsCounted, LaneFits, RunStands, lane_left, is_ended, is_over as over_test, HasRoom, shelf_left, seen_payment};
 ghost use Rattle.txn_replay.specs.Slot.{SlotOff, is_on as has_power};
 ghost use Rattle.txn_replay.specs.Storing.{lane_piece};
 ghost use Rattle.txn_replay.specs.World.{LaneRow};
@@ -282,6 +282,53 @@ fn begin<'s, P: Pages>(
     }
 }
 
+/// The next purchase begins, behind what its terminal's store has to do first, which may be all of this exchange.
+/// After `AllocError` nothing has changed.
+fn begin_next<'s, P: Pages>(
+    at: &Payment<'s>,
+    lane: &mut Lane<'s>,
+    shelf: &mut Shelf<P>,
+    slot: &mut Slot<'s, P>,
+    host: &mut Host<'s>,
+    tally: &mut Tally,
+    lines: &mut Lines,
+) -> Result<(), AllocError>
+    requires few { lane.old.ended < 10000 }
+    requires log { vec_len lane.old.log < vec_capacity lane.old.log }
+    requires captures { vec_len lane.old.captures < vec_capacity lane.old.captures }
+    requires settings { IsSettings at.now.settings.now }
+    requires planned { IsPlanned at.now.planned.now }
+    requires name { length at.now.card.now.name.items ≤ 16 }
+    requires one_copy { 1 ≤ at.now.copies }
+    requires few_copies { at.now.copies ≤ 3 }
+    requires amounts { All (λ logged. logged.amount ≤ most_amount) lane.old.log.items }
+    requires rests { lane.old.running ≡ None }
+    requires place { IsSome lane.old.place }
+    requires lines { lines.old.items ≡ [] }
+    requires stands { (part : Part) × NextRests (seen_payment host.old.keys host.old.accounts at.now) lane.old shelf.old slot.old part
+        × HostStands host.old part.messages }
+    ensures led { OnOk result ((part : Part)
+        → NextRests (seen_payment host.old.keys host.old.accounts at.now) lane.old shelf.old slot.old part → HostStands host.old part.messages
+        → (one : Bool) × (other : Bool)
+        × Led (seen_payment host.old.keys host.old.accounts at.now) lane.new shelf.new slot.new tally.old tally.new lines.new.items part
+        (lane_piece (seen_payment host.old.keys host.old.accounts at.now) part one other)
+        × HostStands host.new (lane_piece (seen_payment host.old.keys host.old.accounts at.now) part one other).part.messages) }
+    ensures keys { host.new.keys ≡ host.old.keys }
+    ensures accounts { host.new.accounts ≡ host.old.accounts }
+    ensures fits { OnOk result (LaneFits lane.new) }
+    ensures nearer { OnOk result (lane_left lane.new + shelf_left shelf.new < lane_left lane.old + shelf_left shelf.old) }
+    ensures err { OnErr result ((lane.new ≡ lane.old) × (shelf.new ≡ shelf.old) × (slot.new ≡ slot.old) × (host.new ≡ host.old) × (tally.new ≡ tally.old) × (lines.new.items ≡ [])) }
+{
+    match prepare(at, lane, shelf, host, lines) {
+        Ok(true) => {
+            begin(at, lane, shelf, slot, tally, lines);
+            Ok(())
+        }
+        Ok(false) => Ok(()),
+        Err(AllocError) => Err(AllocError),
+    }
+}
+
 /// The terminal begins its dialogue.
 fn start<'s>(at: &Payment<'s>, lane: &mut Lane<'s>)
     requires settings { IsSettings at.now.settings.now }
@@ -373,11 +420,7 @@ pub(crate) fn exchange<'s, P: Pages>(
 {
     make_room(at, lane)?;
     match waits_for(&lane.running) {
-        None => {
-            if prepare(at, lane, shelf, host, lines)? {
-                begin(at, lane, shelf, slot, tally, lines);
-            }
-        }
+        None => begin_next(at, lane, shelf, slot, host, tally, lines)?,
         Some(Next::ToCard) => ask_card(at, lane, shelf, slot, tally, lines),
         Some(Next::ToHost) => ask_host(at, lane, shelf, slot, host, tally, lines)?,
         Some(Next::Ended) => unreachable!(),

@@ -9,6 +9,7 @@ ghost use Rattle.capture_store.specs.StoreRow.{StoreRow, opened_to_settle};
 ghost use Rattle.issuer_host.specs.History.{HostStands, host_reply, is_new};
 ghost use Rattle.scenario.specs.Plan.{IsScenario};
 ghost use Rattle.txn_replay.specs.Lines.{settle_lines};
+ghost use Rattle.txn_replay.specs.Payment.{durable_of};
 ghost use Rattle.txn_replay.specs.Settling.{AreRows, IsStepOf, steps_of as steps_in, step_in as found_in};
 ghost use Rattle.txn_replay.specs.Steps.{settlements_from, settled_store};
 ghost use Rattle.txn_replay.specs.World.{LaneRow};
@@ -81,7 +82,7 @@ pub(crate) fn settlement<'a>(
     requires scenario { IsScenario scenario.now }
     requires few { length lanes.now ≤ 16 }
     requires captures { All (λ lane. vec_len lane.captures ≤ 10000) lanes.now }
-    ensures { (rows : List LaneRow) → AreRows lanes.now rows → IsStepOf (slice_get (settlements_from scenario.now 0 rows) number) result }
+    ensures { (rows : List LaneRow) → AreRows lanes.now rows → IsStepOf (durable_of scenario.now) (slice_get (settlements_from scenario.now 0 rows) number) result }
 {
     let copies = usize::from(scenario.copies);
     let mut left = number as usize;

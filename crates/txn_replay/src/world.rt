@@ -184,22 +184,26 @@ impl<'s, P: Pages> World<'s, P> {
         ensures done { is_done self.new ≡ is_done self.old }
     {
         let scenario = self.scenario;
-        match settlement(scenario, self.lanes.as_slice(), number) {
-            Some(Settling::Opens(lane)) => {
+        let Some(step) = settlement(scenario, self.lanes.as_slice(), number) else {
+            return Ok(false);
+        };
+        match step {
+            Settling::Opens(lane) => {
                 open_to_settle(&mut self.lanes[lane], &mut self.shelves[lane]);
+                Ok(true)
             }
-            Some(Settling::Sends(lane, message)) => {
+            Settling::Sends(lane, message) => {
                 let iso = dialect_at(scenario, lane as u8);
                 send(iso, lane as u8, message.as_slice(), &mut self.host, lines)?;
+                Ok(true)
             }
-            Some(Settling::Drains(lane, drops)) => {
+            Settling::Drains(lane, drops) => {
                 let iso = dialect_at(scenario, lane as u8);
                 let shelf = &mut self.shelves[lane];
                 drain(iso, lane as u8, drops, shelf, &mut self.host, lines)?;
+                Ok(true)
             }
-            None => return Ok(false),
         }
-        Ok(true)
     }
 
     /// The step of the audit of this number, from 0: each card with applications is powered up without a tear,

@@ -8,34 +8,41 @@ use Rattle.kernel.specs.declared.kernel.Next.TheVariants as next
 use Rattle.txn_replay.specs.Part.{Moved}
 use Rattle.txn_replay.specs.Payment.{deal_for}
 use Rattle.txn_replay.specs.Slot.{is_on}
-use Rattle.txn_replay.specs.Standing.{PartRests, SameLane, Led, seen_payment}
+use Rattle.txn_replay.specs.Standing.{NextRests, SameLane, Led, seen_payment}
 use Rattle.txn_replay.specs.declared.lane.Lane.{Lane}
-use Rattle.txn_replay.proofs.Pieces.{Running, piece_begins, piece_card, piece_host, card_messages, begun_messages, none_runs, some_runs, waits_same, free_from, rests_from, runs_from}
-use Rattle.txn_replay.proofs.Preparing.{store_rests, runs_through}
+use Rattle.txn_replay.proofs.Pieces.{Running, piece_card, piece_host, card_messages, none_runs, some_runs, waits_same, free_from, rests_from, runs_from}
+use Rattle.txn_replay.proofs.Preparing.{runs_through}
 use Rattle.txn_replay.proofs.exchange.exchange.Goals as goal
 
-pub prepare-requires-clause-stands : goal.prepare-requires-clause-stands
-prepare-requires-clause-stands g c =
+pub begin_next-requires-clause-stands : goal.begin_next-requires-clause-stands
+begin_next-requires-clause-stands g c =
     let p = seen_payment c.args.host.now.keys c.args.host.now.accounts c.args.at.now in
     let later : Lane = c.make_room.new.lane in
     let same : SameLane c.args.lane.now later = c.make_room.ensures.same in
     let none : c.args.lane.now.running ≡ None = none_runs c.args.lane.now.running next_of (waits_same c.args.lane.now.running later.running same.running ∙ sym c.waits_for.ensures.exact ∙ c.in-None.is) in
-    let off : is_on c.args.slot.now ≡ true → ⊥ = free_from c.args.lane.now.running (is_on c.args.slot.now) none c.requires.free in
-    let rests : PartRests p later c.args.shelf.now c.args.slot.now c.requires.stands.0 =
-    rests_from p c.args.lane.now later c.args.shelf.now c.args.slot.now c.requires.stands.0 c.requires.stands.1 same none off in
-    (c.requires.stands.0, store_rests p later c.args.shelf.now c.args.slot.now c.requires.stands.0 rests c.requires.stands.1.stored c.requires.stands.1.before,
-    c.requires.stands.2)
+    let off : is_on c.args.slot.now ≡ true → ⊥ = free_from c.args.lane.now.running (is_on c.args.slot.now) none c.requires.free in (
+      c.requires.stands.0,
+      record {
+        part_rests = rests_from p c.args.lane.now later c.args.shelf.now c.args.slot.now c.requires.stands.0 c.requires.stands.1 same none off;
+        stored = c.requires.stands.1.stored;
+        before = c.requires.stands.1.before;
+      },
+      c.requires.stands.2,
+    )
 
-pub begin-requires-clause-off : goal.begin-requires-clause-off
-begin-requires-clause-off g c =
+pub returns-in_ok-begin_next-in-None-clause-led : goal.returns-in_ok-begin_next-in-None-clause-led
+returns-in_ok-begin_next-in-None-clause-led g c = λ part stands stood.
     let p = seen_payment c.args.host.now.keys c.args.host.now.accounts c.args.at.now in
     let later : Lane = c.make_room.new.lane in
     let same : SameLane c.args.lane.now later = c.make_room.ensures.same in
     let none : c.args.lane.now.running ≡ None = none_runs c.args.lane.now.running next_of (waits_same c.args.lane.now.running later.running same.running ∙ sym c.waits_for.ensures.exact ∙ c.in-None.is) in
     let off : is_on c.args.slot.now ≡ true → ⊥ = free_from c.args.lane.now.running (is_on c.args.slot.now) none c.requires.free in
-    let rests : PartRests p later c.args.shelf.now c.args.slot.now c.requires.stands.0 =
-    rests_from p c.args.lane.now later c.args.shelf.now c.args.slot.now c.requires.stands.0 c.requires.stands.1 same none off in
-    (c.requires.stands.0.card.kept, c.requires.stands.0.card.pending, rests.off)
+    let rests : NextRests p later c.args.shelf.now c.args.slot.now part = record {
+      part_rests = rests_from p c.args.lane.now later c.args.shelf.now c.args.slot.now part stands same none off;
+      stored = stands.stored;
+      before = stands.before;
+    } in
+    c.in_ok-begin_next-in-None.ensures.led part rests stood
 
 pub returns-in-Some-ToCard-clause-led : goal.returns-in-Some-ToCard-clause-led
 returns-in-Some-ToCard-clause-led g c = λ part stands stood.

@@ -292,6 +292,7 @@ invariant_of-self g c =
         keys = c.exchange.ensures.keys ∙ c.self.invariant.0.keys;
         accounts = c.exchange.ensures.accounts ∙ c.self.invariant.0.accounts;
         blank = c.self.invariant.0.blank;
+        pages = c.self.invariant.0.pages;
         standing = (w, same);
       },
       c.self.invariant.1,
@@ -421,6 +422,7 @@ invariant_of-self-2 g c =
         keys = c.exchange.ensures.keys ∙ c.self.invariant.0.keys;
         accounts = c.exchange.ensures.accounts ∙ c.self.invariant.0.accounts;
         blank = c.self.invariant.0.blank;
+        pages = c.self.invariant.0.pages;
         standing = (goes.after, goes.stands);
       },
       c.self.invariant.1,
