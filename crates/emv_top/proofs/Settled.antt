@@ -137,7 +137,7 @@ module _ (s : ScenarioData) where
       at_set (λ (i : ℕ) (row : CardRow). (card : CardData) (answers : List (List ℕ)) → slice_get s.cards i ≡ Some card → card.canned ≡ Some answers → IsSettled row)
       w.cards p.planned.card m.part.card new_card here before
     where
-      abbrev m : Moved
+      m : Moved
       m = lane_piece p (part_of w l p.planned.card) (choice_in choices 0) (choice_in choices 1)
 
       here : (card : CardData) (answers : List (List ℕ)) → slice_get s.cards p.planned.card ≡ Some card → card.canned ≡ Some answers

@@ -309,13 +309,13 @@ module _ (s : ScenarioData) (l : ℕ) (on : durable_of s l ≡ true) where
   turn_keeps w lines k choices sound stand None is first kept = quiet w w lines [] [] [] refl refl (λ sent keeps. keeps) kept
   turn_keeps w lines k choices sound stand (Some p) is first kept = by_lane (cases_eq l k)
     where
-      abbrev part : Part
+      part : Part
       part = part_of w k p.planned.card
 
-      abbrev m : Moved
+      m : Moved
       m = lane_piece p part (choice_in choices 0) (choice_in choices 1)
 
-      abbrev after : World
+      after : World
       after = (turned_by w k choices (Some p)).world
 
       lane : p.lane ≡ k
@@ -415,9 +415,9 @@ module _ (s : ScenarioData) (l : ℕ) (on : durable_of s l ≡ true) (some : 1 �
       before_it early behind =
           elim (cases_lt (before_lane s after l) (k + 1)) [
             | inl started ↦
-              (let none : (lane_at w l).store.found ≡ None = (through.before l on (omega (arith, early))).none in
-              let reached : IsThrough (lane_at after l).store s.copies (k + 1 - before_lane s after l - 1) = next.behind l on started in
-              let both : None ≡ Some reached.found = sym none ∙ ap (λ (x : LaneRow). x.store.found) (sym row) ∙ reached.is in cc)
+                (let none : (lane_at w l).store.found ≡ None = (through.before l on (omega (arith, early))).none in
+                let reached : IsThrough (lane_at after l).store s.copies (k + 1 - before_lane s after l - 1) = next.behind l on started in
+                let both : None ≡ Some reached.found = sym none ∙ ap (λ (x : LaneRow). x.store.found) (sym row) ∙ reached.is in cc)
             | inr later ↦ later
           ]
 
@@ -461,10 +461,10 @@ module _ (s : ScenarioData) (l : ℕ) (on : durable_of s l ≡ true) (some : 1 �
       subst (λ (x : LaneRow). RowKeeps (caught_in x.ended) sent x.store) (sym own)
       (store_keeps.opens (caught_in (lane_at w l).ended) sent (lane_at w l).store (choice_in choices 0) keeps)) kept
     where
-      abbrev row : LaneRow
+      row : LaneRow
       row = with_store (opened_to_settle (lane_at w l).store (choice_in choices 0)) (lane_at w l)
 
-      abbrev after : World
+      after : World
       after = (settles s w choices (Some (Opens l))).world
 
       at : OpensAt s w k l
@@ -495,7 +495,7 @@ module _ (s : ScenarioData) (l : ℕ) (on : durable_of s l ≡ true) (some : 1 �
       (extra s (settles s w [] (Some (Sends l message drops))).world l (Settling (k + 1)))
   sends_kept w lines k message reply drops here through kept = by drops refl
     where
-      abbrev after : World
+      after : World
       after = (settles s w [] (Some (Sends l message drops))).world
 
       sends : StoreSends s w k l message drops
@@ -602,14 +602,14 @@ module _ (s : ScenarioData) (l : ℕ) (on : durable_of s l ≡ true) (some : 1 �
             subst (λ n. IsKept s (settles s w choices (Some (Opens n))).world (lines ++ []) l (extra s (settles s w choices (Some (Opens n))).world l (Settling (k + 1)))) same
             (opens_kept w lines k choices (here ∙ ap (λ n. Some (Opens n)) (sym same)) kept)
         | inr differs ↦
-          (let found = step_at s w k (Opens m) here in
-          let lane : m ≡ found.0 = opens_lane w k found.0 m found.1 in
-          let row : lane_at (settles s w choices (Some (Opens m))).world l ≡ lane_at w l =
-          get_or-set_other w.lanes m l (with_store (opened_to_settle (lane_at w m).store (choice_in choices 0)) (lane_at w m)) new_lane differs in
-          quiet s l on w (settles s w choices (Some (Opens m))).world lines [] (extra s w l (Settling k))
-          (extra s (settles s w choices (Some (Opens m))).world l (Settling (k + 1))) refl
-          (other_step w (settles s w choices (Some (Opens m))).world k (Opens m) found (λ e. differs (e ∙ sym lane)) sound through next row)
-          (λ sent keeps. subst (λ (x : LaneRow). RowKeeps (caught_in x.ended) sent x.store) (sym row) keeps) kept)
+            (let found = step_at s w k (Opens m) here in
+            let lane : m ≡ found.0 = opens_lane w k found.0 m found.1 in
+            let row : lane_at (settles s w choices (Some (Opens m))).world l ≡ lane_at w l =
+            get_or-set_other w.lanes m l (with_store (opened_to_settle (lane_at w m).store (choice_in choices 0)) (lane_at w m)) new_lane differs in
+            quiet s l on w (settles s w choices (Some (Opens m))).world lines [] (extra s w l (Settling k))
+            (extra s (settles s w choices (Some (Opens m))).world l (Settling (k + 1))) refl
+            (other_step w (settles s w choices (Some (Opens m))).world k (Opens m) found (λ e. differs (e ∙ sym lane)) sound through next row)
+            (λ sent keeps. subst (λ (x : LaneRow). RowKeeps (caught_in x.ended) sent x.store) (sym row) keeps) kept)
       ]
   settle_kept w lines k choices (Sends m message drops) here sound through next kept =
       elim (cases_eq l m) [
@@ -619,15 +619,15 @@ module _ (s : ScenarioData) (l : ℕ) (on : durable_of s l ≡ true) (some : 1 �
             (sends_kept w lines k message (host_reply s.issuer s.accounts w.messages message) drops
             (here ∙ ap (λ n. Some (Sends n message drops)) (sym same)) through kept)
         | inr differs ↦
-          (let found = step_at s w k (Sends m message drops) here in
-          let lane : m ≡ found.0 = of_lane s some w k found.0 m message drops found.1 in
-          let row : lane_at (settles s w choices (Some (Sends m message drops))).world l ≡ lane_at w l =
-          get_or-set_other w.lanes m l (lane_settled message drops (lane_at w m)) new_lane differs in
-          quiet s l on w (settles s w choices (Some (Sends m message drops))).world lines (settles s w choices (Some (Sends m message drops))).lines
-          (extra s w l (Settling k)) (extra s (settles s w choices (Some (Sends m message drops))).world l (Settling (k + 1)))
-          (other_settle (dialect_of s m) l m differs message (host_reply s.issuer s.accounts w.messages message))
-          (other_step w (settles s w choices (Some (Sends m message drops))).world k (Sends m message drops) found (λ e. differs (e ∙ sym lane)) sound through next row)
-          (λ sent keeps. subst (λ (x : LaneRow). RowKeeps (caught_in x.ended) sent x.store) (sym row) keeps) kept)
+            (let found = step_at s w k (Sends m message drops) here in
+            let lane : m ≡ found.0 = of_lane s some w k found.0 m message drops found.1 in
+            let row : lane_at (settles s w choices (Some (Sends m message drops))).world l ≡ lane_at w l =
+            get_or-set_other w.lanes m l (lane_settled message drops (lane_at w m)) new_lane differs in
+            quiet s l on w (settles s w choices (Some (Sends m message drops))).world lines (settles s w choices (Some (Sends m message drops))).lines
+            (extra s w l (Settling k)) (extra s (settles s w choices (Some (Sends m message drops))).world l (Settling (k + 1)))
+            (other_settle (dialect_of s m) l m differs message (host_reply s.issuer s.accounts w.messages message))
+            (other_step w (settles s w choices (Some (Sends m message drops))).world k (Sends m message drops) found (λ e. differs (e ∙ sym lane)) sound through next row)
+            (λ sent keeps. subst (λ (x : LaneRow). RowKeeps (caught_in x.ended) sent x.store) (sym row) keeps) kept)
       ]
 
   -- a check of a card

@@ -71,25 +71,16 @@ record Placed (cards l : ℕ) (pages : List (Option Memory)) (before bank : List
   pub count : length bank ≡ length before + pages_in pages
 
 module _ (cards : ℕ) (before : List Memory) (blank_before : (i : ℕ) (memory : Memory) → slice_get before i ≡ Some memory → cards ≤ i → IsBlank memory) where
-  placed : (l : ℕ) (pages : List (Option Memory)) → l + length pages ≤ 16 → 64 ≤ length before + pages_in pages + l
-      → ((m : ℕ) (memory : Memory) → slice_get pages m ≡ Some (Some memory) → cards ≤ last_pages - (l + m)) → Placed cards l pages before (with_stores l pages before)
-  placed l [] few room own = record {
-    kept = λ i within. refl;
-    stored = λ m memory there. cc;
-    blank = λ i memory there from free. blank_before i memory there from;
-    count = omega (arith, no_pages);
-  }
-  placed l (page ∷ pages) few room own = with_page page refl
+  placed_next : (l : ℕ) (page : Option Memory) (pages : List (Option Memory)) → l + length (page ∷ pages) ≤ 16
+      → 64 ≤ length before + pages_in (page ∷ pages) + l
+      → ((m : ℕ) (memory : Memory) → slice_get (page ∷ pages) m ≡ Some (Some memory) → cards ≤ last_pages - (l + m))
+      → Placed cards (l + 1) pages before (with_stores (l + 1) pages before) → Placed cards l (page ∷ pages) before (with_stores l (page ∷ pages) before)
+  placed_next l page pages few room own others = with_page page refl
     where
       more : pages_in (page ∷ pages) ≡ cond (is_some page) 1 0 + pages_in pages
       more = pages_more page pages
 
-      others : Placed cards (l + 1) pages before (with_stores (l + 1) pages before)
-      others =
-          placed (l + 1) pages (omega (arith, few)) (omega (arith, room, pages_more page pages, one_page page))
-          (λ m memory there. (let place : l + 1 + m ≡ l + suc m = omega arith in subst (λ n. cards ≤ last_pages - n) (sym place) (own (suc m) memory there)))
-
-      abbrev rest : List Memory
+      rest : List Memory
       rest = with_stores (l + 1) pages before
 
       with_page : (y : Option Memory) → page ≡ y → Placed cards l (page ∷ pages) before (with_stores l (page ∷ pages) before)
@@ -143,8 +134,8 @@ module _ (cards : ℕ) (before : List Memory) (blank_before : (i : ℕ) (memory 
           blank_some i found there from free =
               elim (cases_order i (last_pages - l)) [
                 | inl same ↦
-                  (let none : slice_get (Some memory ∷ pages) 0 ≡ Some None =
-                  free 0 (omega arith) (same ∙ ap (λ n. last_pages - n) (let e : l ≡ l + 0 = omega arith in e)) in cc)
+                    (let none : slice_get (Some memory ∷ pages) 0 ≡ Some None =
+                    free 0 (omega arith) (same ∙ ap (λ n. last_pages - n) (let e : l ≡ l + 0 = omega arith in e)) in cc)
                 | inr (inl below) ↦
                     others.blank i found (sym (insert_below rest (last_pages - l) i memory below fits) ∙ there) from (λ m within place.
                     free (suc m) (omega (arith, within)) (place ∙ ap (λ n. last_pages - n) (let e : l + 1 + m ≡ l + suc m = omega arith in e)))
@@ -156,6 +147,19 @@ module _ (cards : ℕ) (before : List Memory) (blank_before : (i : ℕ) (memory 
               later (suc k) at past =
                   others.blank k found (sym (insert_above rest (last_pages - l) k memory (omega (arith, past)) fits) ∙ at)
                   (omega (arith, past, own_place)) (behind_free k (omega (arith, past)))
+
+  placed : (l : ℕ) (pages : List (Option Memory)) → l + length pages ≤ 16 → 64 ≤ length before + pages_in pages + l
+      → ((m : ℕ) (memory : Memory) → slice_get pages m ≡ Some (Some memory) → cards ≤ last_pages - (l + m)) → Placed cards l pages before (with_stores l pages before)
+  placed l [] few room own = record {
+    kept = λ i within. refl;
+    stored = λ m memory there. cc;
+    blank = λ i memory there from free. blank_before i memory there from;
+    count = omega (arith, no_pages);
+  }
+  placed l (page ∷ pages) few room own =
+      placed_next l page pages few room own
+      (placed (l + 1) pages (omega (arith, few)) (omega (arith, room, pages_more page pages, one_page page))
+      (λ m memory there. (let place : l + 1 + m ≡ l + suc m = omega arith in subst (λ n. cards ≤ last_pages - n) (sym place) (own (suc m) memory there))))
 
 -- the pages of each shelf
 given_at : (shelves : List ShelfSeen) (pages : List (Option Memory)) → StoresAreGiven shelves pages → (l : ℕ) (shelf : ShelfSeen) → slice_get shelves l ≡ Some shelf

@@ -134,16 +134,16 @@ module _ (s : ScenarioData) (p : Payment) (part : Part) (t : LaneTold) (is : pay
         ∙ unfinished_by lost k other u (length lane.ended + 1) end,
   )
     where
-      abbrev lost : Bool
+      lost : Bool
       lost = loses p lane.store end.capture
 
-      abbrev line : Line
+      line : Line
       line = outcome_line lost p.lane (length lane.ended + 1) end
 
-      abbrev now : EndTold
+      now : EndTold
       now = record { heard = heard_behind p [] replies; number = length lane.ended + 1; parts = parts_told lost (Some end) }
 
-      abbrev past : Past
+      past : Past
       past = record { began = lane.began; replies = replies; end = Some end; lost = lost }
 
       closes : fold (told_next p.lane) t (lines ++ line ∷ []) ≡ record { heard = []; ended = t.ended ++ now ∷ [] }
@@ -226,13 +226,13 @@ module _ (s : ScenarioData) (p : Payment) (part : Part) (t : LaneTold) (is : pay
         fold_push (told_next k) u lines line ∙ ap (λ (v : LaneTold). told_next k v line) (unheard k u) ∙ rw (apart k p.lane other) refl,
   )
     where
-      abbrev line : Line
+      line : Line
       line = EndLost p.lane (length part.lane.ended + 1)
 
-      abbrev now : EndTold
+      now : EndTold
       now = record { heard = []; number = length part.lane.ended + 1; parts = None }
 
-      abbrev past : Past
+      past : Past
       past = record { began = None; replies = []; end = None; lost = true }
 
       closes : fold (told_next p.lane) t (lines ++ line ∷ []) ≡ record { heard = []; ended = t.ended ++ now ∷ [] }

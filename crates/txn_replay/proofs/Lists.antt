@@ -116,9 +116,9 @@ pub set_both : {A B : Type 0} (P : ℕ → A → B → Type 0) (xs : List A) (ys
 set_both {A} {B} P xs ys l a b d inside new old j x there =
     elim (cases_eq j l) [
       | inl same ↦
-        (let is : a ≡ x = set_here xs l a x (ap (λ i. slice_get (set xs l a) i) (sym same) ∙ there) in
-        subst (λ (i : ℕ). P i x (get_or (set ys l b) i d)) (sym same)
-        (subst (λ (y : B). P l x y) (sym (get_or-set_same ys l b d inside)) (subst (λ (y : A). P l y b) is new)))
+          (let is : a ≡ x = set_here xs l a x (ap (λ i. slice_get (set xs l a) i) (sym same) ∙ there) in
+          subst (λ (i : ℕ). P i x (get_or (set ys l b) i d)) (sym same)
+          (subst (λ (y : B). P l x y) (sym (get_or-set_same ys l b d inside)) (subst (λ (y : A). P l y b) is new)))
       | inr differs ↦
           subst (λ (y : B). P j x y) (sym (get_or-set_other ys l j b d differs)) (old j x (sym (set_other xs l j a differs) ∙ there))
     ]

@@ -92,6 +92,7 @@ module _ (p : Payment) (part : Part) where
 
   ends_so : (lane : LaneRow) → Later part.lane lane → (lines : List Line) → ((k : ℕ) → told k lines ≡ 0) → (lost : Bool) (end : EndData) (past : Past) → past.lost ≡ lost
       → (after : Part) → after.lane.ended ≡ lane.ended ++ past ∷ [] → Behind after (lines ++ outcome_line lost p.lane (length lane.ended + 1) end ∷ [])
+  unfolding one_if
   ends_so lane later lines none lost end past is after same = record {
     own = own lost refl;
     others = λ k other. others lost k other;
@@ -102,7 +103,6 @@ module _ (p : Payment) (part : Part) where
           ap lost_count same ∙ lost_more lane.ended past ∙ ap (λ (pasts : List Past). lost_count pasts + one_if past.lost) (later_ended part.lane lane later)
 
       own : (b : Bool) → lost ≡ b → lost_count after.lane.ended ≡ lost_count part.lane.ended + told p.lane (lines ++ outcome_line b p.lane (length lane.ended + 1) end ∷ [])
-      unfolding one_if
       own b so =
           let both = told-append p.lane lines (outcome_line b p.lane (length lane.ended + 1) end ∷ []) in
           let last = end_told b p.lane (length lane.ended + 1) end in
@@ -155,6 +155,7 @@ module _ (p : Payment) (part : Part) where
   -- one that is lost before it begins
   lost_so : (lines : List Line) → ((k : ℕ) → told k lines ≡ 0) → (after : Part) → after.lane.ended ≡ (lane_lost part.lane).ended
       → Behind after (lines ++ EndLost p.lane (length part.lane.ended + 1) ∷ [])
+  unfolding one_if
   lost_so lines none after same = record {
     own = own;
     others = λ k other.
@@ -163,7 +164,6 @@ module _ (p : Payment) (part : Part) where
   }
     where
       own : lost_count after.lane.ended ≡ lost_count part.lane.ended + told p.lane (lines ++ EndLost p.lane (length part.lane.ended + 1) ∷ [])
-      unfolding one_if
       own =
           let count : lost_count after.lane.ended ≡ lost_count part.lane.ended + 1 =
           ap lost_count same ∙ lost_more part.lane.ended (record { began = None; replies = []; end = None; lost = true }) in
@@ -221,10 +221,10 @@ module _ (s : ScenarioData) (w : World) (lines : List Line) (choices : List Bool
   turn_lost l None is = calm w (settle_like s w choices None) [] (λ k. refl)
   turn_lost l (Some p) is = λ k. by_lane k (cases_eq k l)
     where
-      abbrev part : Part
+      part : Part
       part = part_of w l p.planned.card
 
-      abbrev m : Moved
+      m : Moved
       m = lane_piece p part (choice_in choices 0) (choice_in choices 1)
 
       lane : p.lane ≡ l

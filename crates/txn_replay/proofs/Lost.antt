@@ -212,7 +212,7 @@ module _ (p : Payment) (part : Part) (before : List Line) (known : (replies : Li
     card_is = λ others runs. cc;
   }
     where
-      abbrev line : List Line
+      line : List Line
       line = outcome_line lost_so p.lane number end ∷ []
 
       quiet : AreQuiet line

@@ -158,33 +158,33 @@ place_of s l [] k at is = cc
 place_of s l (row ∷ rows) k at is =
     elim (append_place (lane_settlements s.copies l row (durable_of s l)) (settlements_from s (l + 1) rows) k at is) [
       | inl here ↦
-        (let same : l ≡ l + 0 = omega arith in
-        record {
-          place = 0;
-          row = row;
-          there = refl;
-          offset = k;
-          is = omega arith;
-          within = subst (λ (n : ℕ). k < length (lane_settlements s.copies n row (durable_of s n))) same here.0;
-          inner = subst (λ (n : ℕ). slice_get (lane_settlements s.copies n row (durable_of s n)) k ≡ Some at) same here.1;
-        })
+          (let same : l ≡ l + 0 = omega arith in
+          record {
+            place = 0;
+            row = row;
+            there = refl;
+            offset = k;
+            is = omega arith;
+            within = subst (λ (n : ℕ). k < length (lane_settlements s.copies n row (durable_of s n))) same here.0;
+            inner = subst (λ (n : ℕ). slice_get (lane_settlements s.copies n row (durable_of s n)) k ≡ Some at) same here.1;
+          })
       | inr later ↦
-        (let one = place_of s (l + 1) rows later.0 at later.2 in
-        let same : l + 1 + one.place ≡ l + suc one.place = omega arith in
-        record {
-          place = suc one.place;
-          row = one.row;
-          there = one.there;
-          offset = one.offset;
-          is = omega (
+          (let one = place_of s (l + 1) rows later.0 at later.2 in
+          let same : l + 1 + one.place ≡ l + suc one.place = omega arith in
+          record {
+            place = suc one.place;
+            row = one.row;
+            there = one.there;
+            offset = one.offset;
+            is = omega (
               arith,
               later.1,
               one.is,
               length-append (lane_settlements s.copies l row (durable_of s l)) (settlements_from s (l + 1) (take one.place rows)),
-          );
-          within = subst (λ (n : ℕ). one.offset < length (lane_settlements s.copies n one.row (durable_of s n))) same one.within;
-          inner = subst (λ (n : ℕ). slice_get (lane_settlements s.copies n one.row (durable_of s n)) one.offset ≡ Some at) same one.inner;
-        })
+            );
+            within = subst (λ (n : ℕ). one.offset < length (lane_settlements s.copies n one.row (durable_of s n))) same one.within;
+            inner = subst (λ (n : ℕ). slice_get (lane_settlements s.copies n one.row (durable_of s n)) one.offset ≡ Some at) same one.inner;
+          })
     ]
 
 -- how many steps come before a lane's own

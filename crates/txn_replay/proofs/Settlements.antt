@@ -235,7 +235,7 @@ module _ (v : WorldSeen) (w : World) (stands : WorldStands v w) where
           step_goes (found ∷ []) k (Opens l) here (record v { lanes = set v.lanes l later; shelves = set v.shelves l behind }) [] refl
           (step_stands (found ∷ []) k (Opens l) here (set v.lanes l later) (set v.shelves l behind) v.host lanes_after shelves_after stands.messages) refl refl
         where
-          abbrev row : LaneRow
+          row : LaneRow
           row = with_store (opened_to_settle store found) (lane_at w l)
 
           within : l < length w.lanes

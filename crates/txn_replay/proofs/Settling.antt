@@ -81,22 +81,22 @@ step_of s l [] k at is = cc
 step_of s l (row ∷ rows) k at is =
     elim (append_at (lane_settlements s.copies l row (durable_of s l)) (settlements_from s (l + 1) rows) k at is) [
       | inl here ↦
-        (let same : l ≡ l + 0 = omega arith in
-        record {
-          place = 0;
-          row = row;
-          there = refl;
-          of_it = subst (λ (n : ℕ). IsOf n row (durable_of s n) at) same (lane_are s.copies l row (durable_of s l) k at here);
-        })
+          (let same : l ≡ l + 0 = omega arith in
+          record {
+            place = 0;
+            row = row;
+            there = refl;
+            of_it = subst (λ (n : ℕ). IsOf n row (durable_of s n) at) same (lane_are s.copies l row (durable_of s l) k at here);
+          })
       | inr later ↦
-        (let one = step_of s (l + 1) rows later.0 at later.1 in
-        let same : l + 1 + one.place ≡ l + suc one.place = omega arith in
-        record {
-          place = suc one.place;
-          row = one.row;
-          there = one.there;
-          of_it = subst (λ (n : ℕ). IsOf n one.row (durable_of s n) at) same one.of_it;
-        })
+          (let one = step_of s (l + 1) rows later.0 at later.1 in
+          let same : l + 1 + one.place ≡ l + suc one.place = omega arith in
+          record {
+            place = suc one.place;
+            row = one.row;
+            there = one.there;
+            of_it = subst (λ (n : ℕ). IsOf n one.row (durable_of s n) at) same one.of_it;
+          })
     ]
 
 -- a lane that keeps its captures durably, whose store the settlement has opened

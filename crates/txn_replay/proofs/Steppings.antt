@@ -41,17 +41,18 @@ steps_count copies l lane row true some ok keeps =
     found_count None = refl
     found_count (Some found) = refl
 
+-- a place is within the first copies, or behind them
+data Where (n copies : ℕ) : Type 0 where
+  inside : n < copies → Where n copies
+  behind : (m : ℕ) → n ≡ copies + m → Where n copies
+
 -- the message of a plain step
 plain_message : (copies l : ℕ) (messages : List (List ℕ)) (n : ℕ) (message : List ℕ) → 1 ≤ copies → slice_get messages (n / copies) ≡ Some message
     → slice_get (flat_map (copies_of copies l) messages) n ≡ Some (Sends l message false)
 plain_message copies l [] n message some here = cc
-plain_message copies l (first ∷ messages) n message some here = by (below n)
+plain_message copies l (first ∷ messages) n message some here = by (λ (m : ℕ) (at : slice_get messages (m / copies) ≡ Some message). plain_message copies l messages m message some at) (below n)
   where
-    data Where : Type 0 where
-      inside : n < copies → Where
-      behind : (m : ℕ) → n ≡ copies + m → Where
-
-    below : (k : ℕ) → Where
+    below : (k : ℕ) → Where n copies
     below k = elim (cases_order n copies) [
       | inl same ↦ behind 0 (omega (arith, same))
       | inr (inl less) ↦ inside less
@@ -63,18 +64,19 @@ plain_message copies l (first ∷ messages) n message some here = by (below n)
     copy_at (suc c) zero x less = refl
     copy_at (suc c) (suc k) x less = copy_at c k x (omega (arith, less))
 
-    by : Where → slice_get (copies_of copies l first ++ flat_map (copies_of copies l) messages) n ≡ Some (Sends l message false)
-    by (inside less) =
+    by : ((m : ℕ) → slice_get messages (m / copies) ≡ Some message → slice_get (flat_map (copies_of copies l) messages) m ≡ Some (Sends l message false))
+        → Where n copies → slice_get (copies_of copies l first ++ flat_map (copies_of copies l) messages) n ≡ Some (Sends l message false)
+    by later (inside less) =
         let is : first ≡ message = same_Some first message (ap (λ q. slice_get (first ∷ messages) q) (sym (div-eq_of_lt less)) ∙ here) in
         append_first (copies_of copies l first) (flat_map (copies_of copies l) messages) n (Sends l message false)
         (ap (λ x. slice_get (replicate copies (Sends l x false)) n) is ∙ copy_at copies n (Sends l message false) less)
-    by (behind m is) =
+    by later (behind m is) =
         let quotient : n / copies ≡ suc (m / copies) =
         ap (λ x. x / copies) is ∙ add-div_left m (omega (arith, some)) ∙ (let e : m / copies + 1 ≡ suc (m / copies) = omega arith in e) in
         let place : n ≡ length (copies_of copies l first) + m = is ∙ ap (λ c. c + m) (sym (length-replicate copies (Sends l first false))) in
         ap (λ k. slice_get (copies_of copies l first ++ flat_map (copies_of copies l) messages) k) place
         ∙ append_second (copies_of copies l first) (flat_map (copies_of copies l) messages) m
-        ∙ plain_message copies l messages m message some (sym (ap (λ q. slice_get (first ∷ messages) q) quotient) ∙ here)
+        ∙ later m (sym (ap (λ q. slice_get (first ∷ messages) q) quotient) ∙ here)
 
 -- what is found is the step of this number
 pub step_found : (s : ScenarioData) (l : ℕ) (lane : Lane) (row : LaneRow) (number : ℕ) (found : Settling) → 1 ≤ s.copies
@@ -88,7 +90,7 @@ step_found s l lane row number found some ok keeps within is = by (durable_of s 
     by false off (settling.Sends lane_at message) inside so = (
       Sends l message.now.items false,
       plain_message s.copies l row.captures number message.now.items some
-      (ap (λ ms. slice_get ms (number / s.copies)) (sym keeps.captures) ∙ so.1),
+          (ap (λ ms. slice_get ms (number / s.copies)) (sym keeps.captures) ∙ so.1),
       (sym so.0, refl, refl, off),
     )
     by false off (settling.Opens lane_at) inside so = absurd so

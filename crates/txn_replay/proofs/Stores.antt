@@ -352,7 +352,7 @@ module _ (s : ScenarioData) where
       (by (durable_of s l) (payment_facts s l _ p is).durable (stand.lanes l)) stand.lanes k
     where
       first : (lane_at w l).store.found ≡ None
-      first = elim (stand.before l) [ | inl none ↦ none | inr over ↦ absurd (not_over s w l p is over) ]
+      first = elim (stand.before l) [ inl none ↦ none | inr over ↦ absurd (not_over s w l p is over) ]
 
       by : (durable : Bool) → p.durable ≡ durable → StoredBy durable (lane_at w l)
           → StoredBy durable (lane_piece p (part_of w l p.planned.card) (choice_in choices 0) (choice_in choices 1)).part.lane
@@ -369,7 +369,7 @@ module _ (s : ScenarioData) where
       (piece_found p (part_of w l p.planned.card) (choice_in choices 0) (choice_in choices 1) (first l)) first k)
     where
       first : (i : ℕ) → (lane_at w i).store.found ≡ None
-      first i = elim (stand.before i) [ | inl none ↦ none | inr over ↦ absurd (not_over s w l p is over) ]
+      first i = elim (stand.before i) [ inl none ↦ none | inr over ↦ absurd (not_over s w l p is over) ]
 
   pub turn_stand : (w : World) (l : ℕ) (choices : List Bool) → StoresStand s w → StoresStand s (happens s w (Turn l) choices).world
   turn_stand w l choices stand = record {
@@ -414,9 +414,9 @@ module _ (s : ScenarioData) where
   audit_stand : (w : World) (choices : List Bool) (o : Option Check) → StoresStand s w → StoresStand s (audits w choices o).world
   audit_stand w choices None stand = stand
   audit_stand w choices (Some (PowersUp i card)) stand =
-      record { lanes = stand.lanes; before = λ k. elim (stand.before k) [ | inl none ↦ inl none | inr over ↦ inr over ] }
+      record { lanes = stand.lanes; before = λ k. elim (stand.before k) [ inl none ↦ inl none | inr over ↦ inr over ] }
   audit_stand w choices (Some (Asks i card command)) stand =
-      record { lanes = stand.lanes; before = λ k. elim (stand.before k) [ | inl none ↦ inl none | inr over ↦ inr over ] }
+      record { lanes = stand.lanes; before = λ k. elim (stand.before k) [ inl none ↦ inl none | inr over ↦ inr over ] }
 
   pub first_stand : StoresStand s (first_world s)
   first_stand = record {

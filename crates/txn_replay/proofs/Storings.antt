@@ -64,7 +64,7 @@ lost_keeps lane row keeps = record {
   ending = ap (λ (o : Option Past). option_and_then (λ past. option_map (λ end. end.ending) past.end) o) (sym (last_past-push row.ended gone));
 }
   where
-    abbrev gone : Past
+    gone : Past
     gone = record { began = None; replies = []; end = None; lost = true }
 
 -- with another store, and other messages made for the host
@@ -330,7 +330,7 @@ pub stored_shelf : (p : Payment) (row : LaneRow) (replies : List Reply) (end : E
     → ShelfStands behind p (lane_ended p replies end row)
 stored_shelf p row replies end shelf behind outcome durable stands on stored =
     subst (λ (b : Bool). ShelfFor behind (record (lane_ended p replies end row) {
-      store = (if b then ended_by plan row.store end.capture else row.store)
+      store = (if b then ended_by plan row.store end.capture else row.store);
     }) plan b) (sym durable)
     (record {
       place = subst (λ (o : Option ℕ). StorePlace behind (ended_by plan row.store end.capture) plan o) (sym (ended_off plan row.store end.capture))
@@ -338,7 +338,7 @@ stored_shelf p row replies end shelf behind outcome durable stands on stored =
       losses = stored.losses ∙ ap (λ n. losses_behind outcome n) own.losses ∙ by outcome lost_is;
     })
   where
-    abbrev plan : Option Tear
+    plan : Option Tear
     plan = p.planned.terminal_tear
 
     own : StoreStands shelf row plan

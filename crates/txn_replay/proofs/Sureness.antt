@@ -77,11 +77,12 @@ any_end (line ∷ lines) lost lane number end = ap (λ b. is_answer line || b) (
 
 any_both : (xs ys : List Line) → list_any is_answer xs ≡ false → list_any is_answer ys ≡ false → list_any is_answer (xs ++ ys) ≡ false
 any_both [] ys first second = second
-any_both (x ∷ xs) ys first second = by (is_answer x) first
+any_both (x ∷ xs) ys first second = by (λ (none : list_any is_answer xs ≡ false). any_both xs ys none second) (is_answer x) first
   where
-    by : (b : Bool) → (b || list_any is_answer xs) ≡ false → (b || list_any is_answer (xs ++ ys)) ≡ false
-    by true none = none
-    by false none = any_both xs ys none second
+    by : (list_any is_answer xs ≡ false → list_any is_answer (xs ++ ys) ≡ false) → (b : Bool) → (b || list_any is_answer xs) ≡ false
+        → (b || list_any is_answer (xs ++ ys)) ≡ false
+    by later true none = none
+    by later false none = later none
 
 any_copies : (p : Payment) (message : List ℕ) (messages : List (List ℕ)) (n : ℕ) → list_any is_answer (copy_lines p message messages n) ≡ false
 any_copies p message messages zero = refl

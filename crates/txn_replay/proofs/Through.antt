@@ -48,11 +48,11 @@ lanes_behind s i (r ∷ rows) (suc l) (suc m) row there below =
     let own : length (lane_settlements s.copies (i + 1 + l) row (durable_of s (i + 1 + l))) ≡ length (lane_settlements s.copies (i + suc l) row (durable_of s (i + suc l))) =
     ap (λ n. length (lane_settlements s.copies n row (durable_of s n))) same in
     omega (
-        arith,
-        others,
-        own,
-        length-append (lane_settlements s.copies i r (durable_of s i)) (settlements_from s (i + 1) (take l rows)),
-        length-append (lane_settlements s.copies i r (durable_of s i)) (settlements_from s (i + 1) (take m rows)),
+      arith,
+      others,
+      own,
+      length-append (lane_settlements s.copies i r (durable_of s i)) (settlements_from s (i + 1) (take l rows)),
+      length-append (lane_settlements s.copies i r (durable_of s i)) (settlements_from s (i + 1) (take m rows)),
     )
 
 -- how many steps a lane has
@@ -359,7 +359,7 @@ turn_untouched s w l choices (Some p) is stand untouched = record {
       (lane_piece p part (choice_in choices 0) (choice_in choices 1)).part.lane new_lane (by p.durable refl (stand.lanes l)) untouched.next k;
 }
   where
-    abbrev part : Part
+    part : Part
     part = part_of w l p.planned.card
 
     by : (durable : Bool) → p.durable ≡ durable → StoredBy (durable_of s l) (lane_at w l) → (made : ℕ)
@@ -438,8 +438,8 @@ emptied_by s w k l some sound on through past =
         elim (cases_order k (length (settlements s w))) [
           | inl same ↦ omega (arith, same)
           | inr (inl below) ↦
-            (let there = some_at (settlements s w) k below in
-            let no : None ≡ Some there.0 = sym past ∙ there.1 in cc)
+              (let there = some_at (settlements s w) k below in
+              let no : None ≡ Some there.0 = sym past ∙ there.1 in cc)
           | inr (inr behind) ↦ omega (arith, behind)
         ]
 

@@ -91,7 +91,7 @@ module _ (v : WorldSeen) (w : World) (stands : WorldStands v w) (l : ℕ) (p : P
 
   -- before every purchase is over no store is opened for settlement
   first : (lane_at w l).store.found ≡ None
-  first = elim (stands.stored.before l) [ | inl none ↦ none | inr over ↦ absurd (not_over v.scenario w l p is over) ]
+  first = elim (stands.stored.before l) [ inl none ↦ none | inr over ↦ absurd (not_over v.scenario w l p is over) ]
 
   pub part_stands : PartStands p lane shelf slot (part_of w l p.planned.card)
   part_stands = record {

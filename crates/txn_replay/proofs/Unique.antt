@@ -266,7 +266,7 @@ audit_found w i card found = record {
 opened_any : (store : StoreRow) → store.lost ≡ None → (a b : Bool) → opened store a ≡ opened store b
 opened_any store none a b = ap (λ (lost : Option Call). by lost a) none ∙ sym (ap (λ (lost : Option Call). by lost b) none)
   where
-    abbrev by : Option Call → Bool → StoreRow
+    by : Option Call → Bool → StoreRow
     by lost found = record store { list = found_by store.list lost found; lost = None; commits = Some 0 }
 
 module _ (s : ScenarioData) (w : World) (none : IsClosed w) where
@@ -327,7 +327,7 @@ module _ (s : ScenarioData) (w : World) (none : IsClosed w) where
       ap (λ (store : StoreRow). settled_with_store l (record store { found = Some store.list }))
       (opened_any (lane_at w l).store (none.stores l) (choice_in choices 0) (choice_in others 0))
     where
-      abbrev settled_with_store : ℕ → StoreRow → After
+      settled_with_store : ℕ → StoreRow → After
       settled_with_store lane store =
           record { world = with_lane w lane (with_store store (lane_at w lane)); lines = []; choices = 1 }
   settled_any choices others (Some (Sends l message drops)) = refl

@@ -31,9 +31,9 @@ module _ (Q : Moved → Type 0) (p : Payment) (part : Part)
     (goes : (choice : Bool) → Goes p part → Q (piece p part choice))
     (loses : AtRest p part → part.lane.store.commits ≡ None → is_named p.planned.terminal_tear 0 ≡ true → Q (lost_with p part []))
     (finds : (one : Bool) → AtRest p part → part.lane.store.commits ≡ None → (opened_to_add part.lane.store one).due ≡ true
-        → Q (record { part = part_with (opened_to_add part.lane.store one) part; lines = []; choices = 1 }))
+    → Q (record { part = part_with (opened_to_add part.lane.store one) part; lines = []; choices = 1 }))
     (opens : (one other : Bool) → AtRest p part → part.lane.store.commits ≡ None → (opened_to_add part.lane.store one).due ≡ false
-        → Q (more_chosen (piece p (part_with (opened_to_add part.lane.store one) part) other)))
+    → Q (more_chosen (piece p (part_with (opened_to_add part.lane.store one) part) other)))
     (sends : AtRest p part → IsOn part true → Q (delivers p part)) where
   by_due : (one other due : Bool) → (opened_to_add part.lane.store one).due ≡ due → AtRest p part → part.lane.store.commits ≡ None
       → Q (behind p one other (opened_for (part_with (opened_to_add part.lane.store one) part) due))

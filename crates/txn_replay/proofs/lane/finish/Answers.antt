@@ -45,8 +45,8 @@ returns-in-Told-clause-stands g c = λ issuer accounts replies row stands shelf_
     let capture : c.ended.inside.capture ≡ end.capture = ap (λ (x : EndShown). x.capture) c.ended.view_is ∙ ap (λ (x : EndShown). x.capture) (sym same) in
     let amount : c.args.at.now.planned.now.purchase.amount ≡ c.amount_of-amount.result = sym c.amount_of-amount.ensures in
     let shelf = ending_shelf p row replies end c.args.shelf.now c.keep_capture.new.shelf c.keep_capture.result shelf_is c.requires.room
-        (λ durable. subst (λ (o : Option (List ℕ)). IsStoredBy c.args.shelf.now c.keep_capture.new.shelf p.planned.terminal_tear o c.keep_capture.result) capture
-        (c.keep_capture.ensures.stored durable)) c.keep_capture.ensures.told in
+    (λ durable. subst (λ (o : Option (List ℕ)). IsStoredBy c.args.shelf.now c.keep_capture.new.shelf p.planned.terminal_tear o c.keep_capture.result) capture
+    (c.keep_capture.ensures.stored durable)) c.keep_capture.ensures.told in
     let told : false ≡ loses p row.store end.capture = ap is_lost (sym c.in-Told.is) ∙ shelf.1 in
     let log : c.add_approval.new.log.items ≡ row.log ++ (if loses p row.store end.capture then [] else approval c.args.at.now.planned.now.purchase end.ending end.card) =
     c.add_approval.ensures.appended c.args.at.now.planned.now.purchase end.card amount pan
@@ -96,8 +96,8 @@ returns-in-Lost-clause-stands g c = λ issuer accounts replies row stands shelf_
     let capture : c.ended.inside.capture ≡ end.capture = ap (λ (x : EndShown). x.capture) c.ended.view_is ∙ ap (λ (x : EndShown). x.capture) (sym same) in
     let amount : c.args.at.now.planned.now.purchase.amount ≡ c.amount_of-amount.result = sym c.amount_of-amount.ensures in
     let shelf = ending_shelf p row replies end c.args.shelf.now c.keep_capture.new.shelf c.keep_capture.result shelf_is c.requires.room
-        (λ durable. subst (λ (o : Option (List ℕ)). IsStoredBy c.args.shelf.now c.keep_capture.new.shelf p.planned.terminal_tear o c.keep_capture.result) capture
-        (c.keep_capture.ensures.stored durable)) c.keep_capture.ensures.told in
+    (λ durable. subst (λ (o : Option (List ℕ)). IsStoredBy c.args.shelf.now c.keep_capture.new.shelf p.planned.terminal_tear o c.keep_capture.result) capture
+    (c.keep_capture.ensures.stored durable)) c.keep_capture.ensures.told in
     let told : true ≡ loses p row.store end.capture = ap is_lost (sym c.in-Lost.is) ∙ shelf.1 in
     let log : c.args.lane.now.log.items ≡ row.log ++ (if loses p row.store end.capture then [] else approval c.args.at.now.planned.now.purchase end.ending end.card) =
     stands.keeps.log ∙ sym (append-nil row.log)

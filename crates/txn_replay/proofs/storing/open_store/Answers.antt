@@ -20,9 +20,9 @@ returns-in-Ok-clause-opened g c = λ issuer accounts part host rests messages.
     let off = store_off p c.args.lane.now c.args.shelf.now part rests c.requires.durable c.requires.off in
     let found = c.in-Ok.ensures.opened part.lane.store off in
     let way = before_opened p c.args.lane.now c.args.shelf.now part rests c.requires.durable found.0
-        (off_none c.args.shelf.now part.lane.store off) c.in-Ok.ensures.spared in (
+    (off_none c.args.shelf.now part.lane.store off) c.in-Ok.ensures.spared in (
       found.0,
       subst (λ (b : Before). PreparedBy p c.args.lane.now c.open.new.self host c.args.lines.now.items (not c.is_full.result) b) (sym way)
-      (opened_prepared p c.args.lane.now c.args.shelf.now part rests c.requires.durable found.0 c.is_full.result c.open.new.self host c.args.lines.now.items found.1
-      (c.in-Ok.ensures.losses) messages c.requires.lines (c.is_full.ensures.row _ _ found.1)),
+          (opened_prepared p c.args.lane.now c.args.shelf.now part rests c.requires.durable found.0 c.is_full.result c.open.new.self host c.args.lines.now.items found.1
+          (c.in-Ok.ensures.losses) messages c.requires.lines (c.is_full.ensures.row _ _ found.1)),
     )
