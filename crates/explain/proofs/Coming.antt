@@ -1,5 +1,5 @@
 -- One byte more of a report.
-use Rattle.std.proofs.Common.{◌≡◌, ◌≢◌, ℕ, ◌+◌, ◌<◌, Bool, true, false, cond, eqb, List, [], ◌∷◌, ◌++◌, length, take, get_or, refl, sym, ap, subst, ◌∙◌, append_assoc, arith}
+use Rattle.std.proofs.Common.{◌≡◌, ◌≢◌, ℕ, ◌+◌, ◌<◌, Bool, true, false, cond, eqb, List, [], ◌∷◌, ◌++◌, length, take, get_or, refl, sym, ap, subst, ◌∙◌, append_assoc, arith, inl}
 use Rattle.std.specs.List.{flat_map}
 use Rattle.std.specs.declared.option.Option.{Option}
 use Rattle.std.specs.Io.KnownBytes.{Appends}
@@ -11,9 +11,8 @@ use Rattle.std.proofs.lemmas.List.Elements.{All-nil, All-push}
 use Rattle.std.proofs.lemmas.List.Folds.{list_any-append}
 use Rattle.emv_ports.specs.Growth.{AppendsFront}
 use Rattle.emv_ports.proofs.Growth.{Appends-none, Appends-more, AppendsFront-first, AppendsFront-second}
-use Rattle.word_lines.specs.Lines.{AreWordLines}
 use Rattle.word_lines.proofs.Stages.{no_words}
-use Rattle.explain.specs.Told.{Told, IsTold, HasNoNewline, line_of, told_of, rest_of, Explains}
+use Rattle.explain.specs.Told.{Told, IsTold, IsSaid, HasNoNewline, line_of, told_of, rest_of, Explains}
 use Rattle.explain.specs.Course.{SoFar, Stopped, Ended}
 
 -- what of two texts is left is what is left of each
@@ -136,9 +135,13 @@ kept_shown : (all shown : Bool) → (shown ≡ false → all ≡ false) → all 
 kept_shown all true kept a = refl
 kept_shown all false kept a = absurd (false≢true (sym (kept refl) ∙ a))
 
+-- no words behind a line
+unsaid : (text : List ℕ) → IsSaid text []
+unsaid text = record { lines = no_words; made = inl refl }
+
 -- a line has ended: what it is told as, as far as it was not handed on before
 pub record EndsLine (all : Bool) (head p words : List ℕ) (shown : Bool) (piece : List ℕ) : Type 0 where
-  pub word_lines : AreWordLines words
+  pub said : IsSaid (head ++ p) words
   pub kept : all ≡ true → shown ≡ true
   pub told : rest_of all head ++ piece ≡ told_of (record { text = head ++ p; words = words; shown = shown })
 
@@ -148,7 +151,7 @@ so_far_line all long p seen words piece shown first old new s e more =
     let t : Told = record { text = s.head ++ p; words = words; shown = shown } in record {
       told = s.told ++ t ∷ [];
       head = [];
-      lines = All-push IsTold s.told t s.lines (record { one_line = s.no_line; word_lines = e.word_lines });
+      lines = All-push IsTold s.told t s.lines (record { one_line = s.no_line; said = e.said });
       shown = λ a. All-push (λ t. t.shown ≡ true) s.told t (s.shown a) (e.kept a);
       no_line = no_newline-nothing;
       short = λ a. refl;
@@ -169,7 +172,7 @@ stopped_line all long p seen words piece shown first old new s e more =
       explains = record {
         told = s.told ++ t ∷ [];
         rest = [];
-        lines = All-push IsTold s.told t s.lines (record { one_line = s.no_line; word_lines = e.word_lines });
+        lines = All-push IsTold s.told t s.lines (record { one_line = s.no_line; said = e.said });
         shown = λ a. All-push (λ t. t.shown ≡ true) s.told t (s.shown a) (e.kept a);
         no_line = no_newline-nothing;
         input_is = ap (λ (x : List ℕ). x ++ 10 ∷ []) s.seen_is ∙ append_assoc (flat_map line_of s.told) (s.head ++ p) (10 ∷ [])
@@ -182,10 +185,10 @@ stopped_line all long p seen words piece shown first old new s e more =
     }
 
 -- a line that is not too long is handed on whole, with its words
-pub ends_short : (all shown : Bool) (head p words : List ℕ) → head ≡ [] → AreWordLines words → (all ≡ true → shown ≡ true)
+pub ends_short : (all shown : Bool) (head p words : List ℕ) → head ≡ [] → IsSaid p words → (all ≡ true → shown ≡ true)
     → EndsLine all head p words shown (cond shown ((p ++ 10 ∷ []) ++ words) [])
-ends_short all shown head p words none lines kept = record {
-  word_lines = lines;
+ends_short all shown head p words none said kept = record {
+  said = subst (λ (h : List ℕ). IsSaid (h ++ p) words) (sym none) said;
   kept = kept;
   told = ap (λ (h : List ℕ). rest_of all h ++ cond shown ((p ++ 10 ∷ []) ++ words) []) none
       ∙ ap (λ (x : List ℕ). x ++ cond shown ((p ++ 10 ∷ []) ++ words) []) (rest_of-nothing all)
@@ -195,12 +198,12 @@ ends_short all shown head p words none lines kept = record {
 -- the end of one that is too long is handed on without words
 pub ends_long : (all : Bool) (head p : List ℕ) → EndsLine all head p [] all (rest_of all (p ++ 10 ∷ []))
 ends_long true head p = record {
-  word_lines = no_words;
+  said = unsaid (head ++ p);
   kept = λ e. refl;
   told = sym (append_assoc head p (10 ∷ [])) ∙ sym (append-nil ((head ++ p) ++ 10 ∷ []));
 }
 ends_long false head p = record {
-  word_lines = no_words;
+  said = unsaid (head ++ p);
   kept = λ e. e;
   told = refl;
 }
@@ -239,7 +242,7 @@ abbrev pub short_piece : Bool → List ℕ → List ℕ → List ℕ
 short_piece shown text words = cond shown ((text ++ 10 ∷ []) ++ words) []
 
 pub so_far_short_at : (all long shown : Bool) (p seen text words empty : List ℕ) (first old new : Option (List ℕ)) → text ≡ p → empty ≡ [] → long ≡ false
-    → AreWordLines words → (shown ≡ false → all ≡ false) → SoFar all p long seen first old → Appends old new (short_piece shown text words)
+    → IsSaid p words → (shown ≡ false → all ≡ false) → SoFar all p long seen first old → Appends old new (short_piece shown text words)
     → SoFar all empty long (seen ++ 10 ∷ []) first new
 so_far_short_at all long shown p seen text words empty first old new e none short lines kept s more =
     subst (λ (t : List ℕ). SoFar all t long (seen ++ 10 ∷ []) first new) (sym none)
@@ -248,7 +251,7 @@ so_far_short_at all long shown p seen text words empty first old new e none shor
     (subst (λ (t : List ℕ). Appends old new (short_piece shown t words)) e more)))
 
 pub stopped_short_at : (all long shown : Bool) (p seen text words : List ℕ) (first old new : Option (List ℕ)) → text ≡ p → long ≡ false
-    → AreWordLines words → (shown ≡ false → all ≡ false) → SoFar all p long seen first old → AppendsFront old new (short_piece shown text words)
+    → IsSaid p words → (shown ≡ false → all ≡ false) → SoFar all p long seen first old → AppendsFront old new (short_piece shown text words)
     → Stopped all (seen ++ 10 ∷ []) first new
 stopped_short_at all long shown p seen text words first old new e short lines kept s more =
     stopped_line all long p seen words (short_piece shown p words) shown first old new s (ends_short all shown s.head p words (s.short short) lines (kept_shown all shown kept))
@@ -258,7 +261,7 @@ stopped_short_at all long shown p seen text words first old new e short lines ke
 pub stopped_untold : (all long : Bool) (p seen : List ℕ) (first held : Option (List ℕ)) → long ≡ false → SoFar all p long seen first held
     → Stopped all (seen ++ 10 ∷ []) first held
 stopped_untold all long p seen first held short s =
-    stopped_line all long p seen [] (short_piece all p []) all first held held s (ends_short all all s.head p [] (s.short short) no_words (λ a. a))
+    stopped_line all long p seen [] (short_piece all p []) all first held held s (ends_short all all s.head p [] (s.short short) (unsaid p) (λ a. a))
     (record { rest = short_piece all p []; so_far = record { done = []; written = Appends-none held; splits = refl } })
 
 -- bytes that have come so far, one more
@@ -281,7 +284,7 @@ so_far_push_at all long p seen pushed b first held other e s =
 
 -- a short line, with the teller's values behind its words
 pub so_far_short_told : (all long all' long' shown : Bool) (p p' seen text words told empty : List ℕ) (first old new : Option (List ℕ)) → all' ≡ all → long' ≡ long → p' ≡ p
-    → text ≡ p' → told ≡ words → empty ≡ [] → long ≡ false → AreWordLines words → (shown ≡ false → all ≡ false) → SoFar all p long seen first old
+    → text ≡ p' → told ≡ words → empty ≡ [] → long ≡ false → IsSaid p words → (shown ≡ false → all ≡ false) → SoFar all p long seen first old
     → Appends old new (short_piece shown text told) → SoFar all' empty long' (seen ++ 10 ∷ []) first new
 so_far_short_told all long all' long' shown p p' seen text words told empty first old new a l e e' w none short lines kept s more =
     subst (λ (x : Bool). SoFar x empty long' (seen ++ 10 ∷ []) first new) (sym a)
@@ -290,7 +293,7 @@ so_far_short_told all long all' long' shown p p' seen text words told empty firs
     (subst (λ (t : List ℕ). Appends old new (short_piece shown text t)) w more)))
 
 pub stopped_short_told : (all long shown : Bool) (p p' seen text words told : List ℕ) (first old new : Option (List ℕ)) → p' ≡ p
-    → text ≡ p' → told ≡ words → long ≡ false → AreWordLines words → (shown ≡ false → all ≡ false) → SoFar all p long seen first old
+    → text ≡ p' → told ≡ words → long ≡ false → IsSaid p words → (shown ≡ false → all ≡ false) → SoFar all p long seen first old
     → AppendsFront old new (short_piece shown text told) → Stopped all (seen ++ 10 ∷ []) first new
 stopped_short_told all long shown p p' seen text words told first old new e e' w short lines kept s more =
     stopped_short_at all long shown p seen text words first old new (e' ∙ e) short lines kept s

@@ -1,10 +1,11 @@
 -- What the program makes of a report.
-use Rattle.std.specs.Prelude.{ℕ, ◌≡◌, ◌==◌, ◌<◌, Bool, true, false, if◌then◌else◌, List, [], ◌∷◌, ◌++◌, length}
+use Rattle.std.specs.Prelude.{ℕ, ◌≡◌, ◌==◌, ◌<◌, ◌⊎◌, Bool, true, false, if◌then◌else◌, List, [], ◌∷◌, ◌++◌, length}
 use Rattle.std.specs.List.{All, list_any, flat_map}
 use Rattle.std.specs.declared.option.Option.{Option}
 use Rattle.std.specs.Io.KnownBytes.{Appends, Consumes, IsAtEnd}
 use Rattle.emv_ports.specs.Growth.{AppendsFront}
 use Rattle.word_lines.specs.Lines.{AreWordLines}
+use Rattle.narrator.specs.Words.{IsMade, line_words}
 
 -- a text within a line
 unfoldable pub HasNoNewline : List ℕ → Type 0
@@ -16,10 +17,16 @@ pub record Told : Type 0 where
   pub words : List ℕ
   pub shown : Bool
 
--- a line, with lines of words that begin with two blanks, or none
+-- the words behind a line: lines that begin with two blanks, or none; and where the line alone says what is told of it,
+-- these are they
+pub record IsSaid (text words : List ℕ) : Type 0 where
+  pub lines : AreWordLines words
+  pub made : (words ≡ []) ⊎ IsMade (line_words text) words
+
+-- a line with its words
 pub record IsTold (told : Told) : Type 0 where
   pub one_line : HasNoNewline told.text
-  pub word_lines : AreWordLines told.words
+  pub said : IsSaid told.text told.words
 
 -- the line as it came
 abbrev pub line_of : Told → List ℕ

@@ -4,6 +4,7 @@ ghost use Rattle.std.specs.declared.option.Option.{Option};
 ghost use Rattle.std.specs.Io.KnownBytes.{Appends};
 ghost use Rattle.arrayvec.specs.ArrayVec.{array_vec_len};
 ghost use Rattle.emv_ports.specs.Growth.{AppendsFront};
+ghost use Rattle.narrator.specs.Words.{IsMade, line_words};
 ghost use Rattle.word_lines.specs.Lines.{AreWordLines};
 ghost use Rattle.explain.specs.Course.{SoFar, Stopped, Ended, HasStop};
 ghost use Rattle.explain.specs.Told.{rest_of};
@@ -181,6 +182,7 @@ fn end_long<K: Sink>(teller: &mut Teller, sink: &mut K) -> Result<(), Stop>
 /// The words of the line that has come, and whether it is left by the filters.
 fn tell(teller: &mut Teller) -> Result<bool, AllocError>
     ensures words { OnOk result (AreWordLines teller.new.words.bytes) }
+    ensures made { OnOk result (IsMade (line_words teller.old.line.items) teller.new.words.bytes) }
     ensures kept { IfOk result (λ shown. shown ≡ false → teller.old.all ≡ false) }
     ensures line { teller.new.line.items ≡ teller.old.line.items }
     ensures long { teller.new.long ≡ teller.old.long }

@@ -1,10 +1,15 @@
 //! The teller of a report's lines.
-ghost use Rattle.std.specs.Prelude.{◌≡◌, OnOk, IfOk};
+ghost use Rattle.std.specs.Prelude.{◌≡◌, [], OnOk, option_map, unwrap_or};
+ghost use Rattle.narrator.specs.Words as spec;
+ghost use Rattle.narrator.specs.Words.{TellsAlone, IsMade};
+ghost use Rattle.report_lines.specs.Reading.{seen_line, seen_what};
 ghost use Rattle.word_lines.specs.Lines.{AreWordLines};
+ghost use Rattle.word_lines.specs.Pieces.{Tells};
 
 use crate::cards::CardSeen;
 use crate::ending::tell_end;
 use crate::filter::Filter;
+use crate::phrases::{CARD_GONE, NO_REPLY, POWER_CANNED, POWER_TORN, PURCHASE_LOST};
 use crate::power::tell_power;
 use crate::report::tell_of_report;
 use exchange_words::{
@@ -29,43 +34,35 @@ pub struct Narrator {
     cards: Vec<CardSeen>,
 }
 
-/// The bytes that a line has, in hexadecimal.
+/// The bytes that a line of the settlement has, in hexadecimal.
 fn hexadecimal<'a>(what: &What<'a>) -> Option<&'a [u8]> {
     match what {
         What::Sent(bytes) | What::Given(bytes) => Some(bytes),
-        What::ToHost(bytes) | What::FromHost(bytes) => Some(bytes),
         _ => None,
     }
 }
 
-/// Tells a line of a lane that has no bytes.
-fn tell_event(out: &mut WordLines, lane: &mut LaneState, what: &What<'_>, brief: bool) {
+/// The phrase of a line of a lane or of the audit that tells enough by itself.
+fn phrase_of(what: &What<'_>) -> Option<&'static [u8]>
+    ensures { option_map (λ phrase. phrase.now) result ≡ spec.phrase_of (seen_what what.now) }
+{
     match what {
-        What::Torn => tell_torn(out, lane.command.as_slice()),
-        What::Gone => {
-            out.line(1);
-            out.text(b"the card has no answer left: for the terminal it is gone");
-        }
-        What::NoReply => {
-            out.line(1);
-            out.text(b"no reply: request or reply was lost");
-        }
-        What::End {
-            number,
-            ending,
-            fields,
-        } => {
-            tell_end(out, lane, ending, fields, brief);
-            lane.last_end = *number;
-        }
-        What::Lost(number) => {
-            out.line(1);
-            out.text(
-                b"the terminal lost power while it wrote to its own memory: whether the purchase is kept shows at its settlement",
-            );
-            lane.last_end = *number;
-        }
-        _ => {}
+        What::PowerTorn(_) => Some(POWER_TORN),
+        What::PowerCanned(_) => Some(POWER_CANNED),
+        What::Gone => Some(CARD_GONE),
+        What::NoReply => Some(NO_REPLY),
+        What::Lost(_) => Some(PURCHASE_LOST),
+        _ => None,
+    }
+}
+
+/// Tells a line of a lane or of the audit that tells enough by itself.
+fn tell_alone(out: &mut WordLines, what: &What<'_>)
+    ensures { Tells out.old out.new (unwrap_or (spec.of_talk (seen_what what.now)) []) }
+{
+    if let Some(phrase) = phrase_of(what) {
+        out.line(1);
+        out.text(phrase);
     }
 }
 
@@ -125,27 +122,51 @@ impl Narrator {
         }
     }
 
-    /// Tells a line of the talk with a card or with the issuer.
+    /// Tells a command, an answer or a message of a lane or of the audit, which stands in hexadecimal.
     fn tell_exchange(
         &mut self,
         place: u8,
         what: &What<'_>,
+        text: &[u8],
         out: &mut WordLines,
     ) -> Result<(), AllocError> {
-        match hexadecimal(what) {
-            Some(text) => {
-                if let Some(bytes) = bytes_of(self.alloc, text)? {
-                    self.tell_bytes(place, what, bytes.as_slice(), out);
-                }
-            }
-            None => {
-                let brief = self.filter.brief;
-                if let Some(lane) = self.lanes.get_mut(usize::from(place)) {
-                    tell_event(out, lane, what, brief);
-                }
-            }
+        if let Some(bytes) = bytes_of(self.alloc, text)? {
+            self.tell_bytes(place, what, bytes.as_slice(), out);
         }
         Ok(())
+    }
+
+    /// Tells that the power was cut, or that a purchase ended, from what the lane's lines before it left.
+    fn tell_of_lane(&mut self, place: u8, what: &What<'_>, out: &mut WordLines) {
+        let brief = self.filter.brief;
+        let Some(lane) = self.lanes.get_mut(usize::from(place)) else {
+            return;
+        };
+        match what {
+            What::Torn => tell_torn(out, lane.command.as_slice()),
+            What::End {
+                number,
+                ending,
+                fields,
+            } => {
+                tell_end(out, lane, ending, fields, brief);
+                lane.last_end = *number;
+            }
+            _ => {}
+        }
+    }
+
+    /// Keeps what a line that tells enough by itself leaves: a card that is powered up leaves nothing of the
+    /// last one, and a lost purchase its number.
+    fn keep(&mut self, place: u8, what: &What<'_>) {
+        let Some(lane) = self.lanes.get_mut(usize::from(place)) else {
+            return;
+        };
+        match what {
+            What::PowerTorn(_) | What::PowerCanned(_) => lane.begin(),
+            What::Lost(number) => lane.last_end = *number,
+            _ => {}
+        }
     }
 
     /// Forgets what the lane's last card gave.
@@ -156,30 +177,27 @@ impl Narrator {
     }
 
     /// Tells a line of a lane or of the audit.
-    fn tell_at(
-        &mut self,
-        place: u8,
-        what: &What<'_>,
-        out: &mut WordLines,
-    ) -> Result<(), AllocError> {
+    fn tell_at(&mut self, place: u8, what: &What<'_>, out: &mut WordLines) -> Result<(), AllocError>
+        ensures { OnOk result (TellsAlone (spec.of_talk (seen_what what.now)) out.old out.new) }
+    {
         match what {
             What::Power { card, apps } => {
                 self.begin(place);
                 tell_power(out, &mut self.cards, card, apps)
             }
-            What::PowerTorn(_) => {
-                self.begin(place);
-                out.line(1);
-                out.text(b"the card was pulled out while it was powered up");
+            What::Sent(text) | What::Given(text) => self.tell_exchange(place, what, text, out),
+            What::ToHost(text) | What::FromHost(text) => {
+                self.tell_exchange(place, what, text, out)
+            }
+            What::Torn | What::End { .. } => {
+                self.tell_of_lane(place, what, out);
                 Ok(())
             }
-            What::PowerCanned(_) => {
-                self.begin(place);
-                out.line(1);
-                out.text(b"a card of canned answers: it has no counters");
+            other => {
+                self.keep(place, other);
+                tell_alone(out, other);
                 Ok(())
             }
-            other => self.tell_exchange(place, other, out),
         }
     }
 
@@ -211,7 +229,9 @@ impl Narrator {
     }
 
     /// Tells a line, and keeps what it leaves for the lines behind it.
-    fn tell_line(&mut self, line: &ReportLine<'_>, out: &mut WordLines) -> Result<(), AllocError> {
+    fn tell_line(&mut self, line: &ReportLine<'_>, out: &mut WordLines) -> Result<(), AllocError>
+        ensures { OnOk result (TellsAlone (spec.told_alone (seen_line line.now)) out.old out.new) }
+    {
         match line.whose {
             Whose::Lane(lane) => self.tell_at(lane, &line.what, out),
             Whose::Settlement(lane) => self.tell_settlement(lane, &line.what, out),
@@ -230,17 +250,20 @@ impl Narrator {
     /// there was no memory.
     pub fn tell(&mut self, text: &[u8], out: &mut WordLines) -> Result<bool, AllocError>
         ensures lines { OnOk result (AreWordLines out.new.bytes) }
+        ensures made { OnOk result (IsMade (spec.line_words text.now) out.new.bytes) }
     {
         out.clear();
-        let shown = match read_line(text) {
+        match read_line(text) {
             Some(line) => {
                 let shown = self.shows(&line);
                 self.tell_line(&line, out)?;
-                shown
+                out.finish()?;
+                Ok(shown)
             }
-            None => self.filter.shows_all(),
-        };
-        out.finish()?;
-        Ok(shown)
+            None => {
+                out.finish()?;
+                Ok(self.filter.shows_all())
+            }
+        }
     }
 }
