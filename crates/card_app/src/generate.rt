@@ -1,11 +1,12 @@
 //! GENERATE AC (EMV 4.3 Book 3 section 6.5.5).
-ghost use Rattle.std.specs.Prelude.{◌≡◌, ◌==◌, [], length, Some, None, IsTrue, if◌then◌else◌};
+ghost use Rattle.std.specs.Prelude.{◌≡◌, ◌≤◌, ◌==◌, [], length, Some, None, IsTrue, if◌then◌else◌};
 ghost use Rattle.apdu_core.specs.Seen.{seen_command};
 ghost use Rattle.card_files.specs.Kept.{KeepsRules};
 ghost use Rattle.card_app.specs.SeenReply.{reply_data, Leads, LeadsFor, MayReply, MayFor, IsAt};
 ghost use Rattle.card_cryptogram.specs.Fields.{first_given as first_given_of};
 ghost use Rattle.card_cryptogram.specs.Bodies.{body_of, kind_in, cryptogram_in};
 ghost use Rattle.card_state.specs.Change.{changed as state_behind, MayDecide};
+ghost use Rattle.card_state.specs.Encoding.{HasShortLogs};
 ghost use Rattle.card_state.specs.declared.decision.Decision.TheVariants.{First as FirstKind, Second as SecondKind};
 ghost use Rattle.card_app.specs.Cryptograms as spec;
 ghost use Rattle.card_app.specs.OwnLists.{cdol_of as entries_of};
@@ -16,13 +17,13 @@ use crate::reply::{Reply, refused};
 use apdu_core::Command;
 use apdu_core::status::{CONDITIONS_NOT_SATISFIED, NO_ERROR, WRONG_LENGTH, WRONG_PARAMETERS};
 use card_cryptogram::{
-    Body, First, Given, Phase, code_given, cryptogram, first_given, given_from, has_issuer_auth,
-    is_of_list, is_right, kind_asked, phase_behind, write_body,
+    Body, First, Given, Phase, auth_of, code_given, cryptogram, first_given, given_from,
+    has_issuer_auth, is_of_list, kind_asked, phase_behind, sale_of, write_body,
 };
 use card_files::{AppImage, Image};
 use card_policy::{first, second};
-use card_state::{AppState, CardState, Decision, How, changed};
-use emv_dict::{Kind, amount_of};
+use card_state::{AppState, Auth, CardState, Decision, How, changed};
+use emv_dict::Kind;
 
 /// Makes the cryptogram of a kind with the state behind the decision for it, and writes the answer.
 #[tactic(auto, unfolding(card_cryptogram::specs::Bodies::body_of))]
@@ -53,7 +54,8 @@ fn make_first(
     command: &Command<'_>,
     out: &mut Body,
 ) -> Reply
-    requires may { MayDecide state.now (FirstKind kind (spec.amount_in given) given.currency) }
+    requires may { MayDecide state.now (FirstKind kind (spec.sale_for app.now given)) }
+    requires short { state.now.log_max ≤ 10 }
     requires given { given ≡ first_given_of (entries_of app.now.cdol1) command.now.body.now }
     requires ins { command.now.ins ≡ 0xAE }
     ensures said { reply_data out.new.items result ≡ spec.first_made number app.now state.now kind given }
@@ -62,8 +64,7 @@ fn make_first(
 {
     let decision = Decision::First {
         kind,
-        amount: amount_of(given.amount),
-        currency: given.currency,
+        sale: sale_of(app.currency, app.currency_two, &given),
     };
     let cryptogram = write_cryptogram(app, &changed(state, &decision), kind, &given, out);
     Reply::Decides {
@@ -83,15 +84,10 @@ fn first_of(
     given: &Given,
 ) -> Kind
     ensures kind { result ≡ spec.first_of card_blocked asked app.now state.now given.now }
-    ensures may { MayDecide state.now (FirstKind result (spec.amount_in given.now) given.now.currency) }
+    ensures may { MayDecide state.now (FirstKind result (spec.sale_for app.now given.now)) }
 {
-    first(
-        asked,
-        state,
-        card_blocked,
-        given.currency == app.currency,
-        amount_of(given.amount),
-    )
+    let sale = sale_of(app.currency, app.currency_two, given);
+    first(asked, state, card_blocked, sale.which, sale.amount)
 }
 
 /// The first GENERATE AC.
@@ -107,6 +103,7 @@ fn generate_first(
 ) -> Reply
     requires empty { out.old.items ≡ [] }
     requires rules { KeepsRules app.now }
+    requires short { state.now.log_max ≤ 10 }
     requires ins { command.now.ins ≡ 0xAE }
     ensures said { reply_data out.new.items result ≡ spec.first_for card_blocked number asked command.now.body.now app.now state.now }
     ensures leads { LeadsFor number app.now (Started number) (seen_command command.now) out.new.items result }
@@ -128,13 +125,14 @@ fn make_second(
     state: &AppState,
     number: u8,
     first: First,
-    sent: Option<bool>,
+    sent: Option<Auth>,
     made: (Kind, How),
     given: &Given,
     command: &Command<'_>,
     out: &mut Body,
 ) -> Reply
-    requires may { MayDecide state.now (SecondKind made.0 made.1 (spec.amount_in given.now)) }
+    requires may { MayDecide state.now (SecondKind made.0 made.1 (spec.sale_for app.now given.now)) }
+    requires short { state.now.log_max ≤ 10 }
     requires ins { command.now.ins ≡ 0xAE }
     ensures said { reply_data out.new.items result ≡ spec.second_made number app.now state.now made given.now }
     ensures leads { LeadsFor number app.now (Online number first sent) (seen_command command.now) out.new.items result }
@@ -144,7 +142,7 @@ fn make_second(
     let decision = Decision::Second {
         kind,
         how,
-        amount: amount_of(given.amount),
+        sale: sale_of(app.currency, app.currency_two, given),
     };
     write_cryptogram(app, &changed(state, &decision), kind, given, out);
     Reply::Decides {
@@ -161,20 +159,21 @@ fn second_of(
     state: &AppState,
     card_blocked: bool,
     asked: Kind,
-    sent: Option<bool>,
+    sent: Option<Auth>,
     code: [u8; 2],
     given: &Given,
 ) -> (Kind, How)
     ensures made { result ≡ spec.second_by card_blocked asked app.now state.now sent code given.now }
-    ensures may { MayDecide state.now (SecondKind result.0 result.1 (spec.amount_in given.now)) }
+    ensures may { MayDecide state.now (SecondKind result.0 result.1 (spec.sale_for app.now given.now)) }
 {
+    let sale = sale_of(app.currency, app.currency_two, given);
     second(
         asked,
         state,
         card_blocked,
-        given.currency == app.currency,
-        amount_of(given.amount),
-        is_right(sent),
+        sale.which,
+        sale.amount,
+        auth_of(sent),
         code,
         has_issuer_auth(app.aip),
     )
@@ -188,13 +187,14 @@ fn generate_second(
     card_blocked: bool,
     number: u8,
     first: First,
-    sent: Option<bool>,
+    sent: Option<Auth>,
     asked: Kind,
     command: &Command<'_>,
     out: &mut Body,
 ) -> Reply
     requires empty { out.old.items ≡ [] }
     requires rules { KeepsRules app.now }
+    requires short { state.now.log_max ≤ 10 }
     requires ins { command.now.ins ≡ 0xAE }
     ensures said { reply_data out.new.items result ≡ spec.second_for card_blocked number first sent asked command.now.body.now app.now state.now }
     ensures leads { LeadsFor number app.now (Online number first sent) (seen_command command.now) out.new.items result }
@@ -228,8 +228,9 @@ pub(crate) fn generate(
     out: &mut Body,
 ) -> Reply
     requires empty { out.old.items ≡ [] }
-    requires apps { length state.now.apps.items ≡ length image.now }
-    requires at { IsAt phase (length image.now) }
+    requires apps { length state.now.apps.items ≡ length image.now.apps }
+    requires at { IsAt phase (length image.now.apps) }
+    requires short { HasShortLogs state.now }
     requires ins { command.now.ins ≡ 0xAE }
     ensures said { reply_data out.new.items result ≡ spec.generate_row image.now state.now phase (seen_command command.now) }
     ensures leads { Leads image.now phase (Some (seen_command command.now)) out.new.items result }
@@ -259,8 +260,10 @@ pub(crate) fn generate(
             command,
             out,
         ),
-        Phase::Idle | Phase::Selected { .. } | Phase::Closed { .. } | Phase::Done { .. } => {
-            refused(phase, CONDITIONS_NOT_SATISFIED)
-        }
+        Phase::Idle
+        | Phase::Directory
+        | Phase::Selected { .. }
+        | Phase::Closed { .. }
+        | Phase::Done { .. } => refused(phase, CONDITIONS_NOT_SATISFIED),
     }
 }

@@ -95,8 +95,8 @@ pub(crate) fn script(
     order: Option<Order>,
     command: &Command<'_>,
 ) -> Reply
-    requires apps { length state.now.apps.items ≡ length image.now }
-    requires at { IsAt phase (length image.now) }
+    requires apps { length state.now.apps.items ≡ length image.now.apps }
+    requires at { IsAt phase (length image.now.apps) }
     requires stays { Stays phase (seen_command command.now) }
     ensures said { reply_data [] result ≡ spec.script_row image.now state.now phase order (seen_command command.now) }
     ensures leads { Leads image.now phase (Some (seen_command command.now)) [] result }
@@ -115,7 +115,10 @@ pub(crate) fn script(
             first,
             command,
         ),
-        Phase::Idle | Phase::Selected { .. } | Phase::Started { .. } | Phase::Closed { .. } =>
-            refused(phase, CONDITIONS_NOT_SATISFIED),
+        Phase::Idle
+        | Phase::Directory
+        | Phase::Selected { .. }
+        | Phase::Started { .. }
+        | Phase::Closed { .. } => refused(phase, CONDITIONS_NOT_SATISFIED),
     }
 }

@@ -1,6 +1,7 @@
 //! The cards that are tried, and what is sent to them.
-ghost use Rattle.std.specs.Prelude.{◌≡◌, ◌<◌, true, OnOk, OnErr};
+ghost use Rattle.std.specs.Prelude.{◌≡◌, ◌<◌, ◌≤◌, true, OnOk, OnErr};
 ghost use Rattle.card_app.specs.SeenChip.{IsChipOn, IsChipOff, is_on};
+ghost use Rattle.card_files.specs.Kept.{IsDirectoryFile};
 
 use crate::send;
 use apdu_core::Answer;
@@ -49,6 +50,18 @@ pub(crate) enum Variant {
     NothingToTry,
     /// Its counter is FFFE.
     LastCounter,
+    /// A transaction log of ten rows.
+    LogOfTen,
+    /// A transaction log of one row, and no offline approval is within its limits.
+    LogOfOne,
+    /// A second currency with a limit of 3000, and a transaction log of five rows.
+    TwoCurrencies,
+    /// A payment system directory in file 1.
+    Directory,
+    /// Two names, and a directory in file 10.
+    TwoInDirectory,
+    /// Its state is in the older form, and no offline approval is within its limits.
+    OlderForm,
 }
 
 const AC_KEY: u128 = 0x0123_4567_89ab_cdef_fedc_ba98_7654_3210;
@@ -151,6 +164,43 @@ fn cdols_of(variant: Variant) -> (&'static str, &'static str) {
     }
 }
 
+/// The most rows of the transaction log.
+fn rows_of(variant: Variant) -> u8 {
+    match variant {
+        Variant::LogOfTen => 10,
+        Variant::LogOfOne => 1,
+        Variant::TwoCurrencies => 5,
+        _ => 0,
+    }
+}
+
+/// The greatest sum in the second currency.
+fn limit_two_of(variant: Variant) -> u64 {
+    match variant {
+        Variant::TwoCurrencies => 3_000,
+        _ => 0,
+    }
+}
+
+/// The second currency.
+fn second_of(variant: Variant) -> Option<[u8; 2]> {
+    match variant {
+        Variant::TwoCurrencies => Some([0x09, 0x78]),
+        _ => None,
+    }
+}
+
+/// The file of the payment system directory.
+fn directory_of(variant: Variant) -> Option<u8>
+    ensures { IsDirectoryFile result }
+{
+    match variant {
+        Variant::Directory => Some(1),
+        Variant::TwoInDirectory => Some(10),
+        _ => None,
+    }
+}
+
 /// The state before the first decision.
 pub(crate) fn opening_of(variant: Variant) -> AppState {
     AppState {
@@ -161,7 +211,11 @@ pub(crate) fn opening_of(variant: Variant) -> AppState {
         },
         last_online: 9,
         count_limit: match variant {
-            Variant::Online | Variant::NoIssuerAuth | Variant::OwnListsOnline => 0,
+            Variant::Online
+            | Variant::NoIssuerAuth
+            | Variant::OwnListsOnline
+            | Variant::LogOfOne
+            | Variant::OlderForm => 0,
             Variant::OneOffline => 1,
             _ => 5,
         },
@@ -176,6 +230,8 @@ pub(crate) fn opening_of(variant: Variant) -> AppState {
             Variant::NoPin | Variant::NothingToTry => [0; 8],
             _ => PIN_1234,
         },
+        limit_two: limit_two_of(variant),
+        log_max: rows_of(variant),
         ..AppState::default()
     }
 }
@@ -183,7 +239,7 @@ pub(crate) fn opening_of(variant: Variant) -> AppState {
 /// The profile.
 fn profile_of(variant: Variant) -> [u8; 2] {
     match variant {
-        Variant::FormatTwo | Variant::TwoNames => [0x00, 0x00],
+        Variant::FormatTwo | Variant::TwoNames | Variant::TwoInDirectory => [0x00, 0x00],
         Variant::NoIssuerAuth => [0x18, 0x00],
         _ => [0x1c, 0x00],
     }
@@ -221,6 +277,10 @@ fn app_of(
         cdol2: bytes_of(cdol2).as_slice().to_vec(alloc)?,
         records,
         ac_key: key_of(AC_KEY, &pan),
+        currency_two: second_of(variant),
+        limit_two: limit_two_of(variant),
+        log: rows_of(variant),
+        log_sfi: 11,
         mac_key: key_of(MAC_KEY, &pan),
         enc_key: key_of(ENC_KEY, &pan),
         pan,
@@ -231,16 +291,26 @@ fn app_of(
     })
 }
 
+/// The form of the state before the first decision.
+fn version_of(variant: Variant) -> u8
+    ensures { (1 ≤ result) × (result ≤ 2) }
+{
+    match variant {
+        Variant::OlderForm => 1,
+        _ => 2,
+    }
+}
+
 /// The image of a card.
 pub(crate) fn image_of(rt: &impl Abort, alloc: Global, variant: Variant) -> Result<Image, Fail> {
     let mut apps = Vec::new(alloc);
-    if variant == Variant::TwoNames {
+    if matches!(variant, Variant::TwoNames | Variant::TwoInDirectory) {
         apps.push(app_of(rt, alloc, variant, "a000000003101001", 2)?)?;
         apps.push(app_of(rt, alloc, variant, "a000000003101002", 1)?)?;
     } else {
         apps.push(app_of(rt, alloc, variant, "a0000000031010", 1)?)?;
     }
-    Ok(Image::new(apps).expect(rt, "an image"))
+    Ok(Image::new(apps, version_of(variant), directory_of(variant)).expect(rt, "an image"))
 }
 
 /// A command and its answer.

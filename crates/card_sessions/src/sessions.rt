@@ -5,11 +5,15 @@ use crate::cards::{
     APPROVED, AUTHENTICATE, FIRST, Line, OPTIONS, OPTIONS_AGAIN, REQUEST, SECOND, SELECT, VERIFY,
     Variant, bytes_of, image_of,
 };
+use crate::directories::DIRECTORIES;
+use crate::issuers::ISSUERS;
+use crate::logs::LOGS;
 use crate::turned_on;
 use apdu_core::Answer;
 use card_app::{Card, personalise};
 use card_files::Image;
 use emv_ports::{Held, MemoryPages, Pages};
+use std::alloc::Global;
 use std::process::Abort;
 use std::test::Fail;
 
@@ -745,6 +749,23 @@ fn sessions_are_those_of_independent_implementations(rt: HostRuntime) -> Result<
         hold(&rt, &image, pages, session);
     }
     Ok(())
+}
+
+/// Sessions that follow from the rules, by an implementation of these apart from this program.
+fn hold_each(rt: &impl Abort, alloc: Global, sessions: &[(Variant, &[Line])]) -> Result<(), Fail> {
+    for (variant, session) in sessions {
+        let image = image_of(rt, alloc, *variant)?;
+        let pages = Held::new(alloc, MemoryPages::blank())?;
+        hold(rt, &image, pages, *session);
+    }
+    Ok(())
+}
+
+#[test]
+fn logs_issuers_and_directories_are_told(rt: HostRuntime) -> Result<(), Fail> {
+    hold_each(&rt, rt.alloc(), &LOGS)?;
+    hold_each(&rt, rt.alloc(), &ISSUERS)?;
+    hold_each(&rt, rt.alloc(), &DIRECTORIES)
 }
 
 #[test]

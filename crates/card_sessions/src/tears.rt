@@ -138,6 +138,19 @@ fn try_plans<P: Pages>(rt: &impl Abort, image: &Image, pages: P, first: Tear, ag
     }
 }
 
+/// A card whose state is in the older form is cut while its first power-up writes it anew.
+#[test]
+fn older_states_are_found_whole(rt: HostRuntime) -> Result<(), Fail> {
+    let image = image_of(&rt, rt.alloc(), Variant::OlderForm)?;
+    for first in 0..PLACES {
+        for again in 0..PLANS {
+            let pages = Held::new(rt.alloc(), MemoryPages::blank())?;
+            try_plans(&rt, &image, pages, plan_of(first), plan_of(again));
+        }
+    }
+    Ok(())
+}
+
 #[test]
 fn what_is_found_is_what_the_plans_leave(rt: HostRuntime) -> Result<(), Fail> {
     let image = image_of(&rt, rt.alloc(), Variant::Online)?;
