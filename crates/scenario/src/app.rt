@@ -15,6 +15,7 @@ ghost use Rattle.scenario.specs.CardRules.{KeepsFiles, KeepsHolder, KeepsCounter
 ghost use Rattle.scenario_fields.specs.declared.spot.Characters.TheVariants.{Printable};
 ghost use Rattle.scenario.specs.SeenCards.{wanted_by};
 
+use crate::extras::{Extras, no_log, read_extras};
 use crate::record::records_at;
 use card_files::lists::{MOST_CDOL, MOST_DATA, MOST_PDOL, has_cdol1_entries, has_cdol2_entries};
 use card_files::rules::{MOST_AFL, reference_pin};
@@ -452,6 +453,10 @@ fn only_app_keys(fields: &Fields) -> Result<(), ScenarioFault>
         "tries",
         "blocked",
         "ac_key",
+        "currency_two",
+        "limit_two",
+        "log",
+        "log_sfi",
     ])
 }
 
@@ -473,14 +478,13 @@ fn app_with(
     holder: Holder,
     counters: Counters,
     access: Access,
+    extras: Extras,
 ) -> AppImage
-    ensures { result ≡ app_with keys.now files holder counters access }
+    ensures { result ≡ app_with keys.now files holder counters access extras }
 {
-    let derived = master_key(&keys.ac, &holder.pan, holder.sequence);
     let mac_key = master_key(&keys.mac, &holder.pan, holder.sequence);
     let enc_key = master_key(&keys.enc, &holder.pan, holder.sequence);
-    let ac_key = own_or(derived, access.ac_key);
-    let opening = opening_of(&counters, &access);
+    let derived = master_key(&keys.ac, &holder.pan, holder.sequence);
     let aip = files.aip;
     let currency = holder.currency;
     AppImage {
@@ -498,9 +502,13 @@ fn app_with(
         pan: holder.pan,
         sequence: holder.sequence,
         currency,
-        opening,
+        opening: opening_of(&counters, &access, &extras),
         tries: access.tries,
-        ac_key,
+        ac_key: own_or(derived, access.ac_key),
+        currency_two: extras.currency_two,
+        limit_two: extras.limit_two,
+        log: extras.log,
+        log_sfi: extras.log_sfi,
         mac_key,
         enc_key,
     }
@@ -508,8 +516,8 @@ fn app_with(
 
 /// The state in which an application opens: nothing is counted yet.
 #[tactic(auto, unfolding(crate::specs::Cards::opening_of))]
-fn opening_of(counters: &Counters, access: &Access) -> AppState
-    ensures { result ≡ opening_of counters.now access.now }
+fn opening_of(counters: &Counters, access: &Access, extras: &Extras) -> AppState
+    ensures { result ≡ opening_of counters.now access.now extras.now }
 {
     let pin = access.pin;
     AppState {
@@ -523,6 +531,10 @@ fn opening_of(counters: &Counters, access: &Access) -> AppState
         blocked: access.blocked,
         auth_failed: false,
         pin,
+        sum_two: 0,
+        limit_two: extras.limit_two,
+        log_max: extras.log,
+        log: no_log(),
     }
 }
 
@@ -548,8 +560,14 @@ fn read_app(
     let holder = read_holder(alloc, card, index, table)?;
     let counters = read_counters(alloc, card, index, table)?;
     let access = read_access(alloc, card, index, table)?;
+    let extras = read_extras(
+        &fields,
+        &files.pdol,
+        files.records.as_slice(),
+        holder.currency,
+    )?;
     only_app_keys(&fields)?;
-    Ok(app_with(keys, files, holder, counters, access))
+    Ok(app_with(keys, files, holder, counters, access, extras))
 }
 
 /// An application among those of a card.

@@ -103,13 +103,18 @@ const MORE: [(&str, &str); 3] = [
     ),
 ];
 
-/// The document with all its changes.
-fn more(alloc: Global) -> Option<String> {
+/// The document with changes.
+fn changed(alloc: Global, changes: &[(&str, &str)]) -> Option<String> {
     let mut text = format!(in alloc; "{BASE}").ok()?;
-    for (old, new) in MORE {
+    for (old, new) in changes {
         text = replaced(alloc, text.as_str(), old, new)?;
     }
     Some(text)
+}
+
+/// The document with all its changes.
+fn more(alloc: Global) -> Option<String> {
+    changed(alloc, &MORE)
 }
 
 #[test]
