@@ -1,23 +1,34 @@
-use Rattle.std.proofs.Common.{◌≡◌, refl, sym, ap, subst, ℕ, List, []}
-use Rattle.app_select.specs.Leading.{rest_with}
-use Rattle.app_select.specs.Selecting.{selecting}
-use Rattle.emv_dict.specs.Views.{PurchaseData}
+use Rattle.std.proofs.Common.{◌≡◌, refl, sym, ap, ◌∙◌, ℕ, Bool, true, false, List, []}
+use Rattle.emv_dict.specs.Views.{SettingsData, PurchaseData}
 use Rattle.emv_dict.specs.declared.ending.Step.TheVariants as step
+use Rattle.emv_dict.specs.declared.purchase.AidRow.{AidRow}
 use Rattle.kernel.proofs.Opened.{asks_on}
 use Rattle.kernel.proofs.opening.begin.Goals as goal
-use Rattle.kernel.specs.Dialogue.{dialogue}
-use Rattle.kernel.specs.Fits.{selected_then}
+use Rattle.kernel.specs.Dialogue.{dialogue, selected_then}
+use Rattle.pse_directory.proofs.Chains.{without_directory}
+use Rattle.pse_directory.specs.Directory.{selecting_by}
 use Rattle.terminal_state.specs.Table.{deal_of}
 use Rattle.terminal_state.specs.Terminal.{Deal}
 
-pub returns-clause-stands : goal.returns-clause-stands
+-- what was dealt is what selection begins with
+same_course : (deal : Deal) (settings : SettingsData) (purchase : PurchaseData) (pse confirm : Bool) → deal ≡ record { settings = settings; purchase = purchase }
+    → settings.pse ≡ pse → purchase.confirm ≡ confirm → (later : List (List ℕ))
+    → selecting_by deal.settings.pse deal.settings.aids deal.purchase.confirm later ≡ selecting_by pse settings.aids confirm later
+same_course deal settings purchase pse confirm dealt pse_is confirm_is later = rw (dealt, pse_is, confirm_is) refl
+
+pub returns-then-pse-clause-stands : goal.returns-then-pse-clause-stands
 unfolding dialogue
-returns-clause-stands c = λ table dealt candidates moment command.
+returns-then-pse-clause-stands c = λ table dealt candidates moment command.
     let deal = deal_of table in
-    let confirm = ap (λ (p : PurchaseData). p.confirm) c.purchase.view_is in
-    record {
-      passed = rw candidates (asks_on step.Power step.Select (selecting deal.settings.aids deal.purchase.confirm) (selected_then deal) [] (dialogue deal) (λ later. refl)
-          (rest_with c.begin-search.result []) (subst (λ (deal : Deal). (later : List (List ℕ)) → selecting deal.settings.aids deal.purchase.confirm later ≡ rest_with c.begin-search.result [] later) (sym dealt) (rw confirm at c.begin-search.ensures.leads)));
-      tied = moment;
-      shows = rw (candidates, command) (c.ask.ensures.wants [] (rest_with c.begin-search.result []) [] (λ later. refl));
-    }
+    c.begin_directory.ensures.stands table (dialogue deal) moment command
+    (asks_on step.Power step.Select (selecting_by deal.settings.pse deal.settings.aids deal.purchase.confirm) (selected_then deal) [] (dialogue deal) (λ later. refl) _
+    (same_course deal _ _ true _ dealt (sym (ap (λ (s : SettingsData). s.pse) c.settings.view_is) ∙ c.if-pse.true) (sym (ap (λ (p : PurchaseData). p.confirm) c.purchase.view_is))))
+
+pub returns-else-pse-clause-stands : goal.returns-else-pse-clause-stands
+unfolding dialogue
+returns-else-pse-clause-stands c = λ table dealt candidates moment command.
+    let deal = deal_of table in
+    c.begin_list.ensures.stands table (dialogue deal) candidates moment command
+    (asks_on step.Power step.Select (selecting_by deal.settings.pse deal.settings.aids deal.purchase.confirm) (selected_then deal) [] (dialogue deal) (λ later. refl) _
+    (λ later. same_course deal _ _ false _ dealt (sym (ap (λ (s : SettingsData). s.pse) c.settings.view_is) ∙ c.if-pse.false) (sym (ap (λ (p : PurchaseData). p.confirm) c.purchase.view_is)) later
+    ∙ without_directory _ _ later))
