@@ -194,6 +194,13 @@ impl<'i, P: Pages> Chip<'i, P> {
         self.kept.is_on()
     }
 
+    /// The image of its applications.
+    pub fn image(&self) -> &'i Image
+        ensures { result.now ≡ self.now.image }
+    {
+        self.image
+    }
+
     /// The state of the card that is on: the totals of its decisions.
     pub fn totals(&self) -> &CardState
         requires on { has_power self.now ≡ true }
