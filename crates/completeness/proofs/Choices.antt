@@ -6,7 +6,7 @@ use Rattle.std.proofs.lemmas.Bool.{cases_eq}
 use Rattle.std.proofs.lemmas.Option.{get_or_from_slice_get, slice_get_within}
 use Rattle.std.proofs.lemmas.Slice.Eq.{bytes_eq-Decides}
 use Rattle.app_select.specs.Candidates.{CandidateData, has_name, is_allowed}
-use Rattle.card_files.specs.Views.{AppData}
+use Rattle.card_files.specs.Views.{AppData, ImageData}
 use Rattle.card_state.specs.declared.state.AppState.{AppState}
 use Rattle.card_state.specs.declared.state.CardState.{CardState}
 use Rattle.completeness.proofs.Seeking.{begins, begins_itself}
@@ -14,11 +14,11 @@ use Rattle.completeness.specs.WellFormed.{AreApart, CanServe}
 use Rattle.terminal_state.specs.Terminal.{Deal}
 
 -- a candidate is an application of the card that isn't blocked
-pub record IsOwn (image : List AppData) (state : CardState) (candidate : CandidateData) : Type 0 where
+pub record IsOwn (image : ImageData) (state : CardState) (candidate : CandidateData) : Type 0 where
   pub app : ℕ
   pub own : AppData
   pub now : AppState
-  pub is : slice_get image app ≡ Some own
+  pub is : slice_get image.apps app ≡ Some own
   pub state_is : slice_get state.apps.items app ≡ Some now
   pub unblocked : now.blocked ≡ false
   pub name : candidate.name ≡ own.name
@@ -29,7 +29,7 @@ pub all_at : {X : Type 0} (P : X → Type 0) (xs : List X) (i : ℕ) (x : X) →
 all_at P xs i x is all = subst P (get_or_from_slice_get xs i x x is) (all i x (slice_get_within xs i x is))
 
 -- one application alone has a name that begins with another's
-pub alone : (image : List AppData) → AreApart image → (i j : ℕ) (a b : AppData) → slice_get image i ≡ Some a → slice_get image j ≡ Some b → begins b.name a.name ≡ true → i ≡ j
+pub alone : (image : ImageData) → AreApart image.apps → (i j : ℕ) (a b : AppData) → slice_get image.apps i ≡ Some a → slice_get image.apps j ≡ Some b → begins b.name a.name ≡ true → i ≡ j
 alone image apart i j a b at_i at_j begin =
     elim (cases_eq i j) [
       | inl same ↦ same
@@ -40,7 +40,7 @@ pub named_itself : (name : List ℕ) → bytes_eq name name ≡ true
 named_itself name = (bytes_eq-Decides name name).1 refl
 
 -- a candidate of the name of the application that serves can be confirmed as that one
-pub confirmed : {image : List AppData} {state : CardState} {deal : Deal} (serves : CanServe image state deal) → AreApart image → (candidate : CandidateData) → IsOwn image state candidate
+pub confirmed : {image : List AppData} {state : CardState} {deal : Deal} (serves : CanServe image state deal) → AreApart image.apps → (candidate : CandidateData) → IsOwn image state candidate
     → has_name serves.own.name candidate ≡ true → is_allowed deal.purchase.confirm candidate ≡ true
 confirmed {image} {state} {deal} serves apart candidate own named =
     let name : candidate.name ≡ serves.own.name = (bytes_eq-Decides candidate.name serves.own.name).0 named in

@@ -2,7 +2,7 @@
 -- first, and carried along what a terminal was told.
 use Rattle.std.proofs.Common.{◌≡◌, ℕ, List, [], ◌∷◌, ◌++◌, Option, ap, sym, subst, ◌∙◌, append-nil}
 use Rattle.std.proofs.lemmas.List.{append_assoc}
-use Rattle.card_files.specs.Views.{AppData}
+use Rattle.card_files.specs.Views.{AppData, ImageData}
 use Rattle.card_state.specs.Decisions.{Decided}
 use Rattle.completeness.specs.Cards.{Now, powered, says, goes}
 use Rattle.completeness.specs.Told.{Told, begins, card as told_card, host as told_host, IsDecided, IsLinked}
@@ -15,7 +15,7 @@ use Rattle.terminal_state.specs.Marks.{Mark}
 use Rattle.terminal_state.specs.Terminal.{Deal}
 
 -- the rest of a dialogue over the replies to come ends with a decision
-pub data Ends (image : List AppData) : Now → (List Reply → Standing Mark) → Type 0 where
+pub data Ends (image : ImageData) : Now → (List Reply → Standing Mark) → Type 0 where
   over : {now : Now} {start : List Reply → Standing Mark} (ending : Ending) → (start []).deed ≡ Over ending → IsDecided ending → Ends image now start
   asks : {now : Now} {start : List Reply → Standing Mark} (command : List ℕ) → (start []).deed ≡ ToCard command →
       ((log : List Logged) → Ends image (goes image now command) (λ later. start (CardSaid (says image now command) log ∷ later))) →

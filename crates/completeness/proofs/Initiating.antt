@@ -12,7 +12,7 @@ use Rattle.card_app.specs.Replies.{with_both}
 use Rattle.card_app.specs.Session.{next_phase}
 use Rattle.card_cryptogram.specs.declared.phase.Phase.TheVariants.{Selected, Started}
 use Rattle.card_files.specs.Lists.{entries_within, fitting, is_pdol, is_optional_pdol}
-use Rattle.card_files.specs.Views.{AppData}
+use Rattle.card_files.specs.Views.{AppData, ImageData}
 use Rattle.card_pages.specs.Replies.{ReplyData, refused, decides}
 use Rattle.card_state.specs.declared.decision.Decision.TheVariants.{Started as TakesCounter}
 use Rattle.card_state.specs.declared.state.AppState.{AppState}
@@ -78,7 +78,7 @@ abbrev command_for : List ℕ → CommandData
 command_for given = record { class = 0x80; ins = 0xA8; p1 = 0; p2 = 0; body = written 0x83 given; expects = Some 0 }
 
 -- the application is asked
-options_row_is : (image : List AppData) (state : CardState) (app : ℕ) (a : AppData) (s : AppState) (given : List ℕ) → slice_get image app ≡ Some a
+options_row_is : (image : ImageData) (state : CardState) (app : ℕ) (a : AppData) (s : AppState) (given : List ℕ) → slice_get image.apps app ≡ Some a
     → slice_get state.apps.items app ≡ Some s → row image state (Selected app) (command_for given) ≡ options_of state.blocked app (written 0x83 given) a s
 unfolding instruction_row options_row
 options_row_is image state app a s given there now =
@@ -105,7 +105,7 @@ options_is app a s blocked given left size is =
     (size_right given (pdol_total a.pdol) size)
     ∙ ap (answered app a) is
 
-module _ (image : List AppData) (a : AppData) (app : ℕ) (whole : IsWhole a) (profile : length a.aip ≡ 2) where
+module _ (image : ImageData) (a : AppData) (app : ℕ) (whole : IsWhole a) (profile : length a.aip ≡ 2) where
   -- with a counter left it is granted, and gives its own profile and locator
   granted : (now : Now) (given : List ℕ) → Answers image now (options_command given) (answered app a true) (Started app)
       → options_said (says image now (options_command given)) ≡ Granted whole.reads.start
@@ -132,7 +132,7 @@ module _ (image : List AppData) (a : AppData) (app : ℕ) (whole : IsWhole a) (p
       asks (options_command given) refl
       (done None (λ later. ap (λ (said : Said). after_options said later) (refuses now given ans)) (ltb-false s.counter 65535 left, ans.phase, ans.kept ∙ append-nil now.kept))
 
-pub initiation_runs : (image : List AppData) → InitiationRuns image
+pub initiation_runs : (image : ImageData) → InitiationRuns image
 initiation_runs image a app now s terminal whole rules there state_is card_open app_open here =
     let g = given_for a.pdol terminal rules.pdol in
     let room : length (body_for a) ≤ 256 = options_room a.gpo_format a.aip a.afl rules.gpo_format rules.aip (leb-true (length a.afl) 248 rules.afl) whole.short in

@@ -18,7 +18,7 @@ use Rattle.card_cryptogram.specs.Asked.{is_by_name}
 use Rattle.card_cryptogram.specs.declared.phase.Phase.TheVariants.{Selected}
 use Rattle.card_files.specs.Files.{opening_of}
 use Rattle.card_files.specs.Kept.{KeepsRules, IsImage}
-use Rattle.card_files.specs.Views.{AppData}
+use Rattle.card_files.specs.Views.{AppData, ImageData}
 use Rattle.card_state.specs.Decisions.{Decided}
 use Rattle.card_state.specs.Totals.{totals}
 use Rattle.card_state.specs.declared.state.AppState.{AppState}
@@ -60,7 +60,7 @@ module _ {image : List AppData} {Post : Now → SelectedData → Type 0} (row : 
       asks (select_command (which turn) row.name) refl
       (runs_as (λ later. sym (list_told (listing (record { found = found; rows = row ∷ rows; turn = turn; confirm = confirm })) [] found more row rows turn confirm again answer said (sym read) fault on taken (λ l. refl) later)) next)
 
-module _ (image : List AppData) (kept : List Decided) (deal : Deal) (is_image : IsImage image) (apart : AreApart image) (well : (totals (opening_of image) kept).blocked ≡ false)
+module _ (image : ImageData) (kept : List Decided) (deal : Deal) (is_image : IsImage image) (apart : AreApart image.apps) (well : (totals (opening_of image) kept).blocked ≡ false)
     (serves : CanServe image (totals (opening_of image) kept) deal) (confirm : Bool) where
   abbrev state : CardState
   state = totals (opening_of image) kept
@@ -92,7 +92,7 @@ module _ (image : List AppData) (kept : List Decided) (deal : Deal) (is_image : 
   still found more is = list_any-append (has_name serves.own.name) found more ∙ or_left (list_any (has_name serves.own.name) found) (list_any (has_name serves.own.name) more) is
 
   -- an application that a row finds, among the candidates where it is open and supported
-  own_found : (row : AidRow) (app : ℕ) (a : AppData) (s : AppState) (blocked supported : Bool) → s.blocked ≡ blocked → slice_get image app ≡ Some a → slice_get state.apps.items app ≡ Some s
+  own_found : (row : AidRow) (app : ℕ) (a : AppData) (s : AppState) (blocked supported : Bool) → s.blocked ≡ blocked → slice_get image.apps app ≡ Some a → slice_get state.apps.items app ≡ Some s
       → All (IsOwn image state) (option_to_list (if not blocked && supported then Some (record { row = row; name = a.name; priority = a.priority }) else None))
   own_found row app a s true supported is at state_is = All-nil (IsOwn image state)
   own_found row app a s false false is at state_is = All-nil (IsOwn image state)
@@ -115,9 +115,9 @@ module _ (image : List AppData) (kept : List Decided) (deal : Deal) (is_image : 
     ahead : app < serves.app → IsTrue (is_supported row.name row.partial serves.own.name) → After found row rows app
     waits : Contains rows serves.row → After found row rows app
 
-  after : (found : List CandidateData) (row : AidRow) (rows : List AidRow) (from app : ℕ) (a : AppData) (s : AppState) → Hope found row rows from → slice_get image app ≡ Some a
+  after : (found : List CandidateData) (row : AidRow) (rows : List AidRow) (from app : ℕ) (a : AppData) (s : AppState) → Hope found row rows from → slice_get image.apps app ≡ Some a
       → slice_get state.apps.items app ≡ Some s
-      → ((k : ℕ) (b : AppData) → from ≤ k → k < app → slice_get image k ≡ Some b → begins b.name row.name ≡ false)
+      → ((k : ℕ) (b : AppData) → from ≤ k → k < app → slice_get image.apps k ≡ Some b → begins b.name row.name ≡ false)
       → After (found ++ option_to_list (found_by row (Named (not s.blocked) (fci_data a)))) row rows app
   after found row rows from app a s (listed is) at state_is before = listed (still found (option_to_list (found_by row (Named (not s.blocked) (fci_data a)))) is)
   after found row rows from app a s (waits is) at state_is before = waits is
@@ -140,7 +140,7 @@ module _ (image : List AppData) (kept : List Decided) (deal : Deal) (is_image : 
   on_again found row rows app (ahead less supported) = comes (omega arith) supported
   on_again found row rows app (waits is) = waits is
 
-  is_longest : (row : AidRow) (app : ℕ) (a : AppData) → slice_get image app ≡ Some a → begins a.name row.name ≡ true → app < serves.app
+  is_longest : (row : AidRow) (app : ℕ) (a : AppData) → slice_get image.apps app ≡ Some a → begins a.name row.name ≡ true → app < serves.app
       → IsTrue (is_supported row.name row.partial serves.own.name) → (longer : Bool) → is_longer row.name a.name ≡ longer → longer ≡ true
   is_longest row app a at begin less supported true is = refl
   is_longest row app a at begin less supported false is =
@@ -149,19 +149,19 @@ module _ (image : List AppData) (kept : List Decided) (deal : Deal) (is_image : 
       let place : app ≡ serves.app = alone image apart app serves.app a serves.own at serves.is too in
       absurd (omega arith)
 
-  on_next : (found : List CandidateData) (row : AidRow) (rows : List AidRow) (turn app : ℕ) (a : AppData) (s : AppState) → turn ≤ app → slice_get image app ≡ Some a → begins a.name row.name ≡ true
+  on_next : (found : List CandidateData) (row : AidRow) (rows : List AidRow) (turn app : ℕ) (a : AppData) (s : AppState) → turn ≤ app → slice_get image.apps app ≡ Some a → begins a.name row.name ≡ true
       → goes_on row turn (Named (not s.blocked) (fci_data a)) ≡ false → After found row rows app → Later found rows
   on_next found row rows turn app a s few at begin ends (listed is) = listed is
   on_next found row rows turn app a s few at begin ends (waits is) = waits is
   on_next found row rows turn app a s few at begin ends (ahead less supported) =
       let longer : is_longer row.name a.name ≡ true = is_longest row app a at begin less supported (is_longer row.name a.name) refl in
-      let within : app < length image = slice_get_within image app a at in
-      let four : length image ≤ 4 = is_image.few in
+      let within : app < length image.apps = slice_get_within image app a at in
+      let four : length image.apps ≤ 4 = is_image.apps.few in
       let turns : nat_lt (turn + 1) 16 ≡ true = grind (arith, nat_tests) in
       let on : goes_on row turn (Named (not s.blocked) (fci_data a)) ≡ true = rw (longer, turns) refl in
       absurd (cc (sym on ∙ ends))
 
-  sought_none : (found : List CandidateData) (row : AidRow) (rows : List AidRow) (from : ℕ) → ((k : ℕ) (b : AppData) → from ≤ k → slice_get image k ≡ Some b → begins b.name row.name ≡ false)
+  sought_none : (found : List CandidateData) (row : AidRow) (rows : List AidRow) (from : ℕ) → ((k : ℕ) (b : AppData) → from ≤ k → slice_get image.apps k ≡ Some b → begins b.name row.name ≡ false)
       → Hope found row rows from → Later found rows
   sought_none found row rows from none (listed is) = listed is
   sought_none found row rows from none (waits is) = waits is
@@ -187,10 +187,10 @@ module _ (image : List AppData) (kept : List Decided) (deal : Deal) (is_image : 
     module _ (row : AidRow) (rows : List AidRow) (size : 5 ≤ length row.name) (behind : RowsRun rows) where
       -- what the next occurrence of the row does, behind this application
       abbrev AgainRuns : ℕ → ℕ → Type 0
-      AgainRuns turn from = (app : ℕ) (found : List CandidateData) (now : Now) → from ≤ app → app < length image → phase_at image now ≡ Selected app → now.kept ≡ kept
+      AgainRuns turn from = (app : ℕ) (found : List CandidateData) (now : Now) → from ≤ app → app < length image.apps → phase_at image now ≡ Selected app → now.kept ≡ kept
           → All (IsOwn image state) found → Hope found row rows (app + 1) → Runs image Post now (listing (record { found = found; rows = row ∷ rows; turn = turn + 1; confirm = confirm }))
 
-      goes_by : (turn from app : ℕ) (a : AppData) (s : AppState) (found : List CandidateData) (now : Now) → turn ≤ from → from ≤ app → slice_get image app ≡ Some a → begins a.name row.name ≡ true
+      goes_by : (turn from app : ℕ) (a : AppData) (s : AppState) (found : List CandidateData) (now : Now) → turn ≤ from → from ≤ app → slice_get image.apps app ≡ Some a → begins a.name row.name ≡ true
           → Selects image now (which turn) row.name (Named (not s.blocked) (fci_data a)) (Selected app) → now.kept ≡ kept
           → All (IsOwn image state) (found ++ option_to_list (found_by row (Named (not s.blocked) (fci_data a))))
           → After (found ++ option_to_list (found_by row (Named (not s.blocked) (fci_data a)))) row rows app → AgainRuns turn from
@@ -217,7 +217,7 @@ module _ (image : List AppData) (kept : List Decided) (deal : Deal) (is_image : 
           (behind found (goes image now (select_command (which turn) row.name)) (made.kept ∙ same) all (sought_none found row rows from none hope))
       turn_by turn from found now hit few is (there app a up at begin before) same all hope again =
           let good : (state_at image now).blocked ≡ false = ap (λ (c : CardState). c.blocked) (same_state now same) ∙ well in
-          let rules : KeepsRules a = all_at KeepsRules image app a at is_image.rules in
+          let rules : KeepsRules a = all_at KeepsRules image.apps app a at is_image.apps.rules in
           let held = has_state image (powered kept) app a at in
           let here : slice_get (state_at image now).apps.items app ≡ Some held.state = ap (λ (c : CardState). slice_get c.apps.items app) (same_state now same) ∙ held.there in
           let sizes = both (nat_le 5 (length a.name)) (nat_le (length a.name) 16) rules.name in
@@ -237,7 +237,7 @@ module _ (image : List AppData) (kept : List Decided) (deal : Deal) (is_image : 
           let later : (turn + 1 == 0) ≡ false = grind (arith, nat_tests) in
           rw (later, here) refl
 
-      turns : (fuel turn from : ℕ) (found : List CandidateData) (now : Now) → length image ≤ from + fuel → turn ≤ from → looks_from (phase_at image now) (which turn) ≡ from
+      turns : (fuel turn from : ℕ) (found : List CandidateData) (now : Now) → length image.apps ≤ from + fuel → turn ≤ from → looks_from (phase_at image now) (which turn) ≡ from
           → now.kept ≡ kept → All (IsOwn image state) found → Hope found row rows from → Runs image Post now (listing (record { found = found; rows = row ∷ rows; turn = turn; confirm = confirm }))
       turns zero turn from found now enough few looks same all hope =
           turn_by turn from found now (first_named from row.name (drop from image)) few (looked now turn from looks) (sought image row.name from) same all hope
@@ -250,7 +250,7 @@ module _ (image : List AppData) (kept : List Decided) (deal : Deal) (is_image : 
     rows_run [] are found now same all later = rows_end found now same all later
     rows_run (row ∷ rows) are found now same all later =
         let is_row : IsAidRow row = All-head IsAidRow row rows are in
-        turns row rows is_row.identifier (rows_run rows (All-tail IsAidRow row rows are)) (length image) 0 0 found now (omega arith) (omega arith) refl same all (row_hope found row rows later)
+        turns row rows is_row.identifier (rows_run rows (All-tail IsAidRow row rows are)) (length image.apps) 0 0 found now (omega arith) (omega arith) refl same all (row_hope found row rows later)
 
     -- the list comes to what follows it, with the application that serves among those found
     pub list_runs : (rows : List AidRow) → All IsAidRow rows → Contains rows serves.row → (now : Now) → now.kept ≡ kept

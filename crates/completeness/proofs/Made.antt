@@ -11,7 +11,7 @@ use Rattle.card_cryptogram.specs.Fields.{first_given, given_from, code_given}
 use Rattle.card_cryptogram.specs.declared.fields.Given.{Given as GivenData}
 use Rattle.card_cryptogram.specs.declared.phase.First.{First as FirstData}
 use Rattle.card_cryptogram.specs.declared.phase.Phase.TheVariants.{Started, Online}
-use Rattle.card_files.specs.Views.{AppData}
+use Rattle.card_files.specs.Views.{AppData, ImageData}
 use Rattle.card_pages.specs.Replies.{decides}
 use Rattle.card_policy.specs.Policy.{first_kind, second_kind, is_blocked, approves, unable_code, with_how, decline_of, unauthenticated}
 use Rattle.card_state.specs.Change.{changed}
@@ -69,7 +69,7 @@ made_holds format asked second app decision key aip s kind given allowed = recor
   allowed = allowed;
 }
 
-module _ (image : List AppData) (state : CardState) (app : ℕ) (a : AppData) (s : AppState) (own : slice_get image app ≡ Some a) (there : slice_get state.apps.items app ≡ Some s) where
+module _ (image : ImageData) (state : CardState) (app : ℕ) (a : AppData) (s : AppState) (own : slice_get image.apps app ≡ Some a) (there : slice_get state.apps.items app ≡ Some s) where
   first_is : (asked : Kind) (filled : List ℕ) → length filled ≡ total_of (cdol_of a.cdol1)
       → generate_in image state (Started app) asked filled
       ≡ first_made app a s (first_of state.blocked asked a s (first_given (cdol_of a.cdol1) filled)) (first_given (cdol_of a.cdol1) filled)

@@ -11,7 +11,7 @@ use Rattle.card_cryptogram.specs.Asked.{is_record_named}
 use Rattle.card_cryptogram.specs.declared.phase.Phase.TheVariants.{Started}
 use Rattle.card_files.specs.AppRules.{is_within, has_size, is_record, has_twins, most_records, are_apart, are_records}
 use Rattle.card_files.specs.Files.{record_in, has_record_of, record_of, has_file}
-use Rattle.card_files.specs.Views.{RecordData, AppData}
+use Rattle.card_files.specs.Views.{AppData, RecordData, ImageData}
 use Rattle.card_pages.specs.Replies.{ReplyData, refused, shows, said}
 use Rattle.card_state.specs.declared.state.CardState.{CardState}
 use Rattle.emv_dict.specs.declared.ending.Cause.{Cause}
@@ -96,7 +96,7 @@ is_named sfi number file last first =
 abbrev command_for : RecordPlace → CommandData
 command_for place = record { class = 0; ins = 0xB2; p1 = place.number; p2 = file_byte place.sfi; body = []; expects = Some 0 }
 
-row_is : (image : List AppData) (state : CardState) (app : ℕ) (a : AppData) (place : RecordPlace) (bytes : List ℕ) → slice_get image app ≡ Some a
+row_is : (image : ImageData) (state : CardState) (app : ℕ) (a : AppData) (place : RecordPlace) (bytes : List ℕ) → slice_get image.apps app ≡ Some a
     → record_in place.sfi place.number a.records ≡ Some bytes → Limits place.sfi place.number bytes
     → row image state (Started app) (command_for place) ≡ shows bytes 0x9000
 unfolding instruction_row record_row
@@ -123,11 +123,11 @@ there_by a place entries more None is read =
     (ap (λ (o : Option (List ℕ)). gathered_all entries (held_in place.sfi (said (record_or (has_record_of place.sfi a.records) o)).answer)) (sym is) ∙ read))
 
 -- the card's answer is the application's own record
-record OwnAnswer (image : List AppData) (a : AppData) (app : ℕ) (now : Now) (place : RecordPlace) : Type 0 where
+record OwnAnswer (image : ImageData) (a : AppData) (app : ℕ) (now : Now) (place : RecordPlace) : Type 0 where
   same : says image now (record_command place.sfi place.number) ≡ own_record a place
   phase : phase_at image (goes image now (record_command place.sfi place.number)) ≡ Started app
 
-own_answer : (image : List AppData) (a : AppData) (app : ℕ) (now : Now) (place : RecordPlace) → IsTrue (are_records a.records) → slice_get image app ≡ Some a
+own_answer : (image : ImageData) (a : AppData) (app : ℕ) (now : Now) (place : RecordPlace) → IsTrue (are_records a.records) → slice_get image.apps app ≡ Some a
     → phase_at image now ≡ Started app → IsThere a place → OwnAnswer image a app now place
 unfolding next_phase
 own_answer image a app now place rule there here (bytes, found) =
@@ -139,7 +139,7 @@ own_answer image a app now place rule there here (bytes, found) =
       phase = ans.phase;
     }
 
-module _ (image : List AppData) (a : AppData) (app : ℕ) (rule : IsTrue (are_records a.records)) (there : slice_get image app ≡ Some a) (card : ReadCard) where
+module _ (image : ImageData) (a : AppData) (app : ℕ) (rule : IsTrue (are_records a.records)) (there : slice_get image.apps app ≡ Some a) (card : ReadCard) where
   -- the data of the card were read, and the application stays started
   abbrev pub IsOwn : Now → ReadCard → Type 0
   IsOwn at read = (read ≡ card) × (phase_at image at ≡ Started app)

@@ -1,6 +1,6 @@
 -- A step over the answers of a card comes to what it finds, and the dialogue goes on behind it.
 use Rattle.std.proofs.Common.{◌≡◌, ℕ, List, [], ◌∷◌, ap, sym, ◌∙◌}
-use Rattle.card_files.specs.Views.{AppData}
+use Rattle.card_files.specs.Views.{AppData, ImageData}
 use Rattle.completeness.proofs.Ends.{Ends, asks as ends_asks, ends_as}
 use Rattle.completeness.specs.Cards.{Now, says, goes}
 use Rattle.emv_dict.specs.Progress.{Progress, Wants, Done}
@@ -11,7 +11,7 @@ use Rattle.kernel.specs.Course.{Standing, Rest, card_step}
 use Rattle.terminal_state.specs.Marks.{Mark}
 
 -- whatever the card answers, the step is done, and this holds of the card and of what was found
-pub data Runs (image : List AppData) {A : Type 0} (Post : Now → A → Type 0) : Now → (List (List ℕ) → Progress A) → Type 0 where
+pub data Runs (image : ImageData) {A : Type 0} (Post : Now → A → Type 0) : Now → (List (List ℕ) → Progress A) → Type 0 where
   done : {now : Now} {course : List (List ℕ) → Progress A} (value : A) → ((later : List (List ℕ)) → course later ≡ Done value later) → Post now value →
       Runs image Post now course
   asks : {now : Now} {course : List (List ℕ) → Progress A} (command : List ℕ) → course [] ≡ Wants command →

@@ -12,7 +12,7 @@ use Rattle.card_cryptogram.specs.Scripts.{authenticates, is_authentication_size}
 use Rattle.card_cryptogram.specs.declared.phase.First.{First}
 use Rattle.card_cryptogram.specs.declared.phase.Phase.{Phase}
 use Rattle.card_cryptogram.specs.declared.phase.Phase.TheVariants.{Idle, Selected, Started, Online, Closed, Done as IsDone}
-use Rattle.card_files.specs.Views.{AppData}
+use Rattle.card_files.specs.Views.{AppData, ImageData}
 use Rattle.card_pages.specs.Replies.{ReplyData, refused, decides}
 use Rattle.card_state.specs.declared.decision.Decision.TheVariants.{Authenticated}
 use Rattle.card_state.specs.declared.state.AppState.{AppState}
@@ -59,18 +59,18 @@ some_weaker None P Q so all = tt
 some_weaker (Some script) P Q so all = All-weaker P Q so script.commands all
 
 -- a plain script leaves the second cryptogram to come
-pub plain_runs : (image : List AppData) (app : ℕ) (now : Now) (template : List ℕ) → IsPlainScript template → IsOnline image app now
+pub plain_runs : (image : ImageData) (app : ℕ) (now : Now) (template : List ℕ) → IsPlainScript template → IsOnline image app now
     → Runs image (λ at result. IsOnline image app at) now (template_ran template)
 plain_runs image app now template plain online =
     script_runs {image = image} {Keeps = IsOnline image app} (script_of template) now
     (some_weaker (script_of template) IsPlain (Stays image (IsOnline image app)) (λ command is. λ at kept. stays_online image app at command is kept) plain) online
 
-any_stay : (image : List AppData) (script : Option ScriptData) → IfSome script (λ s. All (Stays image (λ at. ⊤)) s.commands)
+any_stay : (image : ImageData) (script : Option ScriptData) → IfSome script (λ s. All (Stays image (λ at. ⊤)) s.commands)
 any_stay image None = tt
 any_stay image (Some script) = λ k d within. λ at kept. tt
 
 -- any script comes to a result
-pub any_runs : (image : List AppData) (now : Now) (template : List ℕ) → Runs image (λ at result. ⊤) now (template_ran template)
+pub any_runs : (image : ImageData) (now : Now) (template : List ℕ) → Runs image (λ at result. ⊤) now (template_ran template)
 any_runs image now template = script_runs {image = image} {Keeps = λ at. ⊤} (script_of template) now (any_stay image (script_of template)) tt
 
 abbrev authenticating : List ℕ → CommandData
@@ -92,22 +92,22 @@ alone_both app first value None state = refl
 alone_both app first value (Some a) None = refl
 alone_both app first value (Some a) (Some s) = alone_for app first value a s
 
-alone_in : (image : List AppData) (state : CardState) (phase : Phase) (value : List ℕ) → (authenticate_in image state phase value).body ≡ []
+alone_in : (image : ImageData) (state : CardState) (phase : Phase) (value : List ℕ) → (authenticate_in image state phase value).body ≡ []
 alone_in image state Idle value = refl
 alone_in image state (Selected app) value = refl
 alone_in image state (Started app) value = refl
-alone_in image state (Online app first None) value = alone_both app first value (slice_get image app) (slice_get state.apps.items app)
+alone_in image state (Online app first None) value = alone_both app first value (slice_get image.apps app) (slice_get state.apps.items app)
 alone_in image state (Online app first (Some right)) value = refl
 alone_in image state (Closed app) value = refl
 alone_in image state (IsDone app first) value = refl
 
 -- the answer is a status alone
-status_alone : (image : List AppData) (state : CardState) (phase : Phase) (value : List ℕ) → (row image state phase (authenticating value)).body ≡ []
+status_alone : (image : ImageData) (state : CardState) (phase : Phase) (value : List ℕ) → (row image state phase (authenticating value)).body ≡ []
 unfolding instruction_row authenticate_row
 status_alone image state phase value = alone_in image state phase value
 
 -- EXTERNAL AUTHENTICATE is answered, and the second cryptogram is to come
-pub authenticate_runs : (image : List AppData) (app : ℕ) (now : Now) (value : List ℕ) → IsOnline image app now → Runs image (λ at good. IsOnline image app at) now (authenticated value)
+pub authenticate_runs : (image : ImageData) (app : ℕ) (now : Now) (value : List ℕ) → IsOnline image app now → Runs image (λ at good. IsOnline image app at) now (authenticated value)
 unfolding authenticate_command verdict_of
 authenticate_runs image app now value at =
     let c = authenticating value in

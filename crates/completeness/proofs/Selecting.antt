@@ -12,7 +12,7 @@ use Rattle.card_app.specs.Selection.{found as finds, first_named}
 use Rattle.card_cryptogram.specs.declared.phase.Phase.TheVariants.{Selected}
 use Rattle.card_files.specs.Files.{opening_of}
 use Rattle.card_files.specs.Kept.{KeepsRules, IsImage}
-use Rattle.card_files.specs.Views.{AppData}
+use Rattle.card_files.specs.Views.{AppData, ImageData}
 use Rattle.card_state.specs.Decisions.{Decided}
 use Rattle.card_state.specs.Totals.{totals}
 use Rattle.card_state.specs.declared.state.AppState.{AppState}
@@ -40,7 +40,7 @@ use Rattle.read_records.specs.Options.{Opened, initiating}
 use Rattle.terminal_state.specs.Marks.{Mark, moment}
 use Rattle.terminal_state.specs.Terminal.{Deal, terminal_objects}
 
-module _ (image : List AppData) (reads : ReadEnds image) (initiates : InitiationRuns image) (deal : Deal) (kept : List Decided) (is_image : IsImage image)
+module _ (image : ImageData) (reads : ReadEnds image) (initiates : InitiationRuns image) (deal : Deal) (kept : List Decided) (is_image : IsImage image)
     (well : WellFormed image deal kept) where
   abbrev state : CardState
   state = totals (opening_of image) kept
@@ -56,7 +56,7 @@ module _ (image : List AppData) (reads : ReadEnds image) (initiates : Initiation
     app : ℕ
     own : AppData
     now : AppState
-    is : slice_get image app ≡ Some own
+    is : slice_get image.apps app ≡ Some own
     state_is : slice_get state.apps.items app ≡ Some now
     unblocked : now.blocked ≡ false
     phase : phase_at image at ≡ Selected app
@@ -77,7 +77,7 @@ module _ (image : List AppData) (reads : ReadEnds image) (initiates : Initiation
   selects_own : (candidate : CandidateData) (own : IsOwn image state candidate) (now : Now) → now.kept ≡ kept → Selects image now 0 candidate.name (Named true (fci_data own.own)) (Selected own.app)
   selects_own candidate own now same =
       let good : (state_at image now).blocked ≡ false = ap (λ (c : CardState). c.blocked) (same_state now same) ∙ well.unblocked in
-      let rules : KeepsRules own.own = all_at KeepsRules image own.app own.own own.is is_image.rules in
+      let rules : KeepsRules own.own = all_at KeepsRules image.apps own.app own.own own.is is_image.apps.rules in
       let here : slice_get (state_at image now).apps.items own.app ≡ Some own.now = ap (λ (c : CardState). slice_get c.apps.items own.app) (same_state now same) ∙ own.state_is in
       let sizes = both (nat_le 5 (length own.own.name)) (nat_le (length own.own.name) 16) rules.name in
       let least : 5 ≤ length own.own.name = grind (arith, nat_tests, sizes.0) in
@@ -147,7 +147,7 @@ module _ (image : List AppData) (reads : ReadEnds image) (initiates : Initiation
   OthersEnd left others = (now : Now) → now.kept ≡ kept → Serving left → (log : List Logged) → Ends image now (others log)
 
   granted_ends : (row : AidRow) (others : Rest Mark) (app : ℕ) (a : AppData) (s : AppState) (whole : IsWhole a) (before at : Now) (left : List CandidateData) (value : Option Opened)
-      → Initiated image a whole app s before at value → slice_get image app ≡ Some a → before.kept ≡ kept → (65535 ≤ s.counter → Serving left) → OthersEnd left others
+      → Initiated image a whole app s before at value → slice_get image.apps app ≡ Some a → before.kept ≡ kept → (65535 ≤ s.counter → Serving left) → OthersEnd left others
       → (log : List Logged) → Ends image at (granted deal row others value log)
   granted_ends row others app a s whole before at left None (full, phase, held) is same serving ends log = ends at (held ∙ same) (serving full) log
   granted_ends row others app a s whole before at left (Some start) (begun, phase) is same serving ends log =
@@ -158,7 +158,7 @@ module _ (image : List AppData) (reads : ReadEnds image) (initiates : Initiation
   unfolding initiation
   initiation_ends at selected chosen others ends log =
       let whole : IsWhole chosen.own = all_at IsWhole image chosen.app chosen.own chosen.is well.whole in
-      let rules : KeepsRules chosen.own = all_at KeepsRules image chosen.app chosen.own chosen.is is_image.rules in
+      let rules : KeepsRules chosen.own = all_at KeepsRules image.apps chosen.app chosen.own chosen.is is_image.apps.rules in
       let good : (state_at image at).blocked ≡ false = ap (λ (c : CardState). c.blocked) (same_state at chosen.same) ∙ well.unblocked in
       let here : slice_get (state_at image at).apps.items chosen.app ≡ Some chosen.now = ap (λ (c : CardState). slice_get c.apps.items chosen.app) (same_state at chosen.same) ∙ chosen.state_is in
       let terminal : Entries = terminal_objects deal selected.row (moment []) in
@@ -193,7 +193,7 @@ module _ (image : List AppData) (reads : ReadEnds image) (initiates : Initiation
       list_runs image kept deal is_image well.apart well.unblocked well.serves deal.purchase.confirm listed_runs deal.settings.aids settings.rows well.serves.listed (powered kept) refl
 
 -- the whole dialogue, where reading and GET PROCESSING OPTIONS do what they owe
-pub dialogue_ends : (image : List AppData) → ReadEnds image → InitiationRuns image → (deal : Deal) (found : List Decided) → IsImage image → IsSettings deal.settings → WellFormed image deal found
+pub dialogue_ends : (image : ImageData) → ReadEnds image → InitiationRuns image → (deal : Deal) (found : List Decided) → IsImage image → IsSettings deal.settings → WellFormed image deal found
     → Ends image (powered found) (dialogue deal)
 unfolding dialogue
 dialogue_ends image reads initiates deal found is_image settings well =

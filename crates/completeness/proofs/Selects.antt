@@ -12,7 +12,7 @@ use Rattle.card_cryptogram.specs.declared.phase.Phase.{Phase}
 use Rattle.card_cryptogram.specs.declared.phase.Phase.TheVariants.{Selected}
 use Rattle.card_files.specs.Control.{fci_bytes}
 use Rattle.card_files.specs.Kept.{KeepsRules}
-use Rattle.card_files.specs.Views.{AppData}
+use Rattle.card_files.specs.Views.{AppData, ImageData}
 use Rattle.card_pages.specs.Replies.{refused, shows}
 use Rattle.card_state.specs.declared.state.AppState.{AppState}
 use Rattle.completeness.proofs.Answers.{Answers, answers, command_again, state_at, phase_at}
@@ -23,12 +23,12 @@ abbrev asked : ℕ → List ℕ → CommandData
 asked p2 name = record { class = 0; ins = 0xA4; p1 = 4; p2 = p2; body = name; expects = Some 0 }
 
 -- SELECT is answered, and the card goes on so
-pub record Selects (image : List AppData) (now : Now) (p2 : ℕ) (name : List ℕ) (said : SaidData) (next : Phase) : Type 0 where
+pub record Selects (image : ImageData) (now : Now) (p2 : ℕ) (name : List ℕ) (said : SaidData) (next : Phase) : Type 0 where
   pub read : select_said (says image now (select_command p2 name)) ≡ said
   pub phase : phase_at image (goes image now (select_command p2 name)) ≡ next
   pub kept : (goes image now (select_command p2 name)).kept ≡ now.kept
 
-module _ (image : List AppData) (now : Now) (p2 : ℕ) (name : List ℕ) (phase : Phase) (is : is_by_name 4 p2 ≡ true) (here : phase_at image now ≡ phase)
+module _ (image : ImageData) (now : Now) (p2 : ℕ) (name : List ℕ) (phase : Phase) (is : is_by_name 4 p2 ≡ true) (here : phase_at image now ≡ phase)
     (well : (state_at image now).blocked ≡ false) where
   no_size : is_name_size (length name) ≡ false → row image (state_at image now) phase (asked p2 name) ≡ refused 0x6700
   unfolding instruction_row select_row
@@ -53,7 +53,7 @@ module _ (image : List AppData) (now : Now) (p2 : ℕ) (name : List ℕ) (phase 
   selects_none none =
       refusal (is_name_size (length name)) (answers (asked p2 name) phase (command_again (asked p2 name)) here (absent_row none (is_name_size (length name)) refl) (omega arith))
 
-  found_row : (app : ℕ) (a : AppData) (s : AppState) → is_name_size (length name) ≡ true → found image phase p2 name ≡ Some app → slice_get image app ≡ Some a
+  found_row : (app : ℕ) (a : AppData) (s : AppState) → is_name_size (length name) ≡ true → found image phase p2 name ≡ Some app → slice_get image.apps app ≡ Some a
       → slice_get (state_at image now).apps.items app ≡ Some s → row image (state_at image now) phase (asked p2 name) ≡ shown_for a s
   found_row app a s size one there state = selected_row size ∙ rw (one, there, state) refl
 
@@ -73,7 +73,7 @@ module _ (image : List AppData) (now : Now) (p2 : ℕ) (name : List ℕ) (phase 
   }
 
   -- the application that is found
-  pub selects_one : (app : ℕ) (a : AppData) (s : AppState) → 1 ≤ length name → length name ≤ 16 → KeepsRules a → found image phase p2 name ≡ Some app → slice_get image app ≡ Some a
+  pub selects_one : (app : ℕ) (a : AppData) (s : AppState) → 1 ≤ length name → length name ≤ 16 → KeepsRules a → found image phase p2 name ≡ Some app → slice_get image.apps app ≡ Some a
       → slice_get (state_at image now).apps.items app ≡ Some s → Selects image now p2 name (Named (not s.blocked) (fci_data a)) (Selected app)
   selects_one app a s some few rules one there state =
       let size : is_name_size (length name) ≡ true = grind (arith, nat_tests) in

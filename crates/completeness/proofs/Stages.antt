@@ -29,14 +29,14 @@ pub record HasLists (a : AppData) (card : ReadCard) : Type 0 where
 abbrev pub AnalysisEnds : List AppData → Type 0
 AnalysisEnds image =
     (a : AppData) (app : ℕ) (now : Now) (trade : Trade) (marks : List Mark) (log : List Logged)
-    → slice_get image app ≡ Some a → HasLists a trade.card → phase_at image now ≡ Started app
+    → slice_get image.apps app ≡ Some a → HasLists a trade.card → phase_at image now ≡ Started app
     → Ends image now (analysis trade marks log)
 
 -- from reading on
 abbrev pub ReadEnds : List AppData → Type 0
 ReadEnds image =
     (a : AppData) (app : ℕ) (now : Now) (deal : Deal) (row : AidRow) (whole : IsWhole a) (log : List Logged)
-    → slice_get image app ≡ Some a → phase_at image now ≡ Started app
+    → slice_get image.apps app ≡ Some a → phase_at image now ≡ Started app
     → Ends image now (read deal row whole.reads.start log)
 
 -- GET PROCESSING OPTIONS was answered: the application is refused where it has no counter left, and nothing is decided;
@@ -48,6 +48,6 @@ Initiated image a whole app s before at (Some opened) = (opened ≡ whole.reads.
 abbrev pub InitiationRuns : List AppData → Type 0
 InitiationRuns image =
     (a : AppData) (app : ℕ) (now : Now) (s : AppState) (terminal : Entries) (whole : IsWhole a)
-    → KeepsRules a → slice_get image app ≡ Some a → slice_get (state_at image now).apps.items app ≡ Some s
+    → KeepsRules a → slice_get image.apps app ≡ Some a → slice_get (state_at image now).apps.items app ≡ Some s
     → (state_at image now).blocked ≡ false → s.blocked ≡ false → phase_at image now ≡ Selected app
     → Runs image (Initiated image a whole app s now) now (initiating a.pdol terminal)

@@ -7,7 +7,7 @@ use Rattle.card_app.specs.Session.{Exchange, after, after_said, next_phase, phas
 use Rattle.card_cryptogram.specs.declared.phase.First.{First}
 use Rattle.card_cryptogram.specs.declared.phase.Phase.{Phase}
 use Rattle.card_cryptogram.specs.declared.phase.Phase.TheVariants.{Idle, Online}
-use Rattle.card_files.specs.Views.{AppData}
+use Rattle.card_files.specs.Views.{AppData, ImageData}
 use Rattle.card_state.specs.Decisions.{Decided}
 use Rattle.card_state.specs.Totals.{app_totals, own_decisions, apps_totals, totals}
 use Rattle.card_state.specs.declared.state.AppState.{AppState}
@@ -16,11 +16,11 @@ use Rattle.completeness.specs.Told.{moves_on, IsPlain}
 use Rattle.completeness.proofs.Answers.{state_at, phase_at}
 
 -- the state of an application at its place
-pub record HasState (image : List AppData) (now : Now) (app : ℕ) : Type 0 where
+pub record HasState (image : ImageData) (now : Now) (app : ℕ) : Type 0 where
   pub state : AppState
   pub there : slice_get (state_at image now).apps.items app ≡ Some state
 
-among : (first : ℕ) (image : List AppData) (ds : List Decided) (app : ℕ) (a : AppData) → slice_get image app ≡ Some a
+among : (first : ℕ) (image : ImageData) (ds : List Decided) (app : ℕ) (a : AppData) → slice_get image.apps app ≡ Some a
     → (s : AppState) × (slice_get (apps_totals first (map (λ a. a.opening) image) ds) app ≡ Some s)
 unfolding apps_totals
 among first [] ds zero a is = absurd (cc is)
@@ -29,18 +29,18 @@ among first (x ∷ image) ds zero a is = (app_totals x.opening (own_decisions fi
 among first (x ∷ image) ds (suc app) a is = among (first + 1) image ds app a is
 
 -- each application of the image has one, whatever the card decided
-pub has_state : (image : List AppData) (now : Now) (app : ℕ) (a : AppData) → slice_get image app ≡ Some a → HasState image now app
+pub has_state : (image : ImageData) (now : Now) (app : ℕ) (a : AppData) → slice_get image.apps app ≡ Some a → HasState image now app
 unfolding totals
 has_state image now app a is = let found = among 0 image now.kept app a is in record { state = found.0; there = found.1 }
 
 -- a request to go online was made, and the second cryptogram was not
-pub record IsOnline (image : List AppData) (app : ℕ) (now : Now) : Type 0 where
+pub record IsOnline (image : ImageData) (app : ℕ) (now : Now) : Type 0 where
   pub first : First
   pub sent : Option Bool
   pub is : phase_at image now ≡ Online app first sent
 
 -- the phase behind a command
-phase_after : (image : List AppData) (now : Now) (command : List ℕ)
+phase_after : (image : ImageData) (now : Now) (command : List ℕ)
     → phase_at image (goes image now command) ≡ after_said image (phase_at image now) (command_of command) (response_of (says image now command))
 unfolding phase_of
 phase_after image now command =
@@ -54,7 +54,7 @@ none_of false false true is = absurd (cc is)
 none_of false false false is = (refl, refl, refl)
 
 -- a plain command leaves the second cryptogram to come
-stays_said : (image : List AppData) (app : ℕ) (first : First) (sent : Option Bool) (c : CommandData) (body : List ℕ) (status : ℕ) → IsTrue (not (moves_on c.ins))
+stays_said : (image : ImageData) (app : ℕ) (first : First) (sent : Option Bool) (c : CommandData) (body : List ℕ) (status : ℕ) → IsTrue (not (moves_on c.ins))
     → (now_sent : Option Bool) × (next_phase image (Online app first sent) c body status ≡ Online app first now_sent)
 unfolding next_phase
 stays_said image app first sent c body status plain =
@@ -69,13 +69,13 @@ stays_said image app first sent c body status plain =
     by true false false = (sent, refl)
     by false right wrong = (sent, refl)
 
-stays_after : (image : List AppData) (app : ℕ) (first : First) (sent : Option Bool) (command : Option CommandData) (answer : Option ResponseData) → IfSome command (λ c. IsTrue (not (moves_on c.ins)))
+stays_after : (image : ImageData) (app : ℕ) (first : First) (sent : Option Bool) (command : Option CommandData) (answer : Option ResponseData) → IfSome command (λ c. IsTrue (not (moves_on c.ins)))
     → (now_sent : Option Bool) × (after_said image (Online app first sent) command answer ≡ Online app first now_sent)
 stays_after image app first sent None answer plain = (sent, refl)
 stays_after image app first sent (Some c) None plain = (sent, refl)
 stays_after image app first sent (Some c) (Some r) plain = stays_said image app first sent c r.body r.status plain
 
-pub stays_online : (image : List AppData) (app : ℕ) (now : Now) (command : List ℕ) → IsPlain command → IsOnline image app now → IsOnline image app (goes image now command)
+pub stays_online : (image : ImageData) (app : ℕ) (now : Now) (command : List ℕ) → IsPlain command → IsOnline image app now → IsOnline image app (goes image now command)
 stays_online image app now command plain at =
     let next = stays_after image app at.first at.sent (command_of command) (response_of (says image now command)) plain in
     record {

@@ -55,16 +55,16 @@ asked_check i card k check apps some own =
 
 -- and one of those behind it
 pub later_check : (cards : List CardData) (i : ℕ) (card : CardData) (k : ℕ) → slice_get cards i ≡ Some card → card.canned ≡ None
-    → 1 + 3 * length card.image ≤ k
-    → slice_get (checks_from i (drop i cards)) k ≡ slice_get (checks_from (i + 1) (drop (i + 1) cards)) (k - (1 + 3 * length card.image))
+    → 1 + 3 * length card.image.apps ≤ k
+    → slice_get (checks_from i (drop i cards)) k ≡ slice_get (checks_from (i + 1) (drop (i + 1) cards)) (k - (1 + 3 * length card.image.apps))
 later_check cards i card k here apps past =
-    let asks : length (flat_map (app_checks i card) card.image) ≡ 3 * length card.image = asks_length i card card.image in
+    let asks : length (flat_map (app_checks i card) card.image) ≡ 3 * length card.image.apps = asks_length i card card.image in
     let count : length (card_checks i card) ≡ length (PowersUp i card ∷ flat_map (app_checks i card) card.image) =
     ap (λ (cs : List Check). length cs) (of_apps i card apps) in
-    let place : k ≡ length (card_checks i card) + (k - (1 + 3 * length card.image)) = omega arith in
+    let place : k ≡ length (card_checks i card) + (k - (1 + 3 * length card.image.apps)) = omega arith in
     ap (λ (cs : List Check). slice_get cs k) (next_card cards i card here)
     ∙ ap (λ n. slice_get (card_checks i card ++ checks_from (i + 1) (drop (i + 1) cards)) n) place
-    ∙ append_second (card_checks i card) (checks_from (i + 1) (drop (i + 1) cards)) (k - (1 + 3 * length card.image))
+    ∙ append_second (card_checks i card) (checks_from (i + 1) (drop (i + 1) cards)) (k - (1 + 3 * length card.image.apps))
 
 -- a card of canned answers is passed over
 pub passed_check : (cards : List CardData) (i : ℕ) (card : CardData) (answers : List (List ℕ)) (k : ℕ) → slice_get cards i ≡ Some card

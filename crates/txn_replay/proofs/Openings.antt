@@ -14,7 +14,7 @@ use Rattle.card_cryptogram.specs.Phases.{current}
 use Rattle.card_cryptogram.specs.declared.phase.Phase.{Phase}
 use Rattle.card_cryptogram.specs.declared.phase.Phase.TheVariants.{Idle, Selected, Started, Online, Closed, Done}
 use Rattle.card_files.specs.Files.{opening_of}
-use Rattle.card_files.specs.Views.{AppData}
+use Rattle.card_files.specs.Views.{AppData, ImageData}
 use Rattle.card_pages.specs.Replies.{ReplyData}
 use Rattle.card_state.specs.Decisions.{Decided}
 use Rattle.card_state.specs.Totals.{totals}
@@ -28,7 +28,7 @@ pub record Begins (phase : Phase) (c : CommandData) (status app : ℕ) : Type 0 
   pub good : status ≡ 0x9000
   pub selected : phase ≡ Selected app
 
-module _ (image : List AppData) (c : CommandData) (body : List ℕ) (status app : ℕ) where
+module _ (image : ImageData) (c : CommandData) (body : List ℕ) (status app : ℕ) where
   abbrev Came : Phase → Phase → Type 0
   Came phase next = open_app next ≡ Some app → (open_app phase ≡ Some app) ⊎ Begins phase c status app
 
@@ -57,7 +57,7 @@ module _ (image : List AppData) (c : CommandData) (body : List ℕ) (status app 
       by_kind false = λ here. inl here
 
   cryptogram_came : (phase : Phase) → Came phase (with_cryptogram image c.body body phase)
-  cryptogram_came (Started other) = begun_came other (slice_get image other)
+  cryptogram_came (Started other) = begun_came other (slice_get image.apps other)
   cryptogram_came (Online other first sent) = λ here. inl here
   cryptogram_came Idle = λ here. inl here
   cryptogram_came (Selected other) = λ here. inl here
@@ -93,7 +93,7 @@ module _ (image : List AppData) (c : CommandData) (body : List ℕ) (status app 
       (two_came (status == 0x9000) phase _ _ (authenticate_came true phase) (if_came (status == 0x6300) phase _ (authenticate_came false phase)))
       (λ here. inl here))))
 
-module _ (image : List AppData) (ds : List Decided) (session : List Exchange) (command : List ℕ) where
+module _ (image : ImageData) (ds : List Decided) (session : List Exchange) (command : List ℕ) where
   abbrev phase : Phase
   phase = phase_of image session
 

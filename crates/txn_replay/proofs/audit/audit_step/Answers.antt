@@ -68,9 +68,9 @@ loop-index-preserved c = record {
       let image : (seen_card c.index-cards-index.result).image ≡ c.apps-apps.result.now =
       seen_image c.index-cards-index.result ∙ kind.1 ∙ sym c.apps-apps.ensures.apps in
       let card : CardData = seen_card c.index-cards-index.result in
-      let count : length c.apps-apps.result.now ≡ length card.image = ap (λ (apps : List AppData). length apps) (sym image) in
+      let count : length c.apps-apps.result.now ≡ length card.image.apps = ap (λ (apps : List AppData). length apps) (sym image) in
       let behind : 3 * length c.apps-apps.result.now ≤ c.loop-index.left - 1 = c.question_at.ensures.behind c.in_default-question_at.is in
-      let enough : 1 + 3 * length card.image ≤ c.loop-index.left = omega (arith, count, behind, c.if-left-eq0.false) in
+      let enough : 1 + 3 * length card.image.apps ≤ c.loop-index.left = omega (arith, count, behind, c.if-left-eq0.false) in
       ap (λ n. slice_get (checks_from (c.loop-index.index + 1) (drop (c.loop-index.index + 1) (seen_cards c.args.cards.now))) (c.loop-index.left - (1 + 3 * n))) count
       ∙ sym (later_check (seen_cards c.args.cards.now) c.loop-index.index card c.loop-index.left
       (seen_at c.args.cards.now c.loop-index.index c.index-cards-index.result here) canned enough)
