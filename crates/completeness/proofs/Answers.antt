@@ -11,7 +11,7 @@ use Rattle.card_app.specs.Session.{Exchange, after, after_said, next_phase, phas
 use Rattle.card_cryptogram.specs.declared.phase.Phase.{Phase}
 use Rattle.card_cryptogram.specs.declared.phase.Phase.TheVariants.{Idle}
 use Rattle.card_files.specs.Files.{opening_of}
-use Rattle.card_files.specs.Views.{AppData, ImageData}
+use Rattle.card_files.specs.Views.{ImageData}
 use Rattle.card_pages.specs.Replies.{ReplyData, response_in}
 use Rattle.card_state.specs.Totals.{totals}
 use Rattle.card_state.specs.declared.state.CardState.{CardState}
@@ -36,7 +36,7 @@ is_reply : (image : ImageData) (now : Now) (command : List ℕ) (c : CommandData
 unfolding card_reply reply_in
 is_reply image now command c phase known here = rw (known, here) refl
 
-pub answers : {image : List AppData} {now : Now} {command : List ℕ} {reply : ReplyData} (c : CommandData) (phase : Phase) → command_of command ≡ Some c
+pub answers : {image : ImageData} {now : Now} {command : List ℕ} {reply : ReplyData} (c : CommandData) (phase : Phase) → command_of command ≡ Some c
     → phase_at image now ≡ phase → row image (state_at image now) phase c ≡ reply → length reply.body ≤ 256
     → Answers image now command reply (next_phase image phase c reply.body reply.status)
 unfolding phase_of

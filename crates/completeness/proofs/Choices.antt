@@ -40,7 +40,7 @@ pub named_itself : (name : List ℕ) → bytes_eq name name ≡ true
 named_itself name = (bytes_eq-Decides name name).1 refl
 
 -- a candidate of the name of the application that serves can be confirmed as that one
-pub confirmed : {image : List AppData} {state : CardState} {deal : Deal} (serves : CanServe image state deal) → AreApart image.apps → (candidate : CandidateData) → IsOwn image state candidate
+pub confirmed : {image : ImageData} {state : CardState} {deal : Deal} (serves : CanServe image state deal) → AreApart image.apps → (candidate : CandidateData) → IsOwn image state candidate
     → has_name serves.own.name candidate ≡ true → is_allowed deal.purchase.confirm candidate ≡ true
 confirmed {image} {state} {deal} serves apart candidate own named =
     let name : candidate.name ≡ serves.own.name = (bytes_eq-Decides candidate.name serves.own.name).0 named in

@@ -49,7 +49,7 @@ first_or x xs y (zero, within, is) = inl is
 first_or x xs y (suc k, within, is) = inr (k, omega arith, is)
 
 -- a SELECT of the list is answered, and the list goes on
-module _ {image : List AppData} {Post : Now → SelectedData → Type 0} (row : AidRow) (rows : List AidRow) (confirm : Bool) where
+module _ {image : ImageData} {Post : Now → SelectedData → Type 0} (row : AidRow) (rows : List AidRow) (confirm : Bool) where
   stepped : (now : Now) (turn : ℕ) (found more : List CandidateData) (again : Bool) (said : SaidData) → select_said (says image now (select_command (which turn) row.name)) ≡ said
       → fault_of said ≡ None → goes_on row turn said ≡ again → more ≡ found ++ option_to_list (found_by row said)
       → Runs image Post (goes image now (select_command (which turn) row.name)) (listing (goes_from again more row rows turn confirm))

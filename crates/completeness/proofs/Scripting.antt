@@ -28,10 +28,10 @@ use Rattle.completeness.proofs.Runs.{Runs, done, asks}
 use Rattle.completeness.proofs.Standing.{IsOnline, stays_online}
 
 -- a command keeps this of the card
-abbrev Stays : List AppData → (Now → Type 0) → List ℕ → Type 0
+abbrev Stays : ImageData → (Now → Type 0) → List ℕ → Type 0
 Stays image Keeps command = (at : Now) → Keeps at → Keeps (goes image at command)
 
-module _ {image : List AppData} {Keeps : Now → Type 0} where
+module _ {image : ImageData} {Keeps : Now → Type 0} where
   command_runs : (command failed : List ℕ) (next : List (List ℕ) → Progress (List ℕ)) (now : Now) → Stays image Keeps command → Keeps now
       → ((at : Now) → Keeps at → Runs image (λ at result. Keeps at) at next) → (sent : Bool)
       → Runs image (λ at result. Keeps at) now (λ answers. if sent then exchanged command failed next answers else Done failed answers)
