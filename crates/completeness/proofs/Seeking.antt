@@ -9,7 +9,7 @@ use Rattle.std.proofs.lemmas.Slice.Eq.{starts_is, bytes_eq-Decides}
 use Rattle.app_select.specs.Said.{is_longer, is_supported}
 use Rattle.ber_tlv.proofs.ReadAgain.{both}
 use Rattle.card_app.specs.Selection.{first_named}
-use Rattle.card_files.specs.Views.{AppData, ImageData}
+use Rattle.card_files.specs.Views.{AppData}
 
 -- the name begins with these bytes
 abbrev pub begins : List ℕ → List ℕ → Bool
@@ -54,34 +54,34 @@ supported_begins front partial name is = by_same (bytes_eq name front) refl is
     by_same false equal known = by_longer partial known
 
 -- what a name finds among the applications from a place on
-pub data Sought (image : ImageData) (name : List ℕ) (from : ℕ) : Option ℕ → Type 0 where
-  absent : ((k : ℕ) (b : AppData) → from ≤ k → slice_get image.apps k ≡ Some b → begins b.name name ≡ false) → Sought image name from None
-  there : (app : ℕ) (a : AppData) → from ≤ app → slice_get image.apps app ≡ Some a → begins a.name name ≡ true
-      → ((k : ℕ) (b : AppData) → from ≤ k → k < app → slice_get image.apps k ≡ Some b → begins b.name name ≡ false) → Sought image name from (Some app)
+pub data Sought (image : List AppData) (name : List ℕ) (from : ℕ) : Option ℕ → Type 0 where
+  absent : ((k : ℕ) (b : AppData) → from ≤ k → slice_get image k ≡ Some b → begins b.name name ≡ false) → Sought image name from None
+  there : (app : ℕ) (a : AppData) → from ≤ app → slice_get image app ≡ Some a → begins a.name name ≡ true
+      → ((k : ℕ) (b : AppData) → from ≤ k → k < app → slice_get image k ≡ Some b → begins b.name name ≡ false) → Sought image name from (Some app)
 
-get_behind : (from : ℕ) (image : ImageData) (k : ℕ) → slice_get image.apps (from + k) ≡ slice_get (drop from image) k
+get_behind : (from : ℕ) (image : List AppData) (k : ℕ) → slice_get image (from + k) ≡ slice_get (drop from image) k
 get_behind zero image k = let same : 0 + k ≡ k = omega arith in ap (slice_get image) same
 get_behind (suc from) [] k = refl
 get_behind (suc from) (a ∷ image) k =
     let same : suc from + k ≡ suc (from + k) = omega arith in
     ap (slice_get (a ∷ image)) same ∙ get_behind from image k
 
-module _ (image : ImageData) (name : List ℕ) (from : ℕ) where
+module _ (image : List AppData) (name : List ℕ) (from : ℕ) where
   -- none of those before this place
   abbrev NoneBefore : ℕ → Type 0
-  NoneBefore number = (k : ℕ) (b : AppData) → from ≤ k → k < number → slice_get image.apps k ≡ Some b → begins b.name name ≡ false
+  NoneBefore number = (k : ℕ) (b : AppData) → from ≤ k → k < number → slice_get image k ≡ Some b → begins b.name name ≡ false
 
   -- these are the applications from this place on
   abbrev StandFrom : ℕ → List AppData → Type 0
-  StandFrom number apps = (k : ℕ) → slice_get image.apps (number + k) ≡ slice_get apps k
+  StandFrom number apps = (k : ℕ) → slice_get image (number + k) ≡ slice_get apps k
 
-  first_at : (number : ℕ) (a : AppData) (apps : List AppData) → StandFrom number (a ∷ apps) → slice_get image.apps number ≡ Some a
+  first_at : (number : ℕ) (a : AppData) (apps : List AppData) → StandFrom number (a ∷ apps) → slice_get image number ≡ Some a
   first_at number a apps stand = let same : number ≡ number + 0 = omega arith in ap (slice_get image) same ∙ stand 0
 
   next_at : (number : ℕ) (a : AppData) (apps : List AppData) → StandFrom number (a ∷ apps) → StandFrom (number + 1) apps
   next_at number a apps stand k = let same : number + 1 + k ≡ number + suc k = omega arith in ap (slice_get image) same ∙ stand (suc k)
 
-  one_more : (number : ℕ) (a : AppData) → slice_get image.apps number ≡ Some a → begins a.name name ≡ false → NoneBefore number → NoneBefore (number + 1)
+  one_more : (number : ℕ) (a : AppData) → slice_get image number ≡ Some a → begins a.name name ≡ false → NoneBefore number → NoneBefore (number + 1)
   one_more number a is other before k b up below at =
       elim (cases_lt k number) [
         | inl less ↦ before k b up less at
@@ -92,7 +92,7 @@ module _ (image : ImageData) (name : List ℕ) (from : ℕ) where
             subst (λ (x : AppData). begins x.name name ≡ false) named other
       ]
 
-  seek_by : (number : ℕ) (a : AppData) (apps : List AppData) (test : Bool) → begins a.name name ≡ test → from ≤ number → slice_get image.apps number ≡ Some a → NoneBefore number
+  seek_by : (number : ℕ) (a : AppData) (apps : List AppData) (test : Bool) → begins a.name name ≡ test → from ≤ number → slice_get image number ≡ Some a → NoneBefore number
       → (begins a.name name ≡ false → Sought image name from (first_named (number + 1) name apps)) → Sought image name from (if test then Some number else first_named (number + 1) name apps)
   seek_by number a apps true is up at before later = there number a up at is before
   seek_by number a apps false is up at before later = later is
