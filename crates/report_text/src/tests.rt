@@ -339,11 +339,3 @@ fn end_lines(rt: HostRuntime) {
         )
     );
 }
-
-#[test]
-fn the_line_of_a_wrong_command_line(rt: HostRuntime) {
-    assert_eq!(rt;
-        usage(),
-        b"usage: emvrun read|replay|generate N\n".as_slice()
-    );
-}
