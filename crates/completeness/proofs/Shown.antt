@@ -16,10 +16,10 @@ use Rattle.card_files.specs.Lists.{is_optional_pdol, entries_within, leaves_room
 use Rattle.card_files.specs.Views.{AppData}
 use Rattle.completeness.proofs.Fields.{fields_again}
 
-abbrev own_fields : List ℕ → Option (List ℕ) → Option (List ℕ) → Option (List ℕ) → List (ℕ × List ℕ)
+abbrev pub own_fields : List ℕ → Option (List ℕ) → Option (List ℕ) → Option (List ℕ) → List (ℕ × List ℕ)
 own_fields label priority pdol log = (0x50, label) ∷ (optional 0x87 priority ++ (optional 0x9F38 pdol ++ optional 0xBF0C log))
 
-some_spelled : (tag : ℕ) (value : Option (List ℕ)) → written_some tag value ≡ spelled (optional tag value)
+pub some_spelled : (tag : ℕ) (value : Option (List ℕ)) → written_some tag value ≡ spelled (optional tag value)
 some_spelled tag None = refl
 some_spelled tag (Some value) = sym (append-nil (written tag value))
 
@@ -60,18 +60,19 @@ own_in label (Some p) (Some l) (Some e) = refl
 abbrev pub fci_data : AppData → FciData
 fci_data a = record { name = a.name; priority = a.priority; pdol = a.pdol }
 
-proprietary_again : (a : AppData) → proprietary_in (items_of (proprietary a)) ≡ Some (record { priority = a.priority; pdol = a.pdol })
+pub proprietary_items : (a : AppData) → items_of (proprietary a) ≡ Ok (placed 0 (own_fields a.label (one_byte a.priority) a.pdol (log_entry a)))
 unfolding proprietary
-proprietary_again a =
-    ap proprietary_in
-    (fields_again (own_fields a.label (one_byte a.priority) a.pdol (log_entry a)) (proprietary a) (own_tags a.label (one_byte a.priority) a.pdol (log_entry a))
-    (own_written a.label (one_byte a.priority) a.pdol (log_entry a)))
-    ∙ own_in a.label a.priority a.pdol (log_entry a)
+proprietary_items a =
+    fields_again (own_fields a.label (one_byte a.priority) a.pdol (log_entry a)) (proprietary a) (own_tags a.label (one_byte a.priority) a.pdol (log_entry a))
+    (own_written a.label (one_byte a.priority) a.pdol (log_entry a))
 
-abbrev template : AppData → List ℕ
+proprietary_again : (a : AppData) → proprietary_in (items_of (proprietary a)) ≡ Some (record { priority = a.priority; pdol = a.pdol })
+proprietary_again a = ap proprietary_in (proprietary_items a) ∙ own_in a.label a.priority a.pdol (log_entry a)
+
+abbrev pub template : AppData → List ℕ
 template a = written 0x84 a.name ++ written 0xA5 (proprietary a)
 
-template_again : (a : AppData) → items_of (template a) ≡ Ok (placed 0 ((0x84, a.name) ∷ (0xA5, proprietary a) ∷ []))
+pub template_again : (a : AppData) → items_of (template a) ≡ Ok (placed 0 ((0x84, a.name) ∷ (0xA5, proprietary a) ∷ []))
 template_again a =
     fields_again ((0x84, a.name) ∷ (0xA5, proprietary a) ∷ []) (template a) refl (ap (λ (bs : List ℕ). written 0x84 a.name ++ bs) (sym (append-nil (written 0xA5 (proprietary a)))))
 
@@ -94,7 +95,7 @@ fci_again a rules =
     ∙ ap fci_in (template_again a) ∙ template_in a rules.name
 
 -- how long an object gets
-written_few : (tag : ℕ) (value : List ℕ) → length value < 128 → length (written tag value) ≡ length (tag_bytes tag) + 1 + length value
+pub written_few : (tag : ℕ) (value : List ℕ) → length value < 128 → length (written tag value) ≡ length (tag_bytes tag) + 1 + length value
 unfolding written
 written_few tag value few =
     let test : (nat_lt (length value) 128) ≡ true = grind (arith, nat_tests) in
@@ -108,7 +109,7 @@ unfolding written
 written_less tag value few =
     simp length-append (omega (arith, two_most (length value) few))
 
-priority_size : (priority : Option ℕ) → length (written_some 0x87 (one_byte priority)) ≤ 3
+pub priority_size : (priority : Option ℕ) → length (written_some 0x87 (one_byte priority)) ≤ 3
 priority_size None = omega arith
 priority_size (Some byte) = omega (arith, written_few 0x87 (byte ∷ []) (omega arith))
 
