@@ -79,12 +79,13 @@ kept_all found few = let less = few_firsts [] found in take_all 16 (firsts found
 -- a row that passes is found, or an earlier one
 find_some : (p : AidRow → Bool) (rows : List AidRow) (row : AidRow) → Contains rows row → p row ≡ true → find p rows ≡ None → ⊥
 find_some p [] row (k, within, is) passes none = absurd (omega (arith, within))
-find_some p (first ∷ rows) row (k, within, is) passes none = by k within is (p first) refl none
+find_some p (first ∷ rows) row (k, within, is) passes none = by k within is (p first) refl none (λ there missing. find_some p rows row there passes missing)
   where
-    by : (k : ℕ) → k < length (first ∷ rows) → slice_index_or (first ∷ rows) k row ≡ row → (test : Bool) → p first ≡ test → (if test then Some first else find p rows) ≡ None → ⊥
-    by k within is true found none = absurd (cc none)
-    by zero within is false found none = absurd (cc (sym found ∙ ap p is ∙ passes))
-    by (suc k) within is false found none = find_some p rows row (k, omega arith, is) passes none
+    by : (k : ℕ) → k < length (first ∷ rows) → slice_index_or (first ∷ rows) k row ≡ row → (test : Bool) → p first ≡ test → (if test then Some first else find p rows) ≡ None
+        → (Contains rows row → find p rows ≡ None → ⊥) → ⊥
+    by k within is true found none later = absurd (cc none)
+    by zero within is false found none later = absurd (cc (sym found ∙ ap p is ∙ passes))
+    by (suc k) within is false found none later = later (k, omega arith, is) none
 
 abbrev reading : ℕ → ℕ → CommandData
 reading sfi number = record { class = 0; ins = 0xB2; p1 = number; p2 = file_byte sfi; body = []; expects = Some 0 }
