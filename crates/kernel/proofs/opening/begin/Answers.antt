@@ -18,29 +18,29 @@ same_course : (deal : Deal) (settings : SettingsData) (purchase : PurchaseData) 
     → selecting_by deal.settings.pse deal.settings.aids deal.purchase.confirm later ≡ selecting_by pse settings.aids confirm later
 same_course deal settings purchase pse confirm dealt pse_is confirm_is later = rw (dealt, pse_is, confirm_is) refl
 
-pub returns-then-pse-clause-stands : goal.returns-then-pse-clause-stands
+pub returns-then-settings-clause-stands : goal.returns-then-settings-clause-stands
 unfolding dialogue
-returns-then-pse-clause-stands c = λ table dealt candidates moment command.
+returns-then-settings-clause-stands c = λ table dealt candidates moment command.
     let deal = deal_of table in record {
       passed = asks_on step.Power step.Select (selecting_by deal.settings.pse deal.settings.aids deal.purchase.confirm) (selected_then deal) [] (dialogue deal) (λ later. refl) (directory_rest c.begin-listing.result)
-          (λ later. same_course deal _ _ true _ dealt (sym (ap (λ (s : SettingsData). s.pse) c.settings.view_is) ∙ c.if-pse.true) (sym (ap (λ (p : PurchaseData). p.confirm) c.purchase.view_is)) later
+          (λ later. same_course deal _ _ true _ dealt (sym (ap (λ (s : SettingsData). s.pse) c.settings.view_is) ∙ c.if-settings.true) (sym (ap (λ (p : PurchaseData). p.confirm) c.purchase.view_is)) later
           ∙ c.begin-listing.ensures.leads later);
       tied = moment;
       shows = rw command (rest_wants c.begin-listing.result _ c.ask.ensures.wants);
     }
 
-pub returns-then-pse-clause-few : goal.returns-then-pse-clause-few
-returns-then-pse-clause-few c = λ table candidates.
+pub returns-then-settings-clause-few : goal.returns-then-settings-clause-few
+returns-then-settings-clause-few c = λ table candidates.
     let left : answers_left c.begin-listing.result ≡ 768 = ap (λ (d : DirectoryData). answers_left d) c.begin-listing.ensures.is in
     omega (arith, left)
 
-pub returns-else-pse-clause-stands : goal.returns-else-pse-clause-stands
+pub returns-else-settings-clause-stands : goal.returns-else-settings-clause-stands
 unfolding dialogue
-returns-else-pse-clause-stands c = λ table dealt candidates moment command.
+returns-else-settings-clause-stands c = λ table dealt candidates moment command.
     let deal = deal_of table in record {
       passed = rw candidates (asks_on step.Power step.Select (selecting_by deal.settings.pse deal.settings.aids deal.purchase.confirm) (selected_then deal) [] (dialogue deal) (λ later. refl) (rest_with c.begin-search.result [])
-          (λ later. same_course deal _ _ false _ dealt (sym (ap (λ (s : SettingsData). s.pse) c.settings.view_is) ∙ c.if-pse.false) (sym (ap (λ (p : PurchaseData). p.confirm) c.purchase.view_is)) later
+          (λ later. same_course deal _ _ false _ dealt (sym (ap (λ (s : SettingsData). s.pse) c.settings.view_is) ∙ c.if-settings.false) (sym (ap (λ (p : PurchaseData). p.confirm) c.purchase.view_is)) later
           ∙ without_directory _ _ later ∙ c.begin-search.ensures.leads later));
       tied = moment;
-      shows = rw (candidates, command) (c.ask-else-pse.ensures.wants [] (rest_with c.begin-search.result []) [] (λ later. refl));
+      shows = rw (candidates, command) (c.ask-else-settings.ensures.wants [] (rest_with c.begin-search.result []) [] (λ later. refl));
     }
