@@ -23,6 +23,8 @@ mod Selects
 mod Ordering
 mod Choices
 mod Listing
+mod DirectoryRead
+mod Directing
 mod Selecting
 mod MadeScripts
 mod PlainReplies
