@@ -1,4 +1,3 @@
-use Rattle.std.proofs.Common.{[]}
 use Rattle.emv_dict.specs.declared.ending.Step.TheVariants as step
 use Rattle.kernel.proofs.Opened.{asks_on, stopped_on}
 use Rattle.kernel.proofs.opening.directory_next.Goals as goal
