@@ -121,6 +121,11 @@ pub(crate) fn bytes_of(text: &str) -> ArrayVec<u8, 261> {
     bytes
 }
 
+/// The command of a line and its answer.
+pub(crate) fn halves_of(line: Line) -> (&'static str, &'static str) {
+    line.split_once(' ').unwrap_or((line, ""))
+}
+
 /// The key of the base card under an issuer's key.
 fn key_of(issuer: u128, pan: &Digits) -> Key16 {
     master_key(&Key16::new(issuer.to_be_bytes()), pan, 0x01)
@@ -132,6 +137,15 @@ fn record_of(alloc: Global, number: u8, text: &str) -> Result<RecordImage, Fail>
         number,
         bytes: bytes_of(text).as_slice().to_vec(alloc)?,
     })
+}
+
+/// The records of its one file.
+fn records_of(alloc: Global) -> Result<Vec<RecordImage>, Fail> {
+    let mut records = Vec::new(alloc);
+    records.push(record_of(alloc, 1, RECORD_1)?)?;
+    records.push(record_of(alloc, 2, RECORD_2)?)?;
+    records.push(record_of(alloc, 3, RECORD_3)?)?;
+    Ok(records)
 }
 
 /// The PIN try limit.
@@ -260,10 +274,6 @@ fn app_of(
         1
     };
     let (cdol1, cdol2) = cdols_of(variant);
-    let mut records = Vec::new(alloc);
-    records.push(record_of(alloc, 1, RECORD_1)?)?;
-    records.push(record_of(alloc, 2, RECORD_2)?)?;
-    records.push(record_of(alloc, 3, RECORD_3)?)?;
     Ok(AppImage {
         name: Name::new(bytes_of(name).as_slice()).expect(rt, "a name"),
         label: b"CREDIT".to_vec(alloc)?,
@@ -275,7 +285,7 @@ fn app_of(
         ac_format: format,
         cdol1: bytes_of(cdol1).as_slice().to_vec(alloc)?,
         cdol2: bytes_of(cdol2).as_slice().to_vec(alloc)?,
-        records,
+        records: records_of(alloc)?,
         ac_key: key_of(AC_KEY, &pan),
         currency_two: second_of(variant),
         limit_two: limit_two_of(variant),
@@ -313,35 +323,32 @@ pub(crate) fn image_of(rt: &impl Abort, alloc: Global, variant: Variant) -> Resu
     Ok(Image::new(apps, version_of(variant), directory_of(variant)).expect(rt, "an image"))
 }
 
-/// A command and its answer.
-pub(crate) type Line = (&'static str, &'static str);
+/// A command and its answer, with a space between them.
+pub(crate) type Line = &'static str;
 
-pub(crate) const SELECT: Line = (
-    "00a4040007a000000003101000",
-    "6f168407a0000000031010a50b50064352454449548701019000",
-);
+pub(crate) const SELECT: Line =
+    "00a4040007a000000003101000 6f168407a0000000031010a50b50064352454449548701019000";
 
-pub(crate) const OPTIONS: Line = ("80a8000002830000", "80061c00080103009000");
+pub(crate) const OPTIONS: Line = "80a8000002830000 80061c00080103009000";
 
-pub(crate) const VERIFY: Line = ("0020008008241234ffffffffff", "9000");
+pub(crate) const VERIFY: Line = "0020008008241234ffffffffff 9000";
 
-/// The first GENERATE AC, which asks for TC.
-pub(crate) const FIRST: &str =
-    "80ae40001d000000002500000000000000084080000000000840240615000102030400";
+/// The first GENERATE AC, which asks for TC and is answered by a request to go online.
+pub(crate) const REQUEST: Line =
+    "80ae40001d000000002500000000000000084080000000000840240615000102030400 801180000b204bb40db680038e0180000003019000";
 
-/// A request to go online.
-pub(crate) const REQUEST: Line = (FIRST, "801180000b204bb40db680038e0180000003019000");
+/// The first GENERATE AC, which asks for TC and is approved.
+pub(crate) const OFFLINE: Line =
+    "80ae40001d000000002500000000000000084080000000000840240615000102030400 801140000b6114ff966d2fd2320140000103019000";
 
-pub(crate) const AUTHENTICATE: Line = ("008200000a0e66769950e1f3be3030", "9000");
+pub(crate) const AUTHENTICATE: Line = "008200000a0e66769950e1f3be3030 9000";
 
 /// The second GENERATE AC, which asks for TC with code 00.
-pub(crate) const SECOND: &str =
-    "80ae40001f3030000000002500000000000000084080000000000840240615000102030400";
-
-pub(crate) const APPROVED: Line = (SECOND, "801140000b4d89bb8933ef3e9b0140000003019000");
+pub(crate) const APPROVED: Line =
+    "80ae40001f3030000000002500000000000000084080000000000840240615000102030400 801140000b4d89bb8933ef3e9b0140000003019000";
 
 /// GET PROCESSING OPTIONS once more.
-pub(crate) const OPTIONS_AGAIN: Line = ("80a8000002830000", "6985");
+pub(crate) const OPTIONS_AGAIN: Line = "80a8000002830000 6985";
 
 /// Sends commands to a card that is on, until its power is gone. Each has to have this answer, and one
 /// that is cut has none.
@@ -358,7 +365,8 @@ pub(crate) fn go_through<'i, P: Pages>(
 {
     match session {
         [] => Ok(()),
-        [(command, answer), rest @ ..] => {
+        [line, rest @ ..] => {
+            let (command, answer) = halves_of(line);
             let mut out = Answer::new();
             match send(chip, bytes_of(command).as_slice(), &mut out) {
                 Ok(()) => {

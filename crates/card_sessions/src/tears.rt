@@ -23,9 +23,9 @@ const PURCHASE: [Line; 8] = [
     VERIFY,
     REQUEST,
     AUTHENTICATE,
-    ("04dadf01090935c47f63c1704132", "9000"),
+    "04dadf01090935c47f63c1704132 9000",
     APPROVED,
-    ("8424000210b0869a45da56310b591ffd95cee7feef", "9000"),
+    "8424000210b0869a45da56310b591ffd95cee7feef 9000",
 ];
 
 /// The state behind so many decisions of the purchase: the counter is taken, a PIN try, the try is

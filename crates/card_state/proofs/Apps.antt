@@ -8,7 +8,7 @@ use Rattle.card_state.specs.declared.decoding.Version.TheVariants.{One, Two}
 use Rattle.card_state.specs.declared.state.AppState.{AppState}
 use Rattle.card_state.specs.Encoding.{app_bytes_one, app_bytes, more_bytes, row_bytes, IsAppState}
 use Rattle.card_state.specs.Layout.{as_one, fields_one, fields_of, rows_said, is_flagged, has_rows, begins, with_more, app_in, none_left, apps_in, size_in}
-use Rattle.card_state.proofs.LayoutLemmas.{length-app_bytes_one, length-app_bytes, length-more_bytes, length-rows, known_flag_byte, known_flags_two, behind_one, fields_one-app_bytes_one, fields_of-app_bytes, app_bytes_one-fields_one, app_bytes-fields_of, rows-fields_of, drop_fits}
+use Rattle.card_state.proofs.LayoutLemmas.{length-app_bytes_one, length-app_bytes, length-rows, known_flag_byte, known_flags_two, behind_one, fields_one-app_bytes_one, fields_of-app_bytes, app_bytes_one-fields_one, app_bytes-fields_of, rows-fields_of, drop_fits}
 
 -- the bytes of an application
 abbrev pub app_bytes_in : Version → AppState → List ℕ

@@ -1,6 +1,6 @@
 -- A card's bytes in both versions, and what is read of them.
 use Rattle.std.proofs.Common.{◌≡◌, ◌⊎◌, ℕ, zero, suc, ◌<◌, ◌≤◌, ◌==◌, ◌&&◌, Bool, true, false, nat_le, if◌then◌else◌, List, [], ◌∷◌, length, map, get_or, Option, Some, None, option_map, IfSome, refl, sym, ◌∙◌, ap, subst, arith, inl, inr}
-use Rattle.std.specs.List.{All, flat_map}
+use Rattle.std.specs.List.{flat_map}
 use Rattle.std.proofs.lemmas.Bool.Decides.{nat_tests}
 use Rattle.card_state.specs.declared.decoding.Version.{Version}
 use Rattle.card_state.specs.declared.decoding.Version.TheVariants.{One, Two}

@@ -1,5 +1,5 @@
 -- Decisions whose numbers fit the fields of the state that they set.
-use Rattle.std.specs.Prelude.{◌≡◌, ◌^◌, ◌<◌, List, length, ⊤, Option, Some, None}
+use Rattle.std.specs.Prelude.{◌^◌, ◌<◌, List, ⊤, Option, Some, None}
 use Rattle.std.specs.List.{All}
 use Rattle.card_state.specs.declared.decision.Sale.{Sale}
 use Rattle.card_state.specs.declared.decision.Steered.{Steered}

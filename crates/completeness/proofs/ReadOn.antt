@@ -56,11 +56,11 @@ module _ (image : ImageData) (analysed : AnalysisEnds image) (a : AppData) (app 
       verification_ends now trade
       (mark.HasRestricted (restricted trade.card trade.deal.settings trade.row trade.deal.purchase) ∷ mark.HasRead trade.card ∷ []) log lists here
 
-pub read_ends : (image : ImageData) → All KeepsRules image → AnalysisEnds image → ReadEnds image
+pub read_ends : (image : ImageData) → All KeepsRules image.apps → AnalysisEnds image → ReadEnds image
 unfolding read
 read_ends image rules analysed a app now deal row whole log there here =
     let kept : KeepsRules a = all_at KeepsRules image.apps app a there rules in
     chain (cut_off []) step.Read [] (λ card. restrictions (record { deal = deal; row = row; card = card })) step.Read
     (reading whole.reads.start)
-    (reading_runs image a app kept.records there whole.reads.card whole.reads.start.left whole.reads.start.entries now whole.reads.read here)
+    (reading_runs image a app kept there whole.reads.card whole.reads.start.left whole.reads.start.entries now whole.reads.read here)
     (λ at card own later. restrictions_end image analysed a app there at (record { deal = deal; row = row; card = card }) later (own_lists a whole card own.0) own.1) log

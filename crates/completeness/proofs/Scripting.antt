@@ -5,16 +5,15 @@ use Rattle.std.specs.List.{All}
 use Rattle.std.proofs.lemmas.List.Elements.{All-head, All-tail, All-weaker}
 use Rattle.apdu_core.specs.Command.{CommandData, command_of, command_bytes}
 use Rattle.card_app.specs.Answering.{row, instruction_row}
-use Rattle.card_app.specs.Cryptograms.{authenticate_row, authenticate_in, authenticate_for}
+use Rattle.card_app.specs.Cryptograms.{authenticate_row, authenticate_in, authenticate_for, judged}
 use Rattle.card_app.specs.Replies.{with_both}
 use Rattle.card_cryptogram.specs.Asked.{has_issuer_auth}
-use Rattle.card_cryptogram.specs.Scripts.{authenticates, is_authentication_size}
+use Rattle.card_cryptogram.specs.Authentication.{authentication, is_authenticated, is_authentication_size}
 use Rattle.card_cryptogram.specs.declared.phase.First.{First}
 use Rattle.card_cryptogram.specs.declared.phase.Phase.{Phase}
-use Rattle.card_cryptogram.specs.declared.phase.Phase.TheVariants.{Idle, Selected, Started, Online, Closed, Done as IsDone}
+use Rattle.card_cryptogram.specs.declared.phase.Phase.TheVariants.{Idle, Directory, Selected, Started, Online, Closed, Done as IsDone}
 use Rattle.card_files.specs.Views.{AppData, ImageData}
-use Rattle.card_pages.specs.Replies.{ReplyData, refused, decides}
-use Rattle.card_state.specs.declared.decision.Decision.TheVariants.{Authenticated}
+use Rattle.card_pages.specs.Replies.{ReplyData, refused}
 use Rattle.card_state.specs.declared.state.AppState.{AppState}
 use Rattle.card_state.specs.declared.state.CardState.{CardState}
 use Rattle.emv_dict.specs.Progress.{Progress, Done}
@@ -78,14 +77,13 @@ authenticating value = record { class = 0; ins = 0x82; p1 = 0; p2 = 0; body = va
 
 alone_for : (app : ℕ) (first : First) (value : List ℕ) (a : AppData) (s : AppState) → (authenticate_for app first value a s).body ≡ []
 unfolding authenticate_for
-alone_for app first value a s = by (not (has_issuer_auth a.aip)) (not (is_authentication_size (length value))) (authenticates a.ac_key s.counter first.cryptogram value)
+alone_for app first value a s = by (not (has_issuer_auth a.aip)) (not (is_authentication_size (length value)))
   where
-    by : (without wrong right : Bool)
-        → (if without then refused 0x6985 else if wrong then refused 0x6700 else if right then decides app (Authenticated true) [] 0x9000 else decides app (Authenticated false) [] 0x6300).body ≡ []
-    by true wrong right = refl
-    by false true right = refl
-    by false false true = refl
-    by false false false = refl
+    by : (without wrong : Bool)
+        → (if without then refused 0x6985 else if wrong then refused 0x6700 else judged app a (authentication a.ac_key s.counter first.cryptogram value)).body ≡ []
+    by true wrong = refl
+    by false true = refl
+    by false false = refl
 
 alone_both : (app : ℕ) (first : First) (value : List ℕ) (own : Option AppData) (state : Option AppState) → (with_both own state (authenticate_for app first value)).body ≡ []
 alone_both app first value None state = refl
@@ -94,10 +92,11 @@ alone_both app first value (Some a) (Some s) = alone_for app first value a s
 
 alone_in : (image : ImageData) (state : CardState) (phase : Phase) (value : List ℕ) → (authenticate_in image state phase value).body ≡ []
 alone_in image state Idle value = refl
+alone_in image state Directory value = refl
 alone_in image state (Selected app) value = refl
 alone_in image state (Started app) value = refl
 alone_in image state (Online app first None) value = alone_both app first value (slice_get image.apps app) (slice_get state.apps.items app)
-alone_in image state (Online app first (Some right)) value = refl
+alone_in image state (Online app first (Some auth)) value = refl
 alone_in image state (Closed app) value = refl
 alone_in image state (IsDone app first) value = refl
 

@@ -8,14 +8,15 @@ use Rattle.apdu_core.specs.Command.{CommandData, command_of, tail_of, tail_bytes
 use Rattle.apdu_core.specs.Response.{response_of, response_bytes}
 use Rattle.card_app.specs.Answering.{instruction_row, row, row_or_refusal, reply_in, card_reply, card_answer, options_row}
 use Rattle.card_app.specs.Cryptograms.{generate_row, generate_asked}
-use Rattle.card_app.specs.Files.{select_row, selected_reply, shown_for, data_row, data_for, data_object}
+use Rattle.card_app.specs.Files.{select_row, selected_reply, shown_for, is_behind_directory, app_reply, directory_or, data_row, data_for, data_object}
 use Rattle.card_app.specs.Options.{options_of}
 use Rattle.card_app.specs.Replies.{with_both}
+use Rattle.card_app.specs.Selection.{found, directory_asked}
 use Rattle.card_app.specs.Session.{Exchange, phase_of}
 use Rattle.card_cryptogram.specs.Asked.{is_class, kind_asked}
 use Rattle.card_cryptogram.specs.Phases.{current}
 use Rattle.card_cryptogram.specs.declared.phase.Phase.{Phase}
-use Rattle.card_cryptogram.specs.declared.phase.Phase.TheVariants.{Idle, Selected, Started, Online, Closed, Done}
+use Rattle.card_cryptogram.specs.declared.phase.Phase.TheVariants.{Idle, Directory, Selected, Started, Online, Closed, Done}
 use Rattle.card_files.specs.Files.{opening_of}
 use Rattle.card_files.specs.Views.{AppData, ImageData}
 use Rattle.card_pages.specs.Replies.{ReplyData, refused, decides}
@@ -42,11 +43,19 @@ both_new None s reply none = refl
 
 select_new : (image : ImageData) (state : CardState) (phase : Phase) (c : CommandData) → (select_row image state phase c).new ≡ []
 unfolding select_row
-select_new image state phase c = search (if_new, of_found)
+select_new image state phase c =
+    let none : (directory_or (directory_asked image c.p2 c.body) (app_reply image state phase c)).new ≡ [] =
+    of_directory (directory_asked image c.p2 c.body) (of_app (found image.apps phase c.p2 c.body)) in
+    search (if_new, none)
   where
-    of_found : (o : Option ℕ) → (selected_reply image state o).new ≡ []
-    of_found None = refl
-    of_found (Some app) = both_new (slice_get image.apps app) (slice_get state.apps.items app) shown_for (λ a s. refl)
+    of_app : (o : Option ℕ) → (selected_reply image.apps state o).new ≡ []
+    of_app None = refl
+    of_app (Some app) = both_new (slice_get image.apps app) (slice_get state.apps.items app) shown_for (λ a s. refl)
+
+    of_directory : (o : Option ℕ) → (selected_reply image.apps state (found image.apps phase c.p2 c.body)).new ≡ [] → (directory_or o (app_reply image state phase c)).new ≡ []
+    of_directory (Some sfi) none = refl
+    of_directory None none =
+        if_new (is_behind_directory phase c.p2) (refused 0x6A82) (selected_reply image.apps state (found image.apps phase c.p2 c.body)) refl none
 
 object_new : (p1 p2 : ℕ) (a : AppData) (s : AppState) → (data_object p1 p2 a s).new ≡ []
 unfolding data_object
@@ -140,6 +149,7 @@ module _ (image : ImageData) (state : CardState) where
 -- the application whose transaction has begun
 abbrev pub open_app : Phase → Option ℕ
 open_app Idle = None
+open_app Directory = None
 open_app (Selected app) = None
 open_app (Started app) = Some app
 open_app (Online app first sent) = Some app
@@ -150,6 +160,7 @@ open_app (Done app first) = Some app
 pub answered_open : (image : ImageData) (state : CardState) (phase : Phase) (c : CommandData) → c.class ≡ 0x80 → c.ins ≡ 0xAE
     → IsGood (row image state phase c) → (app : ℕ) → current phase ≡ Some app → open_app phase ≡ Some app
 answered_open image state Idle c class ins good app here = here
+answered_open image state Directory c class ins good app here = here
 answered_open image state (Selected other) c class ins good app here =
     absurd (generate_bad image state other c (subst (λ (r : ReplyData). IsGood r) (generate_is image state (Selected other) c class ins) good))
 answered_open image state (Started other) c class ins good app here = here

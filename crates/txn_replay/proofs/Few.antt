@@ -227,7 +227,7 @@ card_length : (i : ℕ) (card : CardData) → length (card_checks i card) ≤ 1 
 card_length i card = by_kind card.canned
   where
     by_kind : (o : Option (List (List ℕ))) → length (checks_for i card o) ≤ 1 + 3 * length card.image.apps
-    by_kind None = let asks : length (flat_map (app_checks i card) card.image) ≡ 3 * length card.image.apps = asks_length i card card.image in omega arith
+    by_kind None = let asks : length (flat_map (app_checks i card) card.image.apps) ≡ 3 * length card.image.apps = asks_length i card card.image.apps in omega arith
     by_kind (Some answers) = omega arith
 
 pub checks_length : (i : ℕ) (cards : List CardData) → ((k : ℕ) (card : CardData) → slice_get cards k ≡ Some card → length card.image.apps ≤ 4)
@@ -249,11 +249,11 @@ checks_few s is =
     omega arith
   where
     of_kind : (image : ImageData) (o : Option (List (List ℕ))) → IsKind image o → length image.apps ≤ 4
-    of_kind image None kind = kind.few
-    of_kind image (Some answers) kind = let none : length image.apps ≡ 0 = ap length kind.0 in omega arith
+    of_kind image None kind = kind.apps.few
+    of_kind image (Some answers) kind = let none : length image.apps ≡ 0 = ap (λ (x : ImageData). length x.apps) kind.0 in omega arith
 
     apps : (k : ℕ) (card : CardData) → slice_get s.cards k ≡ Some card → length card.image.apps ≤ 4
     apps k card here =
         let rules : IsCard (get_or s.cards k card) = is.tables.cards.each k card (slice_get_within s.cards k card here) in
-        subst (λ (x : CardData). length x.image ≤ 4) (get_or_from_slice_get s.cards k card card here)
+        subst (λ (x : CardData). length x.image.apps ≤ 4) (get_or_from_slice_get s.cards k card card here)
         (of_kind (get_or s.cards k card).image (get_or s.cards k card).canned rules.kind)

@@ -5,7 +5,7 @@ use Rattle.std.proofs.lemmas.Bool.{eqb-true, and_parts}
 use Rattle.apdu_core.specs.Command.{CommandData, command_of}
 use Rattle.apdu_core.specs.Response.{response_of, response_bytes}
 use Rattle.card_app.specs.Answering.{reply_in, row_or_refusal, card_reply, card_answer}
-use Rattle.card_app.specs.Cryptograms.{amount_in, cryptogram_for, first_for, second_by, second_made, second_for, generate_in, generate_asked, generate_row}
+use Rattle.card_app.specs.Cryptograms.{sale_for, cryptogram_for, first_for, second_by, second_made, second_for, generate_in, generate_asked, generate_row}
 use Rattle.card_app.specs.OwnLists.{cdol_of}
 use Rattle.card_app.specs.Replies.{with_both}
 use Rattle.card_app.specs.Session.{Exchange, phase_of}
@@ -16,13 +16,14 @@ use Rattle.card_cryptogram.specs.Asked.{is_online, kind_asked}
 use Rattle.card_cryptogram.specs.Fields.{given_from, code_given}
 use Rattle.card_cryptogram.specs.declared.phase.First.{First as FirstData}
 use Rattle.card_cryptogram.specs.declared.phase.Phase.{Phase}
-use Rattle.card_cryptogram.specs.declared.phase.Phase.TheVariants.{Idle, Selected, Started, Online, Closed, Done}
+use Rattle.card_cryptogram.specs.declared.phase.Phase.TheVariants.{Idle, Directory, Selected, Started, Online, Closed, Done}
 use Rattle.card_files.specs.Files.{opening_of}
 use Rattle.card_files.specs.Views.{AppData, ImageData}
 use Rattle.card_pages.specs.Replies.{ReplyData, refused}
 use Rattle.card_state.specs.Change.{changed}
 use Rattle.card_state.specs.Decisions.{Decided, is_start}
 use Rattle.card_state.specs.Totals.{totals}
+use Rattle.card_state.specs.declared.decision.Auth.{Auth}
 use Rattle.card_state.specs.declared.decision.Decision.{Decision}
 use Rattle.card_state.specs.declared.decision.Decision.TheVariants.{Second}
 use Rattle.card_state.specs.declared.decision.How.{How}
@@ -101,7 +102,7 @@ module _ (image : ImageData) (ds : List Decided) (holder : Holder) where
   first_told app asked filled a s there has =
       if_told (Started app) _ _ _ (refuses (Started app) 0x6700 (λ e. omega arith)) (made (Started app) app a s _ _ _ refl there has refl)
 
-  second_told : (app : ℕ) (first : FirstData) (sent : Option Bool) (asked : Kind) (filled : List ℕ) (a : AppData) (s : AppState)
+  second_told : (app : ℕ) (first : FirstData) (sent : Option Auth) (asked : Kind) (filled : List ℕ) (a : AppData) (s : AppState)
       → slice_get image.apps app ≡ Some a → slice_get state.apps.items app ≡ Some s
       → Told (Online app first sent) (second_for state.blocked app first sent asked filled a s)
   unfolding second_for
@@ -109,7 +110,7 @@ module _ (image : ImageData) (ds : List Decided) (holder : Holder) where
       if_told phase (not (length filled == total_of (cdol_of a.cdol2))) (refused 0x6700) (if is_online asked then refused 0x6A86 else reply)
       (refuses phase 0x6700 (λ e. omega arith))
       (if_told phase (is_online asked) (refused 0x6A86) reply (refuses phase 0x6A86 (λ e. omega arith))
-      (made phase app a s by.0 (Second by.0 by.1 (amount_in given)) given refl there has refl))
+      (made phase app a s by.0 (Second by.0 by.1 (sale_for a given)) given refl there has refl))
     where
       phase : Phase
       phase = Online app first sent
@@ -135,6 +136,7 @@ module _ (image : ImageData) (ds : List Decided) (holder : Holder) where
           both (Online app first sent) app (second_for state.blocked app first sent asked c.body) (second_told app first sent asked c.body)
           (slice_get image.apps app) (slice_get state.apps.items app) refl refl
       by_phase Idle asked = refuses Idle 0x6985 (λ e. omega arith)
+      by_phase Directory asked = refuses Directory 0x6985 (λ e. omega arith)
       by_phase (Selected app) asked = refuses (Selected app) 0x6985 (λ e. omega arith)
       by_phase (Closed app) asked = refuses (Closed app) 0x6985 (λ e. omega arith)
       by_phase (Done app first) asked = refuses (Done app first) 0x6985 (λ e. omega arith)

@@ -1,4 +1,4 @@
-use Rattle.std.proofs.Common.{rules, arith}
+use Rattle.std.proofs.Common.{rules}
 use Rattle.card_state.specs.Encoding.{row_bytes, IsRow}
 use Rattle.card_state.proofs.Appended.{read_bytes_more, read_all_more}
 use Rattle.card_state.proofs.encoding.append_rows.Goals as goal
