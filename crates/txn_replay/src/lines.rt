@@ -28,7 +28,7 @@ fn shown(app: &AppImage, state: &AppState) -> Shown
         sum: state.sum,
         tries: state.tries,
         flags: flags(state),
-        sum_two: app.currency_two.map(|_| state.sum_two),
+        sum_two: app.currency_two.and(Some(state.sum_two)),
     }
 }
 
