@@ -1,9 +1,9 @@
 //! The steps before the card is read: application selection, initiation and reading (EMV 4.3 Book 1
 //! section 12 and Book 3 sections 10.1 and 10.2).
-ghost use Rattle.std.specs.Prelude.{◌≡◌, ◌≤◌, ◌<◌, ◌+◌, ◌*◌, ⊤, true, [], ◌∷◌, ℕ, List, length, Option, option_map, if◌then◌else◌};
+ghost use Rattle.std.specs.Prelude.{◌≡◌, ◌≤◌, ◌<◌, ◌+◌, ◌*◌, ⊤, [], ◌∷◌, ℕ, List, length, Option, option_map, if◌then◌else◌};
 ghost use Rattle.app_select.specs.Leading.{HasRoom, rest_with, selected_with, answers_left};
 ghost use Rattle.app_select.specs.NextLeads.{SearchNextLeads, NextHasRoom};
-ghost use Rattle.app_select.specs.Selecting.{SelectedData, selecting};
+ghost use Rattle.app_select.specs.Selecting.{SelectedData};
 ghost use Rattle.emv_dict.specs.Progress.{Progress};
 ghost use Rattle.emv_dict.specs.Settings.{IsAidRow, IsSettings};
 ghost use Rattle.emv_dict.specs.declared.ending.Step.TheVariants as step;
@@ -21,8 +21,7 @@ ghost use Rattle.kernel.specs.declared.kernel.Next.TheVariants as waits;
 ghost use Rattle.kernel.specs.declared.stage.Opening.TheVariants as stage;
 ghost use Rattle.object_lists.specs.CardRead.{ReadCard};
 ghost use Rattle.object_lists.specs.Forms.{HasForms};
-ghost use Rattle.pse_directory.specs.Directory.{selecting_by};
-ghost use Rattle.pse_directory.specs.Left.{answers_left as directory_answers_left, rest_of as directory_rest};
+ghost use Rattle.pse_directory.specs.Left.{answers_left as directory_answers_left};
 ghost use Rattle.pse_directory.specs.Next.{DirectoryNextHasRoom, DirectoryNextLeads, answers_left_next as directory_answers_left_next};
 ghost use Rattle.read_records.specs.Afl.{most_records};
 ghost use Rattle.read_records.specs.Checked.{HasOptions};
@@ -53,6 +52,7 @@ pub(crate) enum OpeningNext<'s> {
 }
 
 /// A dialogue begins with its first command: no candidate is found, and no object is read.
+#[tactic(auto, unfolding(crate::specs::Dialogue::dialogue))]
 pub(crate) fn begin<'s>(
     settings: &'s Settings,
     purchase: &Purchase,
@@ -66,61 +66,16 @@ pub(crate) fn begin<'s>(
     ensures few { (table : Table) → table.candidates ≡ [] → opening_rank table result ≤ 2 * 768 + (most_records + rank_behind table) }
     ensures fits { (table : Table) → table.candidates ≡ [] → table.moment ≡ moment [] → OpeningFits table [] result }
 {
+    let begun = false;
     if settings.pse {
-        begin_directory(settings, purchase.confirm, command)
+        let listing = Listing::begin(settings, purchase.confirm);
+        listing.ask(command);
+        Opening::Directory(AtDirectory { listing, begun })
     } else {
-        begin_list(settings, purchase.confirm, command)
+        let search = Search::begin(settings, purchase.confirm);
+        search.ask(command);
+        Opening::Select(AtSelect { search, begun })
     }
-}
-
-/// It begins with the card's directory.
-fn begin_directory<'s>(settings: &'s Settings, confirm: bool, command: &mut Out) -> Opening<'s>
-    requires { IsSettings settings.now }
-    ensures stands { (table : Table) (rest : List Reply → Standing Mark)
-        → table.moment ≡ moment [] → table.command.items ≡ command.new.items
-        → ((later : List Reply) → rest later ≡ card_step (cut_off []) step.Power step.Select [] (selecting_by true settings.entry.now.aids confirm) (selected_then (deal_of table)) [] later)
-        → OpeningStands table [] result [] rest }
-    ensures waits { opening_next result ≡ waits.ToCard }
-    ensures few { (table : Table) → opening_rank table result ≤ 2 * 768 + (most_records + rank_behind table) }
-    ensures fits { (table : Table) → table.moment ≡ moment [] → OpeningFits table [] result }
-{
-    let listing = Listing::begin(settings, confirm);
-    listing.ask(command);
-    let begun = false;
-    Opening::Directory(AtDirectory { listing, begun })
-}
-
-/// It begins with the terminal's list of AIDs.
-fn begin_list<'s>(settings: &'s Settings, confirm: bool, command: &mut Out) -> Opening<'s>
-    requires { IsSettings settings.now }
-    ensures stands { (table : Table) (rest : List Reply → Standing Mark)
-        → table.candidates ≡ [] → table.moment ≡ moment [] → table.command.items ≡ command.new.items
-        → ((later : List Reply) → rest later ≡ card_step (cut_off []) step.Power step.Select [] (selecting settings.entry.now.aids confirm) (selected_then (deal_of table)) [] later)
-        → OpeningStands table [] result [] rest }
-    ensures waits { opening_next result ≡ waits.ToCard }
-    ensures few { (table : Table) → table.candidates ≡ [] → opening_rank table result ≤ 2 * 768 + (most_records + rank_behind table) }
-    ensures fits { (table : Table) → table.candidates ≡ [] → table.moment ≡ moment [] → OpeningFits table [] result }
-{
-    let search = Search::begin(settings, confirm);
-    search.ask(command);
-    let begun = false;
-    Opening::Select(AtSelect { search, begun })
-}
-
-/// The directory's next record is asked for.
-fn ask_directory<'s>(table: &mut Table<'s>, listing: Listing<'s>) -> Opening<'s>
-    requires { table.old.moment ≡ moment [] }
-    ensures stands { (log : List Logged) (course : List (List ℕ) → Progress SelectedData) (rest : List Reply → Standing Mark)
-        → ((later : List Reply) → rest later ≡ card_step (cut_off []) step.Select step.Select [] course (selected_then (deal_of table.old)) log later)
-        → ((later : List (List ℕ)) → course later ≡ directory_rest listing.entry later)
-        → OpeningStands table.new [] result log rest }
-    ensures same { deal_of table.new ≡ deal_of table.old }
-    ensures few { opening_rank table.new result ≤ 2 * directory_answers_left listing.entry + (most_records + rank_behind table.old) }
-    ensures fits { OpeningFits table.new [] result }
-{
-    listing.ask(&mut table.command);
-    let begun = true;
-    Opening::Directory(AtDirectory { listing, begun })
 }
 
 /// How application selection goes on behind an answer for the directory.
@@ -137,7 +92,11 @@ fn directory_next<'s>(table: &mut Table<'s>, objects: &Env, next: DirectoryNext<
     ensures fits { OpeningFits table.new objects.now result }
 {
     match next {
-        DirectoryNext::Ask(listing) => ask_directory(table, listing),
+        DirectoryNext::Ask(listing) => {
+            listing.ask(&mut table.command);
+            let begun = true;
+            Opening::Directory(AtDirectory { listing, begun })
+        }
         DirectoryNext::Found(search) => ask_search(table, objects, true, search),
         DirectoryNext::List(search) => ask_search(table, objects, true, search),
         DirectoryNext::Ended(cause) => Opening::Over(Ending::Terminated(Step::Select, cause)),

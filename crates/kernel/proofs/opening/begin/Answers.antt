@@ -1,12 +1,14 @@
-use Rattle.std.proofs.Common.{◌≡◌, refl, sym, ap, ◌∙◌, ℕ, Bool, true, false, List, []}
+use Rattle.std.proofs.Common.{◌≡◌, refl, sym, ap, ◌∙◌, ℕ, Bool, true, false, List, [], arith}
+use Rattle.app_select.specs.Leading.{rest_with}
 use Rattle.emv_dict.specs.Views.{SettingsData, PurchaseData}
 use Rattle.emv_dict.specs.declared.ending.Step.TheVariants as step
-use Rattle.emv_dict.specs.declared.purchase.AidRow.{AidRow}
 use Rattle.kernel.proofs.Opened.{asks_on}
 use Rattle.kernel.proofs.opening.begin.Goals as goal
 use Rattle.kernel.specs.Dialogue.{dialogue, selected_then}
 use Rattle.pse_directory.proofs.Chains.{without_directory}
+use Rattle.pse_directory.proofs.Going.{rest_wants}
 use Rattle.pse_directory.specs.Directory.{selecting_by}
+use Rattle.pse_directory.specs.Left.{DirectoryData, answers_left, rest_of as directory_rest}
 use Rattle.terminal_state.specs.Table.{deal_of}
 use Rattle.terminal_state.specs.Terminal.{Deal}
 
@@ -16,19 +18,29 @@ same_course : (deal : Deal) (settings : SettingsData) (purchase : PurchaseData) 
     → selecting_by deal.settings.pse deal.settings.aids deal.purchase.confirm later ≡ selecting_by pse settings.aids confirm later
 same_course deal settings purchase pse confirm dealt pse_is confirm_is later = rw (dealt, pse_is, confirm_is) refl
 
-pub returns-then-pse-clause-stands : goal.returns-then-pse-clause-stands
+pub returns-then-settings-clause-stands : goal.returns-then-settings-clause-stands
 unfolding dialogue
-returns-then-pse-clause-stands c = λ table dealt candidates moment command.
-    let deal = deal_of table in
-    c.begin_directory.ensures.stands table (dialogue deal) moment command
-    (asks_on step.Power step.Select (selecting_by deal.settings.pse deal.settings.aids deal.purchase.confirm) (selected_then deal) [] (dialogue deal) (λ later. refl) _
-    (same_course deal _ _ true _ dealt (sym (ap (λ (s : SettingsData). s.pse) c.settings.view_is) ∙ c.if-pse.true) (sym (ap (λ (p : PurchaseData). p.confirm) c.purchase.view_is))))
+returns-then-settings-clause-stands c = λ table dealt candidates moment command.
+    let deal = deal_of table in record {
+      passed = asks_on step.Power step.Select (selecting_by deal.settings.pse deal.settings.aids deal.purchase.confirm) (selected_then deal) [] (dialogue deal) (λ later. refl) (directory_rest c.begin-listing.result)
+          (λ later. same_course deal _ _ true _ dealt (sym (ap (λ (s : SettingsData). s.pse) c.settings.view_is) ∙ c.if-settings.true) (sym (ap (λ (p : PurchaseData). p.confirm) c.purchase.view_is)) later
+          ∙ c.begin-listing.ensures.leads later);
+      tied = moment;
+      shows = rw command (rest_wants c.begin-listing.result _ c.ask.ensures.wants);
+    }
 
-pub returns-else-pse-clause-stands : goal.returns-else-pse-clause-stands
+pub returns-then-settings-clause-few : goal.returns-then-settings-clause-few
+returns-then-settings-clause-few c = λ table candidates.
+    let left : answers_left c.begin-listing.result ≡ 768 = ap (λ (d : DirectoryData). answers_left d) c.begin-listing.ensures.is in
+    omega (arith, left)
+
+pub returns-else-settings-clause-stands : goal.returns-else-settings-clause-stands
 unfolding dialogue
-returns-else-pse-clause-stands c = λ table dealt candidates moment command.
-    let deal = deal_of table in
-    c.begin_list.ensures.stands table (dialogue deal) candidates moment command
-    (asks_on step.Power step.Select (selecting_by deal.settings.pse deal.settings.aids deal.purchase.confirm) (selected_then deal) [] (dialogue deal) (λ later. refl) _
-    (λ later. same_course deal _ _ false _ dealt (sym (ap (λ (s : SettingsData). s.pse) c.settings.view_is) ∙ c.if-pse.false) (sym (ap (λ (p : PurchaseData). p.confirm) c.purchase.view_is)) later
-    ∙ without_directory _ _ later))
+returns-else-settings-clause-stands c = λ table dealt candidates moment command.
+    let deal = deal_of table in record {
+      passed = rw candidates (asks_on step.Power step.Select (selecting_by deal.settings.pse deal.settings.aids deal.purchase.confirm) (selected_then deal) [] (dialogue deal) (λ later. refl) (rest_with c.begin-search.result [])
+          (λ later. same_course deal _ _ false _ dealt (sym (ap (λ (s : SettingsData). s.pse) c.settings.view_is) ∙ c.if-settings.false) (sym (ap (λ (p : PurchaseData). p.confirm) c.purchase.view_is)) later
+          ∙ without_directory _ _ later ∙ c.begin-search.ensures.leads later));
+      tied = moment;
+      shows = rw (candidates, command) (c.ask-else-settings.ensures.wants [] (rest_with c.begin-search.result []) [] (λ later. refl));
+    }
