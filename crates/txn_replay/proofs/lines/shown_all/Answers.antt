@@ -15,9 +15,10 @@ loop-app-preserved c =
     ∙ ap iter_rest c.zip-app-items.ensures.first
     ∙ c.iter.ensures.rest
     ∙ c.apps.ensures.apps in
+    let other : iter_rest (zip_second c.zip-app-items.result) ≡ c.as_slice.result.now = c.zip-app-items.ensures.second in
     let second =
     ap (λ z. iter_rest (zip_second z)) c.into_iter-app-iterator.ensures.into_iter_gives
-    ∙ c.zip-app-items.ensures.second
+    ∙ other
     ∙ c.as_slice.ensures.value in
     let turn = zip_turn c.args.image.now.apps c.args.state.now.apps.items c.loop-app.yielded _ _ _ _ first second c.loop-app.yielded_by
     (c.in-Some.app, c.in-Some.counts) c.in-Some.is c.next.ensures.steps in
@@ -42,9 +43,10 @@ returns c =
     ∙ ap iter_rest c.zip-app-items.ensures.first
     ∙ c.iter.ensures.rest
     ∙ c.apps.ensures.apps in
+    let other : iter_rest (zip_second c.zip-app-items.result) ≡ c.as_slice.result.now = c.zip-app-items.ensures.second in
     let second =
     ap (λ z. iter_rest (zip_second z)) c.into_iter-app-iterator.ensures.into_iter_gives
-    ∙ c.zip-app-items.ensures.second
+    ∙ other
     ∙ c.as_slice.ensures.value in
     c.loop-app.invariant.so_far
     ∙ shows_all c.args.image.now.apps c.args.state.now.apps.items (length c.loop-app.yielded)
