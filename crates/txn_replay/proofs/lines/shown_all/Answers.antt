@@ -15,7 +15,7 @@ loop-app-preserved c =
     ∙ ap iter_rest c.zip-app-items.ensures.first
     ∙ c.iter.ensures.rest
     ∙ c.apps.ensures.apps in
-    let other : iter_rest (zip_second c.zip-app-items.result) ≡ c.as_slice.result.now = c.zip-app-items.ensures.second in
+    let other : iter_rest (zip_second c.zip-app-items.result) ≡ c.as_slice.result.now = c.zip-app-items.ensures.second.0 in
     let second =
     ap (λ z. iter_rest (zip_second z)) c.into_iter-app-iterator.ensures.into_iter_gives
     ∙ other
@@ -43,7 +43,7 @@ returns c =
     ∙ ap iter_rest c.zip-app-items.ensures.first
     ∙ c.iter.ensures.rest
     ∙ c.apps.ensures.apps in
-    let other : iter_rest (zip_second c.zip-app-items.result) ≡ c.as_slice.result.now = c.zip-app-items.ensures.second in
+    let other : iter_rest (zip_second c.zip-app-items.result) ≡ c.as_slice.result.now = c.zip-app-items.ensures.second.0 in
     let second =
     ap (λ z. iter_rest (zip_second z)) c.into_iter-app-iterator.ensures.into_iter_gives
     ∙ other
