@@ -1,8 +1,7 @@
 -- What pages stand for that hold the bytes of an opening state.
-use Rattle.std.proofs.Common.{◌≡◌, ℕ, List, [], ◌∷◌, refl, sym, ap, subst, ◌∙◌, inl, inr, arith, length}
+use Rattle.std.proofs.Common.{◌≡◌, ℕ, List, [], ◌∷◌, refl, sym, ap, subst, ◌∙◌, inl, inr}
 use Rattle.card_state.specs.Encoding.{encoding, encoding_one, HasShortLogs, IsCardState}
 use Rattle.card_state.specs.Totals.{totals}
-use Rattle.card_state.specs.declared.state.AppState.{AppState}
 use Rattle.card_state.specs.declared.state.CardState.{CardState}
 use Rattle.torn_store.specs.Layout.{recover}
 use Rattle.torn_store.specs.Recovery.{Holds}
@@ -35,7 +34,3 @@ module _ (cells : Cells) (version : ℕ) (opening : CardState) (text : List ℕ)
         short = short;
         holds = subst (λ (s : List ℕ). Holds recover cells s) (is ∙ ap (λ (s : CardState). encoding s) (sym unused)) holds;
       })
-
--- a card of no applications has no long logs
-pub none_short : (state : CardState) → state.apps.items ≡ [] → HasShortLogs state
-none_short state none = λ k d within. absurd (let empty : length state.apps.items ≡ 0 = ap (λ (xs : List AppState). length xs) none in let none : ⊥ = omega arith in none)

@@ -1,5 +1,5 @@
 -- What a power-up finds, and what the pages stand for where it is cut.
-use Rattle.std.proofs.Common.{◌≡◌, ◌⊎◌, ◌<◌, ℕ, zero, suc, Bool, true, false, List, [], ◌∷◌, ◌++◌, Option, Some, None, option_map, unwrap_or, get_or, refl, sym, ap, subst, ◌∙◌, lit<, arith, inl, inr}
+use Rattle.std.proofs.Common.{◌≡◌, ◌⊎◌, ◌<◌, ℕ, zero, suc, Bool, true, false, List, [], ◌∷◌, ◌++◌, Option, Some, None, option_map, unwrap_or, get_or, sym, ap, subst, ◌∙◌, lit<, arith, inl, inr}
 use Rattle.std.specs.Prelude.{Contains}
 use Rattle.card_state.specs.Decisions.{Decided}
 use Rattle.card_state.specs.Encoding.{encoding, encoding_one, HasShortLogs, IsCardState}
@@ -15,7 +15,7 @@ use Rattle.torn_store.specs.Layout.{recover}
 use Rattle.torn_store.specs.Recovery.{Holds, Among, Between}
 use Rattle.torn_store.proofs.Outcomes.{has_first, among_within}
 use Rattle.torn_store.proofs.Stored.{holds_among, one_of_two, among_one}
-use Rattle.card_pages.specs.Pages.{Cells, HoldsTotals, IsFresh, MayStand, found_of, upgraded}
+use Rattle.card_pages.specs.Pages.{Cells, IsFresh, MayStand, found_of, upgraded}
 use Rattle.card_pages.specs.SeenKept.{KeptOn}
 
 either : {A : Type 0} (one other : A) → (one ≡ other) ⊎ (one ≡ other) → one ≡ other

@@ -42,6 +42,7 @@ const OPENED: Counts = Counts {
 
 /// A state with these counts, a limit of 30.00 in its second currency, and a log of at most three rows.
 fn app_of(counts: Counts) -> AppState {
+    let pin = counts.pin;
     AppState {
         counter: counts.counter,
         last_online: counts.last_online,
@@ -52,7 +53,7 @@ fn app_of(counts: Counts) -> AppState {
         tries: counts.tries,
         blocked: counts.blocked,
         auth_failed: counts.auth_failed,
-        pin: counts.pin,
+        pin,
         sum_two: counts.sum_two,
         limit_two: 3000,
         log_max: 3,
@@ -391,10 +392,16 @@ fn a_steering_does_what_its_bits_say(rt: HostRuntime) {
 
 /// The row of a sale.
 fn row(counter: u16, kind: u8, sale: Sale) -> LogRow {
+    let Sale {
+        raw,
+        currency,
+        date,
+        ..
+    } = sale;
     LogRow {
-        raw: sale.raw,
-        currency: sale.currency,
-        date: sale.date,
+        raw,
+        currency,
+        date,
         counter,
         kind,
     }

@@ -79,12 +79,13 @@ kept_all found few = let less = few_firsts [] found in take_all 16 (firsts found
 -- a row that passes is found, or an earlier one
 find_some : (p : AidRow → Bool) (rows : List AidRow) (row : AidRow) → Contains rows row → p row ≡ true → find p rows ≡ None → ⊥
 find_some p [] row (k, within, is) passes none = absurd (omega (arith, within))
-find_some p (first ∷ rows) row (k, within, is) passes none = by k within is (p first) refl none
+find_some p (first ∷ rows) row (k, within, is) passes none = by k within is (p first) refl none (λ there missing. find_some p rows row there passes missing)
   where
-    by : (k : ℕ) → k < length (first ∷ rows) → slice_index_or (first ∷ rows) k row ≡ row → (test : Bool) → p first ≡ test → (if test then Some first else find p rows) ≡ None → ⊥
-    by k within is true found none = absurd (cc none)
-    by zero within is false found none = absurd (cc (sym found ∙ ap p is ∙ passes))
-    by (suc k) within is false found none = find_some p rows row (k, omega arith, is) passes none
+    by : (k : ℕ) → k < length (first ∷ rows) → slice_index_or (first ∷ rows) k row ≡ row → (test : Bool) → p first ≡ test → (if test then Some first else find p rows) ≡ None
+        → (Contains rows row → find p rows ≡ None → ⊥) → ⊥
+    by k within is true found none later = absurd (cc none)
+    by zero within is false found none later = absurd (cc (sym found ∙ ap p is ∙ passes))
+    by (suc k) within is false found none later = later (k, omega arith, is) none
 
 abbrev reading : ℕ → ℕ → CommandData
 reading sfi number = record { class = 0; ins = 0xB2; p1 = number; p2 = file_byte sfi; body = []; expects = Some 0 }
@@ -276,18 +277,18 @@ module _ (image : ImageData) (kept : List Decided) (deal : Deal) (is_image : IsI
   without_by : (now : Now) (hit : Option ℕ) → image.directory ≡ None → now.kept ≡ kept → finds image.apps (phase_at image now) 0 directory_name ≡ hit → Sought image.apps directory_name 0 hit
       → (name_said (says image now (select_command 0 directory_name)) ≡ Nothing) × ((goes image now (select_command 0 directory_name)).kept ≡ kept)
   unfolding name_said
-  without_by now hit no same found (absent none) =
+  without_by now hit missing same found (absent none) =
       let good : (state_at image now).blocked ≡ false = ap (λ (ds : List Decided). (totals (opening_of image) ds).blocked) same ∙ well.unblocked in
-      let is = absent_row image now 0 directory_name (phase_at image now) refl refl good no refl found true refl in
+      let is = absent_row image now 0 directory_name (phase_at image now) refl refl good missing refl found true refl in
       let empty : length {A = ℕ} [] ≤ 256 = omega arith in
       let made = answers {image = image} {now = now} {command = select_command 0 directory_name} {reply = refused 0x6A82} (asked 0 directory_name) (phase_at image now)
       (command_again (asked 0 directory_name)) refl is empty in
       (ap name_response made.read, made.kept ∙ append-nil now.kept ∙ same)
-  without_by now hit no same found (there app a up at begin before) =
+  without_by now hit missing same found (there app a up at begin before) =
       let good : (state_at image now).blocked ≡ false = ap (λ (ds : List Decided). (totals (opening_of image) ds).blocked) same ∙ well.unblocked in
       let rules : KeepsRules a = all_at KeepsRules image.apps app a at is_image.apps.rules in
       let held = has_state image now app a at in
-      let made = shows_one image now 0 directory_name (phase_at image now) refl refl good no refl app a held.state (omega arith) (omega arith) rules found at held.there in
+      let made = shows_one image now 0 directory_name (phase_at image now) refl refl good missing refl app a held.state (omega arith) (omega arith) rules found at held.there in
       (by a rules held.state.blocked (response_of (says image now (select_command 0 directory_name))) made.read, made.kept ∙ append-nil now.kept ∙ same)
     where
       by : (a : AppData) → KeepsRules a → (blocked : Bool) (answer : Option ResponseData) → answer ≡ Some (record { body = fci_bytes a; status = (if blocked then 0x6283 else 0x9000) }) → name_response answer ≡ Nothing
@@ -296,8 +297,8 @@ module _ (image : ImageData) (kept : List Decided) (deal : Deal) (is_image : IsI
 
   without_directory : (now : Now) → image.directory ≡ None → now.kept ≡ kept → Runs image Gave now (directory rows confirm)
   unfolding directory
-  without_directory now no same =
-      let said = without_by now (first_named 0 directory_name (drop 0 image.apps)) no same refl (sought image.apps directory_name 0) in
+  without_directory now missing same =
+      let said = without_by now (first_named 0 directory_name (drop 0 image.apps)) missing same refl (sought image.apps directory_name 0) in
       asks (select_command 0 directory_name) refl
       (done [] (λ later. ap (λ (said : NameSaid). named said (λ n. records rows confirm n 1 [] later) later) said.0)
       (none_given (goes image now (select_command 0 directory_name)) said.1))

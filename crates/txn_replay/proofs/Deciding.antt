@@ -8,7 +8,7 @@ use Rattle.apdu_core.specs.Command.{CommandData, command_of, tail_of, tail_bytes
 use Rattle.apdu_core.specs.Response.{response_of, response_bytes}
 use Rattle.card_app.specs.Answering.{instruction_row, row, row_or_refusal, reply_in, card_reply, card_answer, options_row}
 use Rattle.card_app.specs.Cryptograms.{generate_row, generate_asked}
-use Rattle.card_app.specs.Files.{select_row, selected_reply, shown_for, app_reply, directory_or, data_row, data_for, data_object}
+use Rattle.card_app.specs.Files.{select_row, selected_reply, shown_for, is_behind_directory, app_reply, directory_or, data_row, data_for, data_object}
 use Rattle.card_app.specs.Options.{options_of}
 use Rattle.card_app.specs.Replies.{with_both}
 use Rattle.card_app.specs.Selection.{found, directory_asked}
@@ -44,7 +44,9 @@ both_new None s reply none = refl
 select_new : (image : ImageData) (state : CardState) (phase : Phase) (c : CommandData) → (select_row image state phase c).new ≡ []
 unfolding select_row
 select_new image state phase c =
-    if_new _ _ _ refl (if_new _ _ _ refl (if_new _ _ _ refl (of_directory (directory_asked image c.p2 c.body) (of_app (found image.apps phase c.p2 c.body)))))
+    let none : (directory_or (directory_asked image c.p2 c.body) (app_reply image state phase c)).new ≡ [] =
+    of_directory (directory_asked image c.p2 c.body) (of_app (found image.apps phase c.p2 c.body)) in
+    search (if_new, none)
   where
     of_app : (o : Option ℕ) → (selected_reply image.apps state o).new ≡ []
     of_app None = refl
@@ -52,7 +54,8 @@ select_new image state phase c =
 
     of_directory : (o : Option ℕ) → (selected_reply image.apps state (found image.apps phase c.p2 c.body)).new ≡ [] → (directory_or o (app_reply image state phase c)).new ≡ []
     of_directory (Some sfi) none = refl
-    of_directory None none = if_new _ _ _ refl none
+    of_directory None none =
+        if_new (is_behind_directory phase c.p2) (refused 0x6A82) (selected_reply image.apps state (found image.apps phase c.p2 c.body)) refl none
 
 object_new : (p1 p2 : ℕ) (a : AppData) (s : AppState) → (data_object p1 p2 a s).new ≡ []
 unfolding data_object

@@ -30,8 +30,8 @@ unreachable-requires g c =
     let none : None ≡ Some state = sym c.in-None.is ∙ read in
     cc none
 
-pub invariant_of-self : goal.invariant_of-self
-invariant_of-self g c =
+pub invariant_of-self-in-Some : goal.invariant_of-self-in-Some
+invariant_of-self-in-Some g c =
     let opening = c.args.opening.now in
     let s = c.requires.stands in
     let cells = c.self.inside.place.memory.cells in
