@@ -1,2 +1,4 @@
 mod Courses
 mod Reading
+mod ListSteps
+mod Finding

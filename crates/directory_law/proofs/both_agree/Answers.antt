@@ -1,5 +1,10 @@
 use Rattle.directory_law.proofs.Reading.{directory_comes}
+use Rattle.directory_law.proofs.Finding.{list_comes}
+use Rattle.directory_law.proofs.ListSteps.{list_opens}
 use Rattle.directory_law.proofs.both_agree.Goals as goal
 
 pub returns-clause-agrees : goal.returns-clause-agrees
-returns-clause-agrees c = let h = directory_comes in ?
+returns-clause-agrees c = let h = directory_comes in let h = list_comes in ?
+
+pub returns-clause-opens : goal.returns-clause-opens
+returns-clause-opens c = list_opens
