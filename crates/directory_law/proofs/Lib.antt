@@ -2,3 +2,5 @@ mod Courses
 mod Reading
 mod ListSteps
 mod Finding
+mod Names
+mod Order
