@@ -4,3 +4,5 @@ mod ListSteps
 mod Finding
 mod Names
 mod Order
+mod Owned
+mod Agreed
