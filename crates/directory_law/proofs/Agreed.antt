@@ -64,5 +64,5 @@ pub agreed : DirectoryAgrees
 agreed image decided rows confirm one two open_card plain same_one same_two = by image.directory refl open_card.directory
   where
     by : (o : Option ℕ) → image.directory ≡ o → IsSome o → Agree image rows confirm one two
-    by None is some = absurd some
+    by None is some = absurd (cc some)
     by (Some sfi) is some = agrees image decided open_card rows sfi is plain confirm one two same_one same_two

@@ -1,6 +1,6 @@
 -- What the directory and the list find of an application is its own priority.
 use Rattle.std.proofs.Common.{◌≡◌, ◌≢◌, ℕ, suc, ◌<◌, Bool, true, false, List, [], ◌∷◌, ◌++◌, length, Option, Some, None, option_map, refl, sym, ap, ◌∙◌, arith, if◌then◌else◌}
-use Rattle.std.specs.List.{All, AllPairs, find, cons_option}
+use Rattle.std.specs.List.{All, AllPairs, find, cons_option, slice_index_or}
 use Rattle.std.specs.Str.{bytes_eq}
 use Rattle.std.proofs.lemmas.List.Elements.{All-nil, All-cons, All-head, All-tail, All-append}
 use Rattle.std.proofs.lemmas.Slice.Eq.{bytes_eq-Decides}
@@ -26,11 +26,11 @@ own_apps [] other = All-nil (HasOwn (priority_in []))
 own_apps (a ∷ apps) other =
     let later : All (HasOwn (priority_in apps)) apps = own_apps apps (λ i j d less within. other (suc i) (suc j) d (omega arith) (omega arith)) in
     let head : HasOwn (priority_in (a ∷ apps)) a = rw (named_itself a.name) refl in
-    All-cons (HasOwn (priority_in (a ∷ apps))) a apps head (λ k d within. behind (bytes_eq a.name _) refl (other 0 (suc k) d (omega arith) (omega arith)) (later k d within))
+    All-cons (HasOwn (priority_in (a ∷ apps))) a apps head (λ k d within. let b = slice_index_or apps k d in behind b (bytes_eq a.name b.name) refl (other 0 (suc k) d (omega arith) (omega arith)) (later k d within))
   where
-    behind : {b : AppData} (same : Bool) → bytes_eq a.name b.name ≡ same → a.name ≢ b.name → HasOwn (priority_in apps) b → b.priority ≡ (if same then a.priority else priority_in apps b.name)
-    behind {b} true is other own = absurd (other ((bytes_eq-Decides a.name b.name).0 is))
-    behind false is other own = own
+    behind : (b : AppData) (same : Bool) → bytes_eq a.name b.name ≡ same → a.name ≢ b.name → HasOwn (priority_in apps) b → b.priority ≡ (if same then a.priority else priority_in apps b.name)
+    behind b true is other own = absurd (other ((bytes_eq-Decides a.name b.name).0 is))
+    behind b false is other own = own
 
 module _ (priority : List ℕ → Option ℕ) where
   abbrev Owned : CandidateData → Type 0
