@@ -1,9 +1,11 @@
 -- The directory and the list agree.
-use Rattle.std.proofs.Common.{◌≡◌, ℕ, Bool, false, List, [], Option, Some, None, refl, sym, ap, ◌∙◌}
-use Rattle.std.specs.List.{All}
+use Rattle.std.proofs.Common.{◌≡◌, ℕ, Bool, false, List, [], ◌∷◌, Option, Some, None, refl, sym, ap, ◌∙◌, subst}
+use Rattle.std.specs.List.{All, Contains, find}
 use Rattle.std.specs.Option.{IsSome}
+use Rattle.std.proofs.lemmas.List.Elements.{All-head, All-tail}
 use Rattle.app_select.proofs.Names.{firsts-there}
 use Rattle.app_select.specs.Candidates.{CandidateData, firsts, candidates}
+use Rattle.app_select.specs.Said.{is_supported}
 use Rattle.card_files.specs.Files.{opening_of}
 use Rattle.card_files.specs.Views.{AppData, ImageData}
 use Rattle.card_state.specs.Decisions.{Decided}
@@ -13,8 +15,9 @@ use Rattle.completeness.proofs.Answers.{state_at}
 use Rattle.completeness.proofs.Ordering.{all_firsts}
 use Rattle.completeness.specs.Cards.{Now}
 use Rattle.directory_law.proofs.Finding.{listed_in, list_comes}
+use Rattle.directory_law.proofs.Firsts.{HasRow, directed_rows, listed_rows, all_candidates}
 use Rattle.directory_law.proofs.Names.{found_alike, all_kept}
-use Rattle.directory_law.proofs.Order.{HavePriorities, same_names, same_order}
+use Rattle.directory_law.proofs.Order.{names_of, HavePriorities, same_names, same_order}
 use Rattle.directory_law.proofs.Owned.{priority_in, card_own, directed_own, listed_own}
 use Rattle.directory_law.proofs.Reading.{directed_in, directory_comes}
 use Rattle.directory_law.specs.Agreeing.{IsOpen, IsPlainRow, HaveSameNames, Agree, DirectoryAgrees}
@@ -22,6 +25,12 @@ use Rattle.directory_law.specs.Course.{ComesTo}
 use Rattle.directory_law.specs.ListCourse.{list_candidates}
 use Rattle.emv_dict.specs.declared.purchase.AidRow.{AidRow}
 use Rattle.pse_directory.specs.Directory.{kept, directory}
+
+same_parts : (a b : CandidateData) → a.row ≡ b.row → a.name ≡ b.name → a.priority ≡ b.priority → a ≡ b
+same_parts a b row name priority =
+    ap (λ (r : AidRow). record { row = r; name = a.name; priority = a.priority }) row
+    ∙ ap (λ (n : List ℕ). record { row = b.row; name = n; priority = a.priority }) name
+    ∙ ap (λ (p : Option ℕ). record { row = b.row; name = b.name; priority = p }) priority
 
 module _ (image : ImageData) (decided : List Decided) (open_card : IsOpen image decided) (rows : List AidRow) where
   abbrev by_entries : List CandidateData
@@ -48,16 +57,58 @@ module _ (image : ImageData) (decided : List Decided) (open_card : IsOpen image 
   own_rows : HavePriorities priority by_rows
   own_rows = listed_own priority rows image.apps own
 
+  abbrev Own : CandidateData → Type 0
+  Own c = HasRow rows c × (c.priority ≡ priority c.name)
+
+  both_of : (found : List CandidateData) → All (HasRow rows) found → HavePriorities priority found → All Own found
+  both_of found of_row of_name k d within = (of_row k d within, of_name k d within)
+
+  abbrev priority_of : CandidateData → Type 0
+  priority_of c = c.priority ≡ priority c.name
+
+  directed_own_all : (confirm : Bool) → All Own (candidates confirm by_entries)
+  directed_own_all confirm =
+      let of_row : All (HasRow rows) by_entries = rw are_first (all_firsts (HasRow rows) [] (directed_in rows image.apps) (directed_rows rows image.apps)) in
+      all_candidates Own confirm by_entries (all_firsts Own [] by_entries (both_of by_entries of_row own_entries))
+
+  listed_own_all : (confirm : Bool) → All Own (candidates confirm by_rows)
+  listed_own_all confirm =
+      all_candidates Own confirm by_rows (both_of (firsts by_rows) (listed_rows rows image.apps) (all_firsts priority_of [] by_rows own_rows))
+
+  one_candidate : (a b : CandidateData) → Own a → Own b → a.name ≡ b.name → a ≡ b
+  one_candidate a b own_a own_b name =
+      let found : Some a.row ≡ Some b.row = sym own_a.0 ∙ ap (λ (n : List ℕ). find (λ row. is_supported row.name row.partial n) rows) name ∙ own_b.0 in
+      let row : a.row ≡ b.row = cc in
+      let byte : a.priority ≡ b.priority = own_a.1 ∙ ap priority name ∙ sym own_b.1 in
+      same_parts a b row name byte
+
+  one_of : (found : List CandidateData) (a : CandidateData) → All Own found → Contains found a → Own a
+  one_of found a all (k, within, is) = subst Own is (all k a within)
+
+  one_list : (one two : List CandidateData) → All Own one → All Own two → names_of one ≡ names_of two → one ≡ two
+  one_list [] [] own_one own_two same = refl
+  one_list [] (b ∷ two) own_one own_two same = absurd (cc same)
+  one_list (a ∷ one) [] own_one own_two same = absurd (cc same)
+  one_list (a ∷ one) (b ∷ two) own_one own_two same =
+      let name : a.name ≡ b.name = cc in
+      let names : names_of one ≡ names_of two = cc in
+      let first : a ≡ b = one_candidate a b (All-head Own a one own_one) (All-head Own b two own_two) name in
+      let later : one ≡ two = one_list one two (All-tail Own a one own_one) (All-tail Own b two own_two) names in
+      cc
+
   agrees : (sfi : ℕ) → image.directory ≡ Some sfi → All IsPlainRow rows → (confirm : Bool) (one two : Now) → one.kept ≡ decided → two.kept ≡ decided → Agree image rows confirm one two
   agrees sfi has plain confirm one two same_one same_two =
       let well : (state_at image one).blocked ≡ false = ap (λ (ds : List Decided). (totals (opening_of image) ds).blocked) same_one ∙ open_card.card in
+      let of_one = directed_own_all confirm in
+      let of_two = listed_own_all confirm in
       record {
         directed = candidates confirm by_entries;
         listed = candidates confirm by_rows;
         by_directory = directory_comes image open_card.rules rows confirm sfi has one well;
         by_list = list_comes image decided open_card confirm rows plain two same_two;
         names = same_names confirm priority by_entries by_rows own_entries own_rows alike;
-        order = same_order confirm priority by_entries by_rows own_entries own_rows alike;
+        same = λ a b in_one in_two name. one_candidate a b (one_of (candidates confirm by_entries) a of_one in_one) (one_of (candidates confirm by_rows) b of_two in_two) name;
+        order = λ own_ranks. one_list (candidates confirm by_entries) (candidates confirm by_rows) of_one of_two (same_order confirm priority by_entries by_rows own_entries own_rows alike own_ranks);
       }
 
 pub agreed : DirectoryAgrees

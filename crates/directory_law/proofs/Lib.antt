@@ -5,4 +5,5 @@ mod Finding
 mod Names
 mod Order
 mod Owned
+mod Firsts
 mod Agreed

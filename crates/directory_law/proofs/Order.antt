@@ -15,7 +15,10 @@ use Rattle.app_select.specs.Candidates.{CandidateData, has_name, firsts, needs_c
 use Rattle.app_select.specs.Laws.{HasDistinctNames}
 use Rattle.completeness.proofs.Choices.{named_itself}
 use Rattle.completeness.proofs.Ordering.{all_firsts}
-use Rattle.directory_law.specs.Agreeing.{HaveSameNames, HaveOwnRanks, names_of}
+use Rattle.directory_law.specs.Agreeing.{HaveSameNames, HaveOwnRanks}
+
+abbrev pub names_of : List CandidateData → List (List ℕ)
+names_of found = map (λ candidate. candidate.name) found
 
 -- a test of the name alone, as it passes each of these, leaves those whose name passes
 module _ (test : CandidateData → Bool) (passes : List ℕ → Bool) (name : List ℕ) where

@@ -1,7 +1,7 @@
 -- The payment system directory of a card and the terminal's list find the same applications (EMV 4.3 Book 1 sections
 -- 12.3.2 and 12.3.3).
-use Rattle.std.specs.Prelude.{◌≡◌, ◌≢◌, ℕ, false, Bool, List, map}
-use Rattle.std.specs.List.{All, AllPairs, list_any}
+use Rattle.std.specs.Prelude.{◌≡◌, ◌≢◌, ℕ, false, Bool, List}
+use Rattle.std.specs.List.{All, AllPairs, Contains, list_any}
 use Rattle.std.specs.Option.{IsSome}
 use Rattle.std.specs.Str.{bytes_eq}
 use Rattle.app_select.specs.Candidates.{CandidateData, has_name, rank_of}
@@ -40,8 +40,9 @@ HaveSameNames one two = (name : List ℕ) → list_any (has_name name) one ≡ l
 abbrev pub HaveOwnRanks : List CandidateData → Type 0
 HaveOwnRanks found = AllPairs (λ a b. rank_of a.priority ≢ rank_of b.priority) found
 
-abbrev pub names_of : List CandidateData → List (List ℕ)
-names_of found = map (λ candidate. candidate.name) found
+-- those of one name are one: found by the same AID, with the same priority
+abbrev pub AreOneByName : List CandidateData → List CandidateData → Type 0
+AreOneByName one two = (a b : CandidateData) → Contains one a → Contains two b → a.name ≡ b.name → a ≡ b
 
 -- the candidates that the directory gives a terminal at one card, and those that the list gives it at another
 pub record Agree (image : ImageData) (rows : List AidRow) (confirm : Bool) (one two : Now) : Type 0 where
@@ -50,7 +51,8 @@ pub record Agree (image : ImageData) (rows : List AidRow) (confirm : Bool) (one 
   pub by_directory : ComesTo image directed one (directory rows confirm)
   pub by_list : ComesTo image listed two (list_candidates rows confirm)
   pub names : HaveSameNames directed listed
-  pub order : HaveOwnRanks directed → names_of directed ≡ names_of listed
+  pub same : AreOneByName directed listed
+  pub order : HaveOwnRanks directed → directed ≡ listed
 
 -- wherever the two stand in a session
 abbrev pub DirectoryAgrees : Type 0
