@@ -1,16 +1,15 @@
 -- The directory and the list agree.
-use Rattle.std.proofs.Common.{◌≡◌, ℕ, Bool, false, List, [], ◌∷◌, Option, Some, None, refl, sym, ap, ◌∙◌, subst}
-use Rattle.std.specs.List.{All, Contains, find}
+use Rattle.std.proofs.Common.{◌≡◌, ℕ, Bool, false, List, [], ◌∷◌, Option, Some, None, refl, sym, ap, ◌∙◌}
+use Rattle.std.specs.List.{All, find}
 use Rattle.std.specs.Option.{IsSome}
-use Rattle.std.proofs.lemmas.List.Elements.{All-head, All-tail}
+use Rattle.std.proofs.lemmas.List.Elements.{All-head, All-tail, All-contains}
 use Rattle.app_select.proofs.Names.{firsts-there}
 use Rattle.app_select.specs.Candidates.{CandidateData, firsts, candidates}
 use Rattle.app_select.specs.Said.{is_supported}
 use Rattle.card_files.specs.Files.{opening_of}
-use Rattle.card_files.specs.Views.{AppData, ImageData}
+use Rattle.card_files.specs.Views.{ImageData}
 use Rattle.card_state.specs.Decisions.{Decided}
 use Rattle.card_state.specs.Totals.{totals}
-use Rattle.card_state.specs.declared.state.CardState.{CardState}
 use Rattle.completeness.proofs.Answers.{state_at}
 use Rattle.completeness.proofs.Ordering.{all_firsts}
 use Rattle.completeness.specs.Cards.{Now}
@@ -21,10 +20,8 @@ use Rattle.directory_law.proofs.Order.{names_of, HavePriorities, same_names, sam
 use Rattle.directory_law.proofs.Owned.{priority_in, card_own, directed_own, listed_own}
 use Rattle.directory_law.proofs.Reading.{directed_in, directory_comes}
 use Rattle.directory_law.specs.Agreeing.{IsOpen, IsPlainRow, HaveSameNames, Agree, DirectoryAgrees}
-use Rattle.directory_law.specs.Course.{ComesTo}
-use Rattle.directory_law.specs.ListCourse.{list_candidates}
 use Rattle.emv_dict.specs.declared.purchase.AidRow.{AidRow}
-use Rattle.pse_directory.specs.Directory.{kept, directory}
+use Rattle.pse_directory.specs.Directory.{kept}
 
 same_parts : (a b : CandidateData) → a.row ≡ b.row → a.name ≡ b.name → a.priority ≡ b.priority → a ≡ b
 same_parts a b row name priority =
@@ -82,9 +79,6 @@ module _ (image : ImageData) (decided : List Decided) (open_card : IsOpen image 
       let byte : a.priority ≡ b.priority = own_a.1 ∙ ap priority name ∙ sym own_b.1 in
       same_parts a b row name byte
 
-  one_of : (found : List CandidateData) (a : CandidateData) → All Own found → Contains found a → Own a
-  one_of found a all (k, within, is) = subst Own is (all k a within)
-
   one_list : (one two : List CandidateData) → All Own one → All Own two → names_of one ≡ names_of two → one ≡ two
   one_list [] [] own_one own_two same = refl
   one_list [] (b ∷ two) own_one own_two same = absurd (cc same)
@@ -107,7 +101,7 @@ module _ (image : ImageData) (decided : List Decided) (open_card : IsOpen image 
         by_directory = directory_comes image open_card.rules rows confirm sfi has one well;
         by_list = list_comes image decided open_card confirm rows plain two same_two;
         names = same_names confirm priority by_entries by_rows own_entries own_rows alike;
-        same = λ a b in_one in_two name. one_candidate a b (one_of (candidates confirm by_entries) a of_one in_one) (one_of (candidates confirm by_rows) b of_two in_two) name;
+        same = λ a b in_one in_two name. one_candidate a b (All-contains Own (candidates confirm by_entries) a of_one in_one) (All-contains Own (candidates confirm by_rows) b of_two in_two) name;
         order = λ own_ranks. one_list (candidates confirm by_entries) (candidates confirm by_rows) of_one of_two (same_order confirm priority by_entries by_rows own_entries own_rows alike own_ranks);
       }
 

@@ -15,7 +15,7 @@ use Rattle.card_app.specs.Selection.{found as finds, first_named, looks_from, di
 use Rattle.card_cryptogram.specs.Asked.{is_by_name}
 use Rattle.card_cryptogram.specs.declared.phase.Phase.TheVariants.{Selected}
 use Rattle.card_files.specs.Files.{opening_of}
-use Rattle.card_files.specs.Kept.{KeepsRules, IsImage}
+use Rattle.card_files.specs.Kept.{KeepsRules}
 use Rattle.card_files.specs.Views.{AppData, ImageData}
 use Rattle.card_state.specs.Decisions.{Decided}
 use Rattle.card_state.specs.Totals.{app_totals, own_decisions, apps_totals, totals}

@@ -4,7 +4,7 @@ use Rattle.std.specs.List.{All, list_any, filter, find, cons_option}
 use Rattle.std.specs.Option.{option_or}
 use Rattle.std.specs.Str.{bytes_eq}
 use Rattle.std.proofs.lemmas.List.Elements.{All-nil, All-cons, All-append, All-filter, All-weaker}
-use Rattle.std.proofs.lemmas.List.Folds.{list_any-append}
+use Rattle.std.proofs.lemmas.List.Folds.{list_any-append, find-append}
 use Rattle.std.proofs.lemmas.Slice.Eq.{bytes_eq-Decides}
 use Rattle.app_select.specs.Candidates.{CandidateData, has_name, firsts_behind, firsts, is_allowed, has_rank, by_rank, allowed, candidates}
 use Rattle.app_select.specs.Said.{is_supported}
@@ -58,15 +58,6 @@ firsts_stand earlier (one ∷ found) =
     by false is later =
         All-cons (Stands earlier (one ∷ found)) one (firsts_behind (earlier ++ one ∷ []) found) (record { new = is; first = rw (named_itself one.name) refl }) later
 
-find_append : (test : CandidateData → Bool) (xs ys : List CandidateData) → find test (xs ++ ys) ≡ option_or (find test xs) (find test ys)
-find_append test [] ys = refl
-find_append test (x ∷ xs) ys = by (test x) (find_append test xs ys)
-  where
-    by : (passes : Bool) → find test (xs ++ ys) ≡ option_or (find test xs) (find test ys)
-        → (if passes then Some x else find test (xs ++ ys)) ≡ option_or (if passes then Some x else find test xs) (find test ys)
-    by true later = refl
-    by false later = later
-
 module _ (name : List ℕ) where
   abbrev called : List AppData → Bool
   called apps = list_any (λ a. bytes_eq a.name name) apps
@@ -119,7 +110,7 @@ module _ (name : List ℕ) where
   listed_find : (rows : List AidRow) (apps : List AppData) → ListedBy rows (called apps) (find (has_name name) (listed_in rows apps))
   listed_find [] apps = tt
   listed_find (row ∷ rows) apps =
-      rw (find_append (has_name name) (shown_to apps row) (listed_in rows apps))
+      rw (find-append (has_name name) (shown_to apps row) (listed_in rows apps))
       (listed_by row rows (called apps) (find (has_name name) (shown_to apps row)) (find (has_name name) (listed_in rows apps)) (shown_find row apps) (listed_find rows apps))
 
 pub listed_rows : (rows : List AidRow) (apps : List AppData) → All (HasRow rows) (firsts (listed_in rows apps))

@@ -1,19 +1,18 @@
 -- The names that the directory and the list find are those of the applications that some row supports.
-use Rattle.std.proofs.Common.{◌≡◌, ℕ, ◌+◌, ◌≤◌, ◌&&◌, ◌||◌, Bool, true, false, List, [], ◌∷◌, ◌++◌, length, map, take, Option, Some, None, option_map, refl, sym, ap, ◌∙◌, arith, if◌then◌else◌}
+use Rattle.std.proofs.Common.{◌≡◌, ℕ, ◌≤◌, ◌&&◌, ◌||◌, Bool, true, false, List, [], ◌∷◌, ◌++◌, length, Option, Some, None, option_map, refl, sym, ap, ◌∙◌, arith, if◌then◌else◌}
 use Rattle.std.specs.Prelude.{is_some}
-use Rattle.std.specs.List.{list_any, find, cons_option, filter_map, flat_map}
+use Rattle.std.specs.List.{list_any, find, cons_option}
 use Rattle.std.specs.Str.{bytes_eq}
 use Rattle.std.proofs.lemmas.List.{take_all}
 use Rattle.std.proofs.lemmas.List.Folds.{list_any-append}
 use Rattle.app_select.specs.Candidates.{CandidateData, has_name, firsts_behind, firsts}
 use Rattle.app_select.specs.Said.{is_supported}
 use Rattle.card_files.specs.Views.{AppData}
-use Rattle.completeness.proofs.DirectoryRead.{entry_data}
-use Rattle.directory_law.proofs.Finding.{found_by_row, shown_to, listed_in}
+use Rattle.directory_law.proofs.Finding.{shown_to, listed_in}
 use Rattle.directory_law.proofs.Reading.{directed_in}
 use Rattle.directory_law.specs.Agreeing.{HaveSameNames}
 use Rattle.emv_dict.specs.declared.purchase.AidRow.{AidRow}
-use Rattle.pse_directory.specs.Directory.{listed_by, kept}
+use Rattle.pse_directory.specs.Directory.{kept}
 
 abbrev pub supports : AppData → AidRow → Bool
 supports a row = is_supported row.name row.partial a.name

@@ -1,5 +1,5 @@
 -- What the directory and the list find of an application is its own priority.
-use Rattle.std.proofs.Common.{◌≡◌, ◌≢◌, ℕ, suc, ◌<◌, Bool, true, false, List, [], ◌∷◌, ◌++◌, length, Option, Some, None, option_map, refl, sym, ap, ◌∙◌, arith, if◌then◌else◌}
+use Rattle.std.proofs.Common.{◌≡◌, ◌≢◌, ℕ, suc, Bool, true, false, List, [], ◌∷◌, Option, Some, None, option_map, refl, arith, if◌then◌else◌}
 use Rattle.std.specs.List.{All, AllPairs, find, cons_option, slice_index_or}
 use Rattle.std.specs.Str.{bytes_eq}
 use Rattle.std.proofs.lemmas.List.Elements.{All-nil, All-cons, All-head, All-tail, All-append}
@@ -7,7 +7,7 @@ use Rattle.std.proofs.lemmas.Slice.Eq.{bytes_eq-Decides}
 use Rattle.app_select.specs.Candidates.{CandidateData}
 use Rattle.card_files.specs.Views.{AppData}
 use Rattle.completeness.proofs.Choices.{named_itself}
-use Rattle.directory_law.proofs.Finding.{found_by_row, shown_to, listed_in}
+use Rattle.directory_law.proofs.Finding.{shown_to, listed_in}
 use Rattle.directory_law.proofs.Names.{supports}
 use Rattle.directory_law.proofs.Order.{HavePriorities}
 use Rattle.directory_law.proofs.Reading.{directed_in}

@@ -21,7 +21,6 @@ use Rattle.completeness.proofs.Selects.{selects_directory}
 use Rattle.completeness.specs.Cards.{Now, says, goes}
 use Rattle.directory_law.proofs.Courses.{comes_as}
 use Rattle.directory_law.specs.Course.{ComesTo, done, asks}
-use Rattle.emv_dict.specs.Progress.{Progress, Done}
 use Rattle.emv_dict.specs.declared.purchase.AidRow.{AidRow}
 use Rattle.pse_directory.specs.Directory.{listed_by, listed_in, kept, records, named, directory, done as is_done}
 use Rattle.pse_directory.specs.Said.{NameSaid, Gives, RecordSaid, Past, Holds, said_file, name_response, name_said, record_response, record_said}
