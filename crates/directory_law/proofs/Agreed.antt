@@ -19,7 +19,7 @@ use Rattle.directory_law.proofs.Names.{found_alike, all_kept}
 use Rattle.directory_law.proofs.Order.{names_of, HavePriorities, same_names, same_order}
 use Rattle.directory_law.proofs.Owned.{priority_in, card_own, directed_own, listed_own}
 use Rattle.directory_law.proofs.Reading.{directed_in, directory_comes}
-use Rattle.directory_law.specs.Agreeing.{IsOpen, IsPlainRow, HaveSameNames, Agree, DirectoryAgrees}
+use Rattle.directory_law.specs.Agreeing.{ShowsAll, IsPlainRow, HaveSameNames, Agree, DirectoryAgrees}
 use Rattle.emv_dict.specs.declared.purchase.AidRow.{AidRow}
 use Rattle.pse_directory.specs.Directory.{kept}
 
@@ -29,7 +29,7 @@ same_parts a b row name priority =
     ∙ ap (λ (n : List ℕ). record { row = b.row; name = n; priority = a.priority }) name
     ∙ ap (λ (p : Option ℕ). record { row = b.row; name = b.name; priority = p }) priority
 
-module _ (image : ImageData) (decided : List Decided) (open_card : IsOpen image decided) (rows : List AidRow) where
+module _ (image : ImageData) (decided : List Decided) (shows_all : ShowsAll image decided) (rows : List AidRow) where
   abbrev by_entries : List CandidateData
   by_entries = kept (directed_in rows image.apps)
 
@@ -37,7 +37,7 @@ module _ (image : ImageData) (decided : List Decided) (open_card : IsOpen image 
   by_rows = listed_in rows image.apps
 
   are_first : by_entries ≡ firsts (directed_in rows image.apps)
-  are_first = all_kept rows image.apps open_card.rules.apps.few
+  are_first = all_kept rows image.apps shows_all.rules.apps.few
 
   alike : HaveSameNames by_entries by_rows
   alike name = rw are_first (firsts-there (directed_in rows image.apps) name ∙ found_alike rows image.apps name)
@@ -46,22 +46,22 @@ module _ (image : ImageData) (decided : List Decided) (open_card : IsOpen image 
   priority = priority_in image.apps
 
   own : All (λ a. a.priority ≡ priority a.name) image.apps
-  own = card_own image.apps open_card.rules.apps.names
+  own = card_own image.apps shows_all.rules.apps.names
+
+  abbrev HasPriority : CandidateData → Type 0
+  HasPriority c = c.priority ≡ priority c.name
 
   own_entries : HavePriorities priority by_entries
-  own_entries = rw are_first (all_firsts (λ c. c.priority ≡ priority c.name) [] (directed_in rows image.apps) (directed_own priority rows image.apps own))
+  own_entries = rw are_first (all_firsts HasPriority [] (directed_in rows image.apps) (directed_own priority rows image.apps own))
 
   own_rows : HavePriorities priority by_rows
   own_rows = listed_own priority rows image.apps own
 
   abbrev Own : CandidateData → Type 0
-  Own c = HasRow rows c × (c.priority ≡ priority c.name)
+  Own c = HasRow rows c × HasPriority c
 
   both_of : (found : List CandidateData) → All (HasRow rows) found → HavePriorities priority found → All Own found
   both_of found of_row of_name k d within = (of_row k d within, of_name k d within)
-
-  abbrev priority_of : CandidateData → Type 0
-  priority_of c = c.priority ≡ priority c.name
 
   directed_own_all : (confirm : Bool) → All Own (candidates confirm by_entries)
   directed_own_all confirm =
@@ -70,7 +70,7 @@ module _ (image : ImageData) (decided : List Decided) (open_card : IsOpen image 
 
   listed_own_all : (confirm : Bool) → All Own (candidates confirm by_rows)
   listed_own_all confirm =
-      all_candidates Own confirm by_rows (both_of (firsts by_rows) (listed_rows rows image.apps) (all_firsts priority_of [] by_rows own_rows))
+      all_candidates Own confirm by_rows (both_of (firsts by_rows) (listed_rows rows image.apps) (all_firsts HasPriority [] by_rows own_rows))
 
   one_candidate : (a b : CandidateData) → Own a → Own b → a.name ≡ b.name → a ≡ b
   one_candidate a b own_a own_b name =
@@ -92,22 +92,22 @@ module _ (image : ImageData) (decided : List Decided) (open_card : IsOpen image 
 
   agrees : (sfi : ℕ) → image.directory ≡ Some sfi → All IsPlainRow rows → (confirm : Bool) (one two : Now) → one.kept ≡ decided → two.kept ≡ decided → Agree image rows confirm one two
   agrees sfi has plain confirm one two same_one same_two =
-      let well : (state_at image one).blocked ≡ false = ap (λ (ds : List Decided). (totals (opening_of image) ds).blocked) same_one ∙ open_card.card in
+      let well : (state_at image one).blocked ≡ false = ap (λ (ds : List Decided). (totals (opening_of image) ds).blocked) same_one ∙ shows_all.card in
       let of_one = directed_own_all confirm in
       let of_two = listed_own_all confirm in
       record {
         directed = candidates confirm by_entries;
         listed = candidates confirm by_rows;
-        by_directory = directory_comes image open_card.rules rows confirm sfi has one well;
-        by_list = list_comes image decided open_card confirm rows plain two same_two;
+        by_directory = directory_comes image shows_all.rules rows confirm sfi has one well;
+        by_list = list_comes image decided shows_all confirm rows plain two same_two;
         names = same_names confirm priority by_entries by_rows own_entries own_rows alike;
         same = λ a b in_one in_two name. one_candidate a b (All-contains Own (candidates confirm by_entries) a of_one in_one) (All-contains Own (candidates confirm by_rows) b of_two in_two) name;
         order = λ own_ranks. one_list (candidates confirm by_entries) (candidates confirm by_rows) of_one of_two (same_order confirm priority by_entries by_rows own_entries own_rows alike own_ranks);
       }
 
 pub agreed : DirectoryAgrees
-agreed image decided rows confirm one two open_card plain same_one same_two = by image.directory refl open_card.directory
+agreed image decided rows confirm one two shows_all plain same_one same_two = by image.directory refl shows_all.directory
   where
     by : (o : Option ℕ) → image.directory ≡ o → IsSome o → Agree image rows confirm one two
     by None is some = absurd (cc some)
-    by (Some sfi) is some = agrees image decided open_card rows sfi is plain confirm one two same_one same_two
+    by (Some sfi) is some = agrees image decided shows_all rows sfi is plain confirm one two same_one same_two

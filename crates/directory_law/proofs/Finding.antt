@@ -29,7 +29,7 @@ use Rattle.completeness.proofs.Shown.{fci_data}
 use Rattle.completeness.specs.Cards.{Now, says, goes}
 use Rattle.directory_law.proofs.Courses.{comes_as}
 use Rattle.directory_law.proofs.ListSteps.{list_on, next_on, one_found, list_step, list_end, list_asks, from_start}
-use Rattle.directory_law.specs.Agreeing.{IsOpen, IsPlainRow}
+use Rattle.directory_law.specs.Agreeing.{ShowsAll, IsPlainRow}
 use Rattle.directory_law.specs.Course.{ComesTo, done, asks}
 use Rattle.directory_law.specs.ListCourse.{list_candidates}
 use Rattle.emv_dict.specs.declared.purchase.AidRow.{AidRow}
@@ -102,12 +102,12 @@ by_name : (first : Bool) → is_by_name 4 (if first then 0 else 2) ≡ true
 by_name true = refl
 by_name false = refl
 
-module _ (image : ImageData) (decided : List Decided) (open_card : IsOpen image decided) (confirm : Bool) where
+module _ (image : ImageData) (decided : List Decided) (shows_all : ShowsAll image decided) (confirm : Bool) where
   same_state : (now : Now) → now.kept ≡ decided → state_at image now ≡ totals (opening_of image) decided
   same_state now same = ap (totals (opening_of image)) same
 
   good : (now : Now) → now.kept ≡ decided → (state_at image now).blocked ≡ false
-  good now same = ap (λ (c : CardState). c.blocked) (same_state now same) ∙ open_card.card
+  good now same = ap (λ (c : CardState). c.blocked) (same_state now same) ∙ shows_all.card
 
   module _ {value : List CandidateData} (row : AidRow) (rows : List AidRow) (plain_row : IsPlainRow row) (all : List CandidateData)
       (behind : (now : Now) → now.kept ≡ decided → ComesTo image value now (list_on all rows 0 confirm)) where
@@ -130,14 +130,14 @@ module _ (image : ImageData) (decided : List Decided) (open_card : IsOpen image 
         → shown_to (drop (app + 1) image.apps) row ≡ []
     alone_shown turn app a few at begin ends =
         let within : app < length image.apps = slice_get_within image.apps app a at in
-        let four : length image.apps ≤ 4 = open_card.rules.apps.few in
+        let four : length image.apps ≤ 4 = shows_all.rules.apps.few in
         let turns : nat_lt (turn + 1) 16 ≡ true = grind (arith, nat_tests) in
         let same : a.name ≡ row.name = begins_whole a.name row.name begin (by (is_longer row.name a.name) (rw turns at ends)) in
         none_shown row (drop (app + 1) image.apps)
         (λ k b is.
         let there : slice_get image.apps (app + 1 + k) ≡ Some b = get_behind (app + 1) image.apps k ∙ is in
         let other : app ≢ app + 1 + k = (λ e. omega arith) in
-        subst (λ (n : List ℕ). begins b.name n ≡ false) same (open_card.apart app (app + 1 + k) a b at there other))
+        subst (λ (n : List ℕ). begins b.name n ≡ false) same (shows_all.apart app (app + 1 + k) a b at there other))
       where
         by : (longer : Bool) → (longer && true) ≡ false → longer ≡ false
         by true is = is
@@ -163,11 +163,11 @@ module _ (image : ImageData) (decided : List Decided) (open_card : IsOpen image 
         → finds image.apps (phase_at image now) (which turn) row.name ≡ Some app → slice_get image.apps app ≡ Some a → begins a.name row.name ≡ true → now.kept ≡ decided
         → Selects image now (which turn) row.name (Named true (fci_data a)) (Selected app)
     selects_app turn app a now plain front is at begin same =
-        let rules : KeepsRules a = all_at KeepsRules image.apps app a at open_card.rules.apps.rules in
+        let rules : KeepsRules a = all_at KeepsRules image.apps app a at shows_all.rules.apps.rules in
         let held = has_state image decided app a at in
         let s : AppState = held.0 in
         let here : slice_get (state_at image now).apps.items app ≡ Some s = ap (λ (c : CardState). slice_get c.apps.items app) (same_state now same) ∙ held.1 in
-        let free : s.blocked ≡ false = all_at (λ (x : AppState). x.blocked ≡ false) (totals (opening_of image) decided).apps.items app s held.1 open_card.apps in
+        let free : s.blocked ≡ false = all_at (λ (x : AppState). x.blocked ≡ false) (totals (opening_of image) decided).apps.items app s held.1 shows_all.apps in
         let sizes = both (nat_le 5 (length a.name)) (nat_le (length a.name) 16) rules.name in
         let most : length a.name ≤ 16 = grind (arith, nat_tests, sizes.1) in
         let short : length row.name ≤ length a.name = begins_shorter a.name row.name begin in

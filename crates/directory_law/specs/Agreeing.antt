@@ -18,9 +18,9 @@ use Rattle.emv_dict.specs.Settings.{IsAidRow}
 use Rattle.emv_dict.specs.declared.purchase.AidRow.{AidRow}
 use Rattle.pse_directory.specs.Directory.{directory_name, directory}
 
--- a card with a directory, on which no application's name begins another's; with these decisions neither the card nor
--- an application is blocked
-pub record IsOpen (image : ImageData) (decided : List Decided) : Type 0 where
+-- a card that shows all its applications in both ways: it has a directory, no name begins another's, and with these
+-- decisions neither the card nor an application is blocked
+pub record ShowsAll (image : ImageData) (decided : List Decided) : Type 0 where
   pub rules : IsImage image
   pub directory : IsSome image.directory
   pub apart : AreApart image.apps
@@ -58,4 +58,4 @@ pub record Agree (image : ImageData) (rows : List AidRow) (confirm : Bool) (one 
 abbrev pub DirectoryAgrees : Type 0
 DirectoryAgrees =
     (image : ImageData) (decided : List Decided) (rows : List AidRow) (confirm : Bool) (one two : Now)
-    → IsOpen image decided → All IsPlainRow rows → one.kept ≡ decided → two.kept ≡ decided → Agree image rows confirm one two
+    → ShowsAll image decided → All IsPlainRow rows → one.kept ≡ decided → two.kept ≡ decided → Agree image rows confirm one two

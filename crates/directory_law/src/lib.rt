@@ -6,10 +6,10 @@ ghost use Rattle.directory_law.specs.Agreeing.{DirectoryAgrees};
 ghost use Rattle.directory_law.specs.ListCourse.{ListOpens};
 
 /// On a card that has a directory, of whose applications no name begins another's, and where neither the card nor an
-/// application is blocked: the candidates that a terminal has by reading the directory and those that it has by
-/// selecting its own AIDs have the same names, whatever AIDs it has but the directory's own name. Where no two of
-/// them stand at one place in the order of priority, the order is the same. The list's candidates are those to which
-/// application selection by the list then puts its final SELECTs (`opens`).
+/// application is blocked: by reading the directory and by selecting its own AIDs, none of which is the directory's
+/// name, a terminal comes to the same candidates. Each name of the ones is a name of the others, by the same AID and
+/// with the same priority. Where no two stand at one place in the order of priority, their order is the same
+/// (`agrees`). The list's candidates are those to which selection by the list puts its final SELECTs (`opens`).
 pub fn both_agree()
     ensures agrees { DirectoryAgrees }
     ensures opens { ListOpens }
