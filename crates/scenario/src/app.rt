@@ -540,11 +540,7 @@ fn opening_of(counters: &Counters, access: &Access, extras: &Extras) -> AppState
 }
 
 /// What stands behind an application's own key.
-fn extras_beside(
-    fields: &Fields,
-    files: &Files,
-    holder: &Holder,
-) -> Result<Extras, ScenarioFault>
+fn extras_beside(fields: &Fields, files: &Files, holder: &Holder) -> Result<Extras, ScenarioFault>
     ensures exact { Gives (λ x. x) result (extras_of (path fields.now.place) files.now.pdol files.now.records holder.now.currency (table_view fields.now.table.now)) }
     ensures rules { IfOk result (λ extras. KeepsExtras files.now.pdol files.now.records holder.now.currency extras) }
 {
