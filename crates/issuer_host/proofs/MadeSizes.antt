@@ -4,10 +4,10 @@ use Rattle.std.specs.Prelude.{flat_map, sum_by}
 use Rattle.std.specs.List.{All}
 use Rattle.std.proofs.lemmas.List.Elements.{All-head, All-tail}
 use Rattle.std.proofs.lemmas.List.Sums.{sum_by-cons}
-use Rattle.ber_tlv.specs.Written.{written, written_length}
+use Rattle.ber_tlv.specs.Written.{written_length}
 use Rattle.emv_dict.specs.Bcd.{numeric, two_digits}
 use Rattle.triple_des.specs.Bits.{xor_bytes}
-use Rattle.triple_des.specs.Des.{enciphered, deciphered}
+use Rattle.triple_des.specs.Des.{enciphered}
 use Rattle.triple_des.specs.Mac.{mac}
 use Rattle.triple_des.specs.TripleDes.{tdes}
 use Rattle.triple_des.proofs.ByteLists.{length-bytes_of}

@@ -1,6 +1,6 @@
 -- What holds of each reply that a host makes holds of every reply that it gives: those that it kept are given
 -- again. So every reply is written as a reply is.
-use Rattle.std.proofs.Common.{◌≡◌, ℕ, Bool, true, false, if◌then◌else◌, IfSome, List, [], ◌∷◌, length, Option, Some, None, Result, Ok, Err, refl, sym, subst, arith, length-append}
+use Rattle.std.proofs.Common.{◌≡◌, ℕ, Bool, true, false, if◌then◌else◌, IfSome, List, [], ◌∷◌, Option, Some, None, Result, Ok, Err, refl, subst, arith}
 use Rattle.std.specs.List.{All}
 use Rattle.std.specs.Str.{bytes_eq}
 use Rattle.std.proofs.lemmas.List.Elements.{All-nil, All-head, All-tail, All-push}
@@ -23,7 +23,7 @@ use Rattle.issuer_host.specs.History.{with_first, kept_in, books_with, books_fro
 use Rattle.issuer_host.specs.Reply.{request_key, present_key, reversal_key, session_of, request_is_genuine, request_code, present_code, reversal_code, plain, said_bytes, is_served, script_keys, scripts_for, response_of, online_reply, request_reply, present_reply, reversal_reply, new_request, new_present, new_reversal, again_or, reply_in, reply_to}
 use Rattle.issuer_host.specs.Scripts.{all_script_bytes}
 use Rattle.issuer_host.specs.declared.code.Code.{Code}
-use Rattle.issuer_host.specs.declared.code.Code.TheVariants.{Approved, Declined, UnknownAccount, NoFunds, Expired, WrongPin}
+use Rattle.issuer_host.specs.declared.code.Code.TheVariants.{Declined, UnknownAccount}
 use Rattle.issuer_host.specs.declared.keys.HostKeys.{HostKeys}
 use Rattle.issuer_host.proofs.MadeScripts.{made_spelled}
 use Rattle.issuer_host.proofs.MadeSizes.{scripts_size}

@@ -1,5 +1,5 @@
 -- The host's reply to a message, from the messages that it has kept (own).
-use Rattle.std.specs.Prelude.{ℕ, pos, int_lt, ◌-ℤ◌, Bool, true, false, not, ◌&&◌, ◌||◌, if◌then◌else◌, List, [], ◌++◌, slice_index, Option, Some, None, Result, Ok, Err}
+use Rattle.std.specs.Prelude.{ℕ, pos, int_lt, ◌-ℤ◌, Bool, true, false, not, ◌&&◌, ◌||◌, if◌then◌else◌, List, [], slice_index, Option, Some, None, Result, Ok, Err}
 use Rattle.std.specs.Int.{from_be_bytes, w16}
 use Rattle.std.specs.List.{list_any}
 use Rattle.std.specs.Option.{is_some}
