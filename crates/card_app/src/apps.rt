@@ -10,6 +10,15 @@ use card_files::{AppImage, Image};
 use card_state::{AppState, CardState};
 use object_lists::{Dol, total};
 
+/// An application at work: its number, its image, its state, and whether the card is blocked.
+#[derive(Clone, Copy)]
+pub(crate) struct AtWork<'a> {
+    pub(crate) number: u8,
+    pub(crate) app: &'a AppImage,
+    pub(crate) state: &'a AppState,
+    pub(crate) card_blocked: bool,
+}
+
 /// The image of the application of this number.
 pub(crate) fn app_at(image: &Image, app: u8) -> &AppImage
     requires { app < length image.now.apps }

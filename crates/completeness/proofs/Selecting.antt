@@ -194,14 +194,16 @@ module _ (image : ImageData) (reads : ReadEnds image) (initiates : InitiationRun
   final_by_kind candidate left (directory sfi has name) all serving now same =
       let made = selects_directory_by candidate sfi has name now same in
       asks (select_command 0 candidate.name) refl
-      (done (Some (selected_of candidate left None)) (λ later. ap (λ (said : SaidData). final_by candidate left said later) made.read)
-      (strayed (record {
-        phase = made.phase;
-        same = made.kept ∙ same;
-        pdol = refl;
-        left = all;
-        others = serves_past_directory candidate left sfi has name (has_name well.serves.own.name candidate) refl serving;
-      }), refl))
+      (done (Some (selected_of candidate left None)) (λ later. ap (λ (said : SaidData). final_by candidate left said later) made.read) (
+        strayed (record {
+          phase = made.phase;
+          same = made.kept ∙ same;
+          pdol = refl;
+          left = all;
+          others = serves_past_directory candidate left sfi has name (has_name well.serves.own.name candidate) refl serving;
+        }),
+        refl,
+      ))
 
   final_runs : (candidate : CandidateData) (left : List CandidateData) → All (IsFound image state) (candidate ∷ left) → Serving (candidate ∷ left) → (now : Now) → now.kept ≡ kept
       → Runs image (Final left) now (final candidate left)

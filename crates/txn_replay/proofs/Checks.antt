@@ -58,7 +58,7 @@ pub later_check : (cards : List CardData) (i : ℕ) (card : CardData) (k : ℕ) 
     → 1 + 3 * length card.image.apps ≤ k
     → slice_get (checks_from i (drop i cards)) k ≡ slice_get (checks_from (i + 1) (drop (i + 1) cards)) (k - (1 + 3 * length card.image.apps))
 later_check cards i card k here apps past =
-    let asks : length (flat_map (app_checks i card) card.image.apps) ≡ 3 * length card.image.apps = asks_length i card card.image in
+    let asks : length (flat_map (app_checks i card) card.image.apps) ≡ 3 * length card.image.apps = asks_length i card card.image.apps in
     let count : length (card_checks i card) ≡ length (PowersUp i card ∷ flat_map (app_checks i card) card.image.apps) =
     ap (λ (cs : List Check). length cs) (of_apps i card apps) in
     let place : k ≡ length (card_checks i card) + (k - (1 + 3 * length card.image.apps)) = omega arith in

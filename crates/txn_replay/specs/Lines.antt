@@ -1,6 +1,7 @@
 -- The lines of a report that a run makes (this project's own).
 use Rattle.std.specs.Prelude.{ℕ, Bool, List, [], ◌∷◌, map, Option, Some, None, option_map}
 use Rattle.std.specs.List.{zip}
+use Rattle.std.specs.Option.{option_and}
 use Rattle.card_files.specs.Files.{opening_of}
 use Rattle.card_files.specs.Views.{AppData}
 use Rattle.card_state.specs.Decisions.{Decided}
@@ -18,7 +19,7 @@ use Rattle.scenario.specs.Cards.{CardData}
 
 -- the second sum, of an application that counts in a second currency
 abbrev pub second_sum : AppData → AppState → Option ℕ
-second_sum app s = option_map (λ _. s.sum_two) app.currency_two
+second_sum app s = option_and app.currency_two (Some s.sum_two)
 
 -- an application's counters
 unfoldable pub shown_state : AppData → AppState → Shown

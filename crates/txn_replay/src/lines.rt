@@ -28,7 +28,7 @@ fn shown(app: &AppImage, state: &AppState) -> Shown
         sum: state.sum,
         tries: state.tries,
         flags: flags(state),
-        sum_two: app.currency_two.map(|_| state.sum_two),
+        sum_two: app.currency_two.and(Some(state.sum_two)),
     }
 }
 
@@ -160,13 +160,7 @@ pub(crate) fn add_host(lane: u8, call: &[u8], reply: Option<&[u8]>, lines: &mut 
 }
 
 /// A card is powered up.
-pub(crate) fn add_power(
-    lane: u8,
-    name: &[u8],
-    image: &Image,
-    state: &CardState,
-    lines: &mut Lines,
-)
+pub(crate) fn add_power(lane: u8, name: &[u8], image: &Image, state: &CardState, lines: &mut Lines)
     requires room { length lines.old.items < 8 }
     requires name { length name.now ≤ 16 }
     ensures { lines.new.items ≡ lines.old.items ++ Power lane (record { items = name.now }) (record { items = spec.shown_all image.now.apps state.now }) ∷ [] }
