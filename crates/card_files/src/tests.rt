@@ -301,7 +301,7 @@ fn tries_the_opening_state(rt: HostRuntime) -> Result<(), Fail> {
             4 => app.opening.sum_two = 1,
             5 => app.opening.limit_two = 1,
             6 => app.opening.log_max = 1,
-            7 => app.opening.log.push(LogRow::default()),
+            7 => assert!(rt; app.opening.log.try_push(LogRow::default()).is_ok()),
             _ => app.tries = 4,
         }
         assert!(rt; is_field(image_of(alloc, app)?, 0, "opening"), "at {n}");

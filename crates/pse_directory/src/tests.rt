@@ -163,13 +163,17 @@ fn row(rt: &impl Abort, word: &str) -> AidRow
     }
 }
 
+/// The rows of one name, or of two with a comma between them.
 fn rows(rt: &(impl AllocGlobal + Abort), words: &str) -> Vec<AidRow>
     ensures valid { All IsAidRow result.items }
 {
     let mut rows = Vec::new(rt.alloc());
-    for word in words.split(",") {
-        rows.push(row(rt, word)).expect(rt, "memory");
-    }
+    let Some((first, second)) = words.split_once(",") else {
+        rows.push(row(rt, words)).expect(rt, "memory");
+        return rows;
+    };
+    rows.push(row(rt, first)).expect(rt, "memory");
+    rows.push(row(rt, second)).expect(rt, "memory");
     rows
 }
 

@@ -1,5 +1,6 @@
 pub mod AccountLoop
 pub mod Apart
+pub mod Behind
 pub mod CardNames
 pub mod CardParts
 pub mod Listed

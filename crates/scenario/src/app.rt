@@ -11,8 +11,9 @@ ghost use Rattle.scenario_fields.specs.Fields.{only, text_at, listed_or, number_
 ghost use Rattle.scenario_fields.specs.Place.{path, spot_path};
 ghost use Rattle.scenario.specs.Cards as spec;
 ghost use Rattle.scenario.specs.Cards.{list_of, pdol_at as pdol_found, cdol_at as cdol_found, app_keys, app_of, app_item as item_of, files_of, sequence_at as sequence_found, holder_of, counters_of, access_of, app_with, opening_of, own_or};
-ghost use Rattle.scenario.specs.CardRules.{KeepsFiles, KeepsHolder, KeepsCounters, KeepsAccess, IsNewApp};
+ghost use Rattle.scenario.specs.CardRules.{KeepsFiles, KeepsHolder, KeepsCounters, KeepsAccess, KeepsExtras, IsNewApp};
 ghost use Rattle.scenario_fields.specs.declared.spot.Characters.TheVariants.{Printable};
+ghost use Rattle.scenario.specs.Extras.{extras_of};
 ghost use Rattle.scenario.specs.SeenCards.{wanted_by};
 
 use crate::extras::{Extras, no_log, read_extras};
@@ -538,6 +539,19 @@ fn opening_of(counters: &Counters, access: &Access, extras: &Extras) -> AppState
     }
 }
 
+/// What stands behind an application's own key.
+fn extras_beside(fields: &Fields, files: &Files, holder: &Holder) -> Result<Extras, ScenarioFault>
+    ensures exact { Gives (λ x. x) result (extras_of (path fields.now.place) files.now.pdol files.now.records holder.now.currency (table_view fields.now.table.now)) }
+    ensures rules { IfOk result (λ extras. KeepsExtras files.now.pdol files.now.records holder.now.currency extras) }
+{
+    read_extras(
+        fields,
+        &files.pdol,
+        files.records.as_slice(),
+        holder.currency,
+    )
+}
+
 /// An application behind earlier ones of its card.
 #[tactic(auto, unfolding(crate::specs::Cards::app_of))]
 fn read_app(
@@ -560,12 +574,7 @@ fn read_app(
     let holder = read_holder(alloc, card, index, table)?;
     let counters = read_counters(alloc, card, index, table)?;
     let access = read_access(alloc, card, index, table)?;
-    let extras = read_extras(
-        &fields,
-        &files.pdol,
-        files.records.as_slice(),
-        holder.currency,
-    )?;
+    let extras = extras_beside(&fields, &files, &holder)?;
     only_app_keys(&fields)?;
     Ok(app_with(keys, files, holder, counters, access, extras))
 }

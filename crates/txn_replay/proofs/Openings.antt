@@ -8,7 +8,7 @@ use Rattle.apdu_core.specs.Command.{CommandData, command_of}
 use Rattle.apdu_core.specs.Response.{ResponseData, response_of}
 use Rattle.card_app.specs.Answering.{row, reply_in, card_reply, card_answer, row_or_refusal}
 use Rattle.card_app.specs.Selection.{found, directory_asked}
-use Rattle.card_app.specs.Session.{Exchange, is_shown, selected, started, is_request, begun_of, first_in, directory_selected, after_select, with_cryptogram, authenticated, next_phase, after_said, after, phase_of}
+use Rattle.card_app.specs.Session.{Exchange, is_shown, selected, started, is_request, begun_of, first_in, directory_selected, with_cryptogram, authenticated, next_phase, after_said, after, phase_of}
 use Rattle.card_cryptogram.specs.Authentication.{told_by}
 use Rattle.card_cryptogram.specs.Bodies.{kind_in}
 use Rattle.card_cryptogram.specs.Phases.{current}

@@ -199,11 +199,11 @@ pages_are (OfApps chip) memory card row plan left is lost stands =
     subst (λ (o : Option (List (List ℕ))). PagesAre memory card row o) (sym is.0)
     (record {
       off = left.off;
-      may = subst (λ (image : ImageData). MayStand memory.cells (opening_of image) row.kept row.pending) is.1
+      may = subst (λ (image : ImageData). MayStand memory.cells image.version (opening_of image) row.kept row.pending) is.1
           (elim stands [
             | inl off ↦ left.may row.kept row.pending off
             | inr on ↦
-                subst (λ (o : Option Decided). MayStand memory.cells (opening_of chip.image) row.kept o) (sym on.1)
+                subst (λ (o : Option Decided). MayStand memory.cells chip.image.version (opening_of chip.image) row.kept o) (sym on.1)
                 (left.stands row.session row.kept plan row.made on.0)
           ]);
       losses = left.losses ∙ lost;

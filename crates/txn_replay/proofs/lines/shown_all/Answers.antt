@@ -20,7 +20,7 @@ loop-app-preserved c =
     ap (λ z. iter_rest (zip_second z)) c.into_iter-app-iterator.ensures.into_iter_gives
     ∙ other
     ∙ c.as_slice.ensures.value in
-    let turn = zip_turn c.args.image.now.apps c.args.state.now.apps.items c.loop-app.yielded _ _ _ _ first second c.loop-app.yielded_by
+    let turn = zip_turn c.args.image.now.apps c.args.state.now.apps.items c.loop-app.yielded c.into_iter-app-iterator.result c.loop-app.app-iterator c.next.new.self c.next.result first second c.loop-app.yielded_by
     (c.in-Some.app, c.in-Some.counts) c.in-Some.is c.next.ensures.steps in
     let more : length (c.loop-app.yielded ++ (c.in-Some.app, c.in-Some.counts) ∷ []) ≡ length c.loop-app.yielded + 1 =
     length-append c.loop-app.yielded ((c.in-Some.app, c.in-Some.counts) ∷ []) in
@@ -50,4 +50,4 @@ returns c =
     ∙ c.as_slice.ensures.value in
     c.loop-app.invariant.so_far
     ∙ shows_all c.args.image.now.apps c.args.state.now.apps.items (length c.loop-app.yielded)
-    (zip_end c.args.image.now.apps c.args.state.now.apps.items c.loop-app.yielded _ _ _ _ first second c.loop-app.yielded_by c.in-None.is c.next.ensures.steps)
+    (zip_end c.args.image.now.apps c.args.state.now.apps.items c.loop-app.yielded c.into_iter-app-iterator.result c.loop-app.app-iterator c.next.new.self c.next.result first second c.loop-app.yielded_by c.in-None.is c.next.ensures.steps)
