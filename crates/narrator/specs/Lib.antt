@@ -1,4 +1,6 @@
+pub mod Cards
 pub mod Endings
 pub mod Powers
 pub mod Shown
+pub mod State
 pub mod Words
