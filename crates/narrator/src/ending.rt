@@ -412,13 +412,20 @@ fn tell_script(out: &mut WordLines, bytes: u64)
     }
 }
 
+/// Tells the result of a script, where there is one.
+fn tell_script_found(out: &mut WordLines, found: Option<u64>)
+    ensures { Tells out.old out.new (spec.script_told found) }
+{
+    if let Some(bytes) = found {
+        tell_script(out, bytes);
+    }
+}
+
 /// Tells the result of a script where these digits are one.
 fn tell_script_in(out: &mut WordLines, digits: &[u8])
     ensures { Tells out.old out.new (spec.script_told (spec.hex_number digits.now)) }
 {
-    if let Some(bytes) = hex_number(digits) {
-        tell_script(out, bytes);
-    }
+    tell_script_found(out, hex_number(digits));
 }
 
 /// Tells the results of the scripts.
@@ -426,9 +433,9 @@ fn tell_scripts(out: &mut WordLines, scripts: &[u8])
     ensures { Tells out.old out.new (spec.scripts_words scripts.now) }
 {
     let mut left = scripts;
-    while let Some((one, rest)) = left.split_at_checked(10) {
-        tell_script_in(out, one);
-        left = rest;
+    while left.len() >= 10 {
+        tell_script_in(out, &left[..10]);
+        left = &left[10..];
     }
 }
 

@@ -206,17 +206,24 @@ fn alike<'a>(before: &'a [Counters], apps: &[Counters]) -> &'a [Counters]
     }
 }
 
+/// Tells the counters of each application, and what changed since those before.
+fn tell_each(out: &mut WordLines, several: bool, before: &[Counters], apps: &[Counters])
+    requires { length apps.now < 2 ^ 32 }
+    ensures { Tells out.old out.new (spec.apps_from several before.now 0 apps.now) }
+{
+    for (place, counters) in apps.iter().enumerate() {
+        tell_app(out, several, before, place, counters);
+    }
+}
+
 /// Tells the counters of each application, and what changed since the card's last power line, where that
 /// had as many applications.
+#[tactic(auto, unfolding(crate::specs::Powers::apps_words))]
 fn tell_apps(out: &mut WordLines, before: &[Counters], apps: &[Counters])
     requires { length apps.now < 2 ^ 32 }
     ensures { Tells out.old out.new (spec.apps_words before.now apps.now) }
 {
-    let several = apps.len() > 1;
-    let before = alike(before, apps);
-    for (place, counters) in apps.iter().enumerate() {
-        tell_app(out, several, before, place, counters);
-    }
+    tell_each(out, apps.len() > 1, alike(before, apps), apps);
 }
 
 /// Keeps the counters of a card that was not seen before.
@@ -244,6 +251,7 @@ fn tell_seen(out: &mut WordLines, cards: &mut [CardSeen], place: usize, apps: Ap
 }
 
 /// Tells a power line of a card with applications, and keeps its counters.
+#[tactic(auto, unfolding(crate::specs::Cards::power_words, crate::specs::Cards::kept_cards))]
 pub(crate) fn tell_power(
     out: &mut WordLines,
     cards: &mut Vec<CardSeen>,
