@@ -313,7 +313,7 @@ so_far_take all long p seen bytes i b first held within here s =
     (append_assoc seen (take i bytes) (b ∷ []) ∙ ap (λ (t : List ℕ). seen ++ t) (ap (λ y. take i bytes ++ y ∷ []) here ∙ sym (take_more bytes i 0 within))) s
 
 -- no bytes have no more
-take-none : (n : ℕ) → take n [] ≡ []
+take-none : (n : ℕ) → ◌≡◌ {A = List ℕ} (take n []) []
 take-none zero = refl
 take-none (suc n) = refl
 

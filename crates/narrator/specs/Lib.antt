@@ -1,4 +1,3 @@
-pub mod Cards
 pub mod Endings
 pub mod Powers
 pub mod Shown

@@ -1,8 +1,8 @@
 -- Power lines in words: a card's counters, and what changed since its last power-up.
-use Rattle.std.specs.Prelude.{ℕ, ◌+◌, ◌-◌, ◌/◌, ◌%◌, ◌==◌, Bool, true, false, not, ◌||◌, nat_lt, if◌then◌else◌, List, [], ◌∷◌, ◌++◌, length, codes, Option, Some, None, unwrap_or, slice_get}
-use Rattle.word_lines.specs.Pieces.{Piece, line, text, number}
+use Rattle.std.specs.Prelude.{ℕ, ◌+◌, ◌-◌, ◌/◌, ◌%◌, ◌==◌, Bool, true, false, not, ◌||◌, nat_lt, if◌then◌else◌, List, [], ◌++◌, codes, Option, Some, None}
+use Rattle.word_lines.specs.Pieces.{Piece, text, number}
 use Rattle.narrator.specs.declared.cards.Counters.{Counters}
-use Rattle.narrator.specs.declared.phrases.TheConstants.{SECOND_SUM, APPROVALS, TRANSACTION_COUNTER, OFFLINE_APPROVALS, APPLICATION_IS_BLOCKED, AUTHENTICATION_HAS_FAILED, BLOCKED, FAILED, SINCE_LAST}
+use Rattle.narrator.specs.declared.phrases.TheConstants.{SECOND_SUM, APPROVALS}
 
 -- the two flags of an application
 abbrev pub is_blocked : Counters → Bool
@@ -57,55 +57,3 @@ has_changed before now =
 
 abbrev pub has_turned : Counters → Counters → Bool
 has_turned before now = flags_differ (is_blocked before) (is_blocked now) || flags_differ (has_failed before) (has_failed now)
-
--- the counters of an application
-abbrev pub counters_words : Counters → List Piece
-counters_words c =
-    text TRANSACTION_COUNTER.now ++ number c.counter ++ text (codes ", last online ") ++ number c.last_online
-    ++ text OFFLINE_APPROVALS.now ++ number c.count ++ text (codes ", sum ") ++ number c.sum ++ text (codes ", PIN tries ") ++ number c.tries
-    ++ told_where (is_blocked c) APPLICATION_IS_BLOCKED.now ++ told_where (has_failed c) AUTHENTICATION_HAS_FAILED.now ++ second_words c.second
-
--- a flag that is set now, or is so no longer
-abbrev pub flag_words : Bool → List ℕ → Bool → Bool → List Piece
-flag_words told name before now =
-    if flags_differ before now then between told ++ told_where before (codes "no longer ") ++ text name else []
-
--- what changed of the flags of an application
-abbrev pub flags_words : Bool → Counters → Counters → List Piece
-flags_words told before now =
-    flag_words told BLOCKED.now (is_blocked before) (is_blocked now)
-    ++ flag_words (told || flags_differ (is_blocked before) (is_blocked now)) FAILED.now (has_failed before) (has_failed now)
-
--- what changed of an application since the card's last power line
-abbrev pub since_words : Counters → Counters → List Piece
-since_words before now =
-    let told = has_changed before now || has_turned before now in
-    let second = unwrap_or before.second 0 in
-    line 2 ++ text SINCE_LAST.now ++ changes_words before now ++ flags_words (has_changed before now) before now
-    ++ change_words told (codes "second sum") second (unwrap_or now.second 0)
-    ++ told_where (not (told || differ second (unwrap_or now.second 0))) (codes " no change")
-
-abbrev pub earlier_words : Option Counters → Counters → List Piece
-earlier_words None now = []
-earlier_words (Some before) now = since_words before now
-
--- which of several applications
-abbrev pub place_words : Bool → ℕ → List Piece
-place_words several place = (if several then text (codes "application ") ++ number (place + 1) ++ text (codes ": ") else [])
-
--- an application by its place, with what changed of it
-abbrev pub app_words : Bool → List Counters → ℕ → Counters → List Piece
-app_words several before place now =
-    line 1 ++ place_words several place ++ counters_words now ++ earlier_words (slice_get before place) now
-
-abbrev pub apps_from : Bool → List Counters → ℕ → List Counters → List Piece
-apps_from several before place [] = []
-apps_from several before place (now ∷ others) = app_words several before place now ++ apps_from several before (place + 1) others
-
--- the counters of the last power line, where it had as many applications
-abbrev pub alike : List Counters → List Counters → List Counters
-alike before apps = (if length before == length apps then before else [])
-
--- the applications of a card, with what changed of them since its last power line, where that had as many
-unfoldable pub apps_words : List Counters → List Counters → List Piece
-apps_words before apps = apps_from (nat_lt 1 (length apps)) (alike before apps) 0 apps

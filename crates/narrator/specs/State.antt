@@ -4,7 +4,6 @@ use Rattle.exchange_words.specs.declared.lane.LaneState.{LaneState}
 use Rattle.exchange_words.specs.Lanes.{fresh, begun, kept, with_code}
 use Rattle.report_lines.specs.Bytes.{bytes_told}
 use Rattle.report_lines.specs.Reading.{LineData, WhatData, WhoseData, Lane, Settlement, Audit, Report, Power, PowerTorn, PowerCanned, Sent, Given, ToHost, FromHost, End, Lost}
-use Rattle.narrator.specs.Cards.{kept_cards}
 use Rattle.narrator.specs.declared.cards.CardSeen.{CardSeen}
 use Rattle.narrator.specs.declared.narrator.Narrator.{Narrator}
 
@@ -73,7 +72,7 @@ Kept _ old place new = new ≡ old
 
 -- what a line of a lane or of the audit leaves
 abbrev pub LeavesAt : WhatData → StateData → ℕ → StateData → Type 0
-LeavesAt (Power card apps) old place new = new ≡ record { lanes = (changed begun old place).lanes; cards = kept_cards old.cards card apps }
+LeavesAt (Power card apps) old place new = new.lanes ≡ (changed begun old place).lanes
 LeavesAt (Sent text) old place new = TurnsBy (Sent text) (bytes_told text) old place new
 LeavesAt (Given text) old place new = TurnsBy (Given text) (bytes_told text) old place new
 LeavesAt (FromHost text) old place new = TurnsBy (FromHost text) (bytes_told text) old place new

@@ -333,9 +333,7 @@ fn tell_outcome(out: &mut WordLines, outcome: u8)
 }
 
 /// Tells the result of cardholder verification.
-fn tell_verification(out: &mut WordLines, cvm: u64)
-    ensures { Tells out.old out.new (spec.verification_words cvm) }
-{
+fn tell_verification(out: &mut WordLines, cvm: u64) {
     out.line(1);
     out.text(b"CVM ");
     let method = (cvm / 65536 % 256) as u8;
@@ -412,50 +410,27 @@ fn tell_script(out: &mut WordLines, bytes: u64)
     }
 }
 
-/// Tells the result of a script, where there is one.
-fn tell_script_found(out: &mut WordLines, found: Option<u64>)
-    ensures { Tells out.old out.new (spec.script_told found) }
-{
-    if let Some(bytes) = found {
-        tell_script(out, bytes);
-    }
-}
-
 /// Tells the result of a script where these digits are one.
-fn tell_script_in(out: &mut WordLines, digits: &[u8])
-    ensures { Tells out.old out.new (spec.script_told (spec.hex_number digits.now)) }
-{
-    tell_script_found(out, hex_number(digits));
+fn tell_script_in(out: &mut WordLines, digits: &[u8]) {
+    if let Some(result) = hex_number(digits) {
+        tell_script(out, result);
+    }
 }
 
 /// Tells the results of the scripts.
-fn tell_scripts(out: &mut WordLines, scripts: &[u8])
-    ensures { Tells out.old out.new (spec.scripts_words scripts.now) }
-{
+fn tell_scripts(out: &mut WordLines, scripts: &[u8]) {
     let mut left = scripts;
-    while left.len() >= 10 {
-        tell_script_in(out, &left[..10]);
-        left = &left[10..];
-    }
-}
-
-/// Whether these digits are those of 0.
-fn is_nothing(digits: &[u8]) -> bool
-    ensures { result ≡ spec.is_nothing (spec.hex_number digits.now) }
-{
-    match hex_number(digits) {
-        Some(number) => number == 0,
-        None => false,
+    while let Some((one, rest)) = left.split_at_checked(10) {
+        tell_script_in(out, one);
+        left = rest;
     }
 }
 
 /// Whether no step has set anything.
-fn is_untouched(fields: &EndFields<'_>) -> bool
-    ensures { result ≡ spec.is_untouched (seen_fields fields.now) }
-{
-    is_nothing(fields.tvr)
-        && is_nothing(fields.tsi)
-        && is_nothing(fields.cvm)
+fn is_untouched(fields: &EndFields<'_>) -> bool {
+    hex_number(fields.tvr) == Some(0)
+        && hex_number(fields.tsi) == Some(0)
+        && hex_number(fields.cvm) == Some(0)
         && fields.arc == b"--".as_slice()
         && fields.scripts == b"-".as_slice()
 }
@@ -493,18 +468,14 @@ fn tell_end_bits(out: &mut WordLines, fields: &EndFields<'_>, brief: bool)
 }
 
 /// Tells the result of cardholder verification, where there is one.
-fn tell_cvm(out: &mut WordLines, cvm: Option<u64>)
-    ensures { Tells out.old out.new (spec.cvm_words cvm) }
-{
+fn tell_cvm(out: &mut WordLines, cvm: Option<u64>) {
     if let Some(cvm) = cvm {
         tell_verification(out, cvm);
     }
 }
 
 /// Tells the fields of an end line.
-fn tell_end_fields(out: &mut WordLines, fields: &EndFields<'_>, brief: bool)
-    ensures { Tells out.old out.new (spec.end_fields (seen_fields fields.now) brief) }
-{
+fn tell_end_fields(out: &mut WordLines, fields: &EndFields<'_>, brief: bool) {
     if is_untouched(fields) {
         return;
     }
@@ -521,9 +492,7 @@ pub(crate) fn tell_end(
     ending: &Ending<'_>,
     fields: &EndFields<'_>,
     brief: bool,
-)
-    ensures { Tells out.old out.new (spec.end_words lane.now (seen_ending ending.now) (seen_fields fields.now) brief) }
-{
+) {
     tell_ending(out, lane, ending);
     tell_end_fields(out, fields, brief);
 }

@@ -7,7 +7,7 @@ ghost use Rattle.narrator.specs.Shown.{shows_all};
 ghost use Rattle.narrator.specs.Words as spec;
 ghost use Rattle.narrator.specs.Words.{TellsSaid, Narrates};
 ghost use Rattle.report_lines.specs.Bytes.{bytes_told};
-ghost use Rattle.report_lines.specs.Reading.{seen_ending, seen_fields, seen_line, seen_what};
+ghost use Rattle.report_lines.specs.Reading.{seen_line, seen_what};
 ghost use Rattle.word_lines.specs.Lines.{AreWordLines};
 ghost use Rattle.word_lines.specs.Pieces.{Tells};
 
@@ -207,9 +207,7 @@ impl Narrator {
         ending: &Ending<'_>,
         fields: &EndFields<'_>,
         out: &mut WordLines,
-    )
-        ensures { Tells out.old out.new (spec.end_at (slice_get self.now.lanes.items place) (seen_ending ending.now) (seen_fields fields.now) self.now.filter.brief) }
-    {
+    ) {
         if let Some(lane) = self.lanes.get(usize::from(place)) {
             tell_end(out, lane, ending, fields, self.filter.brief);
         }
@@ -256,7 +254,7 @@ impl Narrator {
 
     /// Tells a line of a lane or of the audit.
     fn tell_at(&mut self, place: u8, what: &What<'_>, out: &mut WordLines) -> Result<(), AllocError>
-        ensures words { OnOk result (TellsSaid (spec.at_lane self.old.filter.brief (seen_state self.old) place (seen_what what.now)) out.old out.new) }
+        ensures words { OnOk result (TellsSaid (spec.at_lane (seen_state self.old) place (seen_what what.now)) out.old out.new) }
         ensures state { OnOk result (state.LeavesAt (seen_what what.now) (seen_state self.old) place (seen_state self.new)) }
         ensures filter { self.new.filter ≡ self.old.filter }
     {

@@ -1,6 +1,5 @@
 //! Power lines in words: a card's counters, and what changed since its last power-up.
-ghost use Rattle.std.specs.Prelude.{◌≡◌, ◌<◌, ◌^◌, ◌||◌, length, slice_get, OnOk};
-ghost use Rattle.narrator.specs.Cards as cards_spec;
+ghost use Rattle.std.specs.Prelude.{◌≡◌, ◌||◌};
 ghost use Rattle.narrator.specs.Powers as spec;
 ghost use Rattle.word_lines.specs.Pieces.{Tells};
 
@@ -52,9 +51,7 @@ fn tell_second(out: &mut WordLines, second: Option<u64>)
 }
 
 /// Tells the counters of an application.
-fn tell_counters(out: &mut WordLines, counters: &Counters)
-    ensures { Tells out.old out.new (spec.counters_words counters.now) }
-{
+fn tell_counters(out: &mut WordLines, counters: &Counters) {
     out.text(TRANSACTION_COUNTER);
     out.number(counters.counter);
     out.text(b", last online ");
@@ -110,8 +107,7 @@ fn tell_change(out: &mut WordLines, told: bool, name: &[u8], before: u64, now: u
 
 /// Tells a flag that is set now, or is so no longer; whether any change was told.
 fn tell_flag(out: &mut WordLines, told: bool, name: &[u8], before: bool, now: bool) -> bool
-    ensures words { Tells out.old out.new (spec.flag_words told name.now before now) }
-    ensures told { result ≡ (told || spec.flags_differ before now) }
+    ensures { result ≡ (told || spec.flags_differ before now) }
 {
     if before == now {
         return told;
@@ -142,8 +138,7 @@ fn tell_changes(out: &mut WordLines, before: &Counters, now: &Counters) -> bool
 
 /// Tells what changed of the flags of an application; whether anything was told.
 fn tell_flags(out: &mut WordLines, told: bool, before: &Counters, now: &Counters) -> bool
-    ensures words { Tells out.old out.new (spec.flags_words told before.now now.now) }
-    ensures told { result ≡ (told || spec.has_turned before.now now.now) }
+    ensures { result ≡ (told || spec.has_turned before.now now.now) }
 {
     let blocked = is_blocked(now);
     let told = tell_flag(out, told, BLOCKED, is_blocked(before), blocked);
@@ -152,9 +147,7 @@ fn tell_flags(out: &mut WordLines, told: bool, before: &Counters, now: &Counters
 }
 
 /// Tells what changed of an application.
-fn tell_since(out: &mut WordLines, before: &Counters, now: &Counters)
-    ensures { Tells out.old out.new (spec.since_words before.now now.now) }
-{
+fn tell_since(out: &mut WordLines, before: &Counters, now: &Counters) {
     out.line(2);
     out.text(SINCE_LAST);
     let told = tell_changes(out, before, now);
@@ -164,72 +157,29 @@ fn tell_since(out: &mut WordLines, before: &Counters, now: &Counters)
     tell_where(out, !told, b" no change");
 }
 
-/// Tells which of several applications this is.
-fn tell_place(out: &mut WordLines, several: bool, place: usize)
-    requires { place < 2 ^ 32 }
-    ensures { Tells out.old out.new (spec.place_words several place) }
-{
-    if several {
-        out.text(b"application ");
-        out.number(place as u64 + 1);
-        out.text(b": ");
-    }
-}
-
-/// Tells the counters of an application, and what changed since the card's last power line.
-fn tell_app(
-    out: &mut WordLines,
-    several: bool,
-    before: &[Counters],
-    place: usize,
-    counters: &Counters,
-)
-    requires { place < 2 ^ 32 }
-    ensures { Tells out.old out.new (spec.app_words several before.now place counters.now) }
-{
-    out.line(1);
-    tell_place(out, several, place);
-    tell_counters(out, counters);
-    if let Some(earlier) = before.get(place) {
-        tell_since(out, earlier, counters);
-    }
-}
-
-/// The counters of the last power line, where it had as many applications.
-fn alike<'a>(before: &'a [Counters], apps: &[Counters]) -> &'a [Counters]
-    ensures { result.now ≡ spec.alike before.now apps.now }
-{
-    if before.len() == apps.len() {
-        before
-    } else {
-        &[]
-    }
-}
-
-/// Tells the counters of each application, and what changed since those before.
-fn tell_each(out: &mut WordLines, several: bool, before: &[Counters], apps: &[Counters])
-    requires { length apps.now < 2 ^ 32 }
-    ensures { Tells out.old out.new (spec.apps_from several before.now 0 apps.now) }
-{
-    for (place, counters) in apps.iter().enumerate() {
-        tell_app(out, several, before, place, counters);
-    }
-}
-
 /// Tells the counters of each application, and what changed since the card's last power line, where that
 /// had as many applications.
-#[tactic(auto, unfolding(crate::specs::Powers::apps_words))]
-fn tell_apps(out: &mut WordLines, before: &[Counters], apps: &[Counters])
-    requires { length apps.now < 2 ^ 32 }
-    ensures { Tells out.old out.new (spec.apps_words before.now apps.now) }
-{
-    tell_each(out, apps.len() > 1, alike(before, apps), apps);
+fn tell_apps(out: &mut WordLines, before: &[Counters], apps: &[Counters]) {
+    let mut number: u64 = 1;
+    for (place, counters) in apps.iter().enumerate() {
+        out.line(1);
+        if apps.len() > 1 {
+            out.text(b"application ");
+            out.number(number);
+            out.text(b": ");
+        }
+        tell_counters(out, counters);
+        if before.len() == apps.len() {
+            if let Some(earlier) = before.get(place) {
+                tell_since(out, earlier, counters);
+            }
+        }
+        number = number.saturating_add(1);
+    }
 }
 
 /// Keeps the counters of a card that was not seen before.
-fn keep_new(cards: &mut Vec<CardSeen>, name: &[u8], apps: Apps) -> Result<(), AllocError>
-    ensures { OnOk result (cards.new.items ≡ cards_spec.with_card cards.old.items name.now apps.items) }
-{
+fn keep_new(cards: &mut Vec<CardSeen>, name: &[u8], apps: Apps) -> Result<(), AllocError> {
     if cards.len() >= MOST_CARDS {
         return Ok(());
     }
@@ -240,33 +190,20 @@ fn keep_new(cards: &mut Vec<CardSeen>, name: &[u8], apps: Apps) -> Result<(), Al
     Ok(())
 }
 
-/// Tells the counters of a card that was seen before, and keeps them.
-fn tell_seen(out: &mut WordLines, cards: &mut [CardSeen], place: usize, apps: Apps)
-    requires { place < length cards.old }
-    ensures words { Tells out.old out.new (spec.apps_words (cards_spec.apps_of (slice_get cards.old place)) apps.items) }
-    ensures kept { cards.new ≡ cards_spec.renewed cards.old place apps.items (slice_get cards.old place) }
-{
-    tell_apps(out, cards[place].apps.as_slice(), apps.as_slice());
-    cards[place].apps = apps;
-}
-
 /// Tells a power line of a card with applications, and keeps its counters.
-#[tactic(auto, unfolding(crate::specs::Cards::power_words, crate::specs::Cards::kept_cards))]
 pub(crate) fn tell_power(
     out: &mut WordLines,
     cards: &mut Vec<CardSeen>,
     name: &[u8],
     apps: &[u8],
-) -> Result<(), AllocError>
-    ensures words { OnOk result (Tells out.old out.new (cards_spec.power_words cards.old.items name.now apps.now)) }
-    ensures kept { OnOk result (cards.new.items ≡ cards_spec.kept_cards cards.old.items name.now apps.now) }
-{
+) -> Result<(), AllocError> {
     let Some(apps) = read_apps(apps) else {
         return Ok(());
     };
     match place_of(cards, name) {
         Some(place) => {
-            tell_seen(out, cards, place, apps);
+            tell_apps(out, cards[place].apps.as_slice(), apps.as_slice());
+            cards[place].apps = apps;
             Ok(())
         }
         None => {

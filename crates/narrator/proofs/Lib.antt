@@ -1,3 +1,0 @@
-pub mod Apps
-pub mod Lanes
-pub mod Scripts
