@@ -4,6 +4,9 @@ use Rattle.std.specs.declared.option.Option.{Option}
 use Rattle.explain.specs.Course.{SoFar, Stopped, way_in, stand_of}
 use Rattle.explain.proofs.told.take_byte.Goals as goal
 
+pub returns-then-byte-ne10-clause-err : goal.returns-then-byte-ne10-clause-err
+returns-then-byte-ne10-clause-err g c = on_err_weaker c.take_inner.result (λ stops. λ seen first s. (1, stops seen first s)) c.take_inner.ensures.err
+
 pub returns-then-teller-clause-ok : goal.returns-then-teller-clause-ok
 returns-then-teller-clause-ok g c =
     subst (λ (b : ℕ). OnOk c.end_long.result ((seen : List ℕ) (first : Option (List ℕ)) → SoFar (way_in c.args.teller.now) c.args.teller.now.line.items (stand_of c.args.teller.now) seen first (g.K.Sink.held c.args.sink.now)
