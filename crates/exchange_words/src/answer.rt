@@ -1,5 +1,6 @@
 //! Answers in words (EMV 4.3 Book 3 section 6.5).
 ghost use Rattle.std.specs.Prelude.{◌≡◌, option_map};
+ghost use Rattle.exchange_words.specs.Lanes.{KeepsRest, torn_words, left_open, command_name as name_of_command};
 ghost use Rattle.exchange_words.specs.Statuses as spec;
 ghost use Rattle.word_lines.specs.Pieces.{Tells};
 
@@ -7,7 +8,7 @@ use crate::command::{command_name, may_keep};
 use crate::cryptogram::tell_kind;
 use crate::lane::LaneState;
 use crate::learn::{counter_in, learn_record, learn_selected};
-use crate::phrases::WRONG_PIN;
+use crate::phrases::{MAY_BE_KEPT, NO_ANSWER_YET, WRONG_PIN};
 use apdu_core::status::{NO_ERROR, counter_in as tries_in};
 use apdu_core::{ApduFault, read_response};
 use ber_tlv::{Tag, first_fault, sole_value};
@@ -175,7 +176,9 @@ fn tell_since(out: &mut WordLines, lane: &LaneState, last_online: u64, counter: 
 }
 
 /// Keeps a counter that GET DATA gave, and tells the distance of the two.
-fn tell_counter(out: &mut WordLines, lane: &mut LaneState, body: &[u8], brief: bool) {
+fn tell_counter(out: &mut WordLines, lane: &mut LaneState, body: &[u8], brief: bool)
+    ensures rest { KeepsRest lane.old lane.new }
+{
     if let Some(counter) = counter_in(body, 0x9f36) {
         lane.counter = Some(counter);
     }
@@ -197,7 +200,9 @@ fn tell_and_learn(
     answer: &[u8],
     body: &[u8],
     brief: bool,
-) {
+)
+    ensures rest { KeepsRest lane.old lane.new }
+{
     if let [_, 0xa4, ..] = command {
         if answer == lane.selected.as_slice() {
             out.line(1);
@@ -223,7 +228,9 @@ fn tell_response(
     command: &[u8],
     answer: &[u8],
     brief: bool,
-) {
+)
+    ensures rest { KeepsRest lane.old lane.new }
+{
     let Ok(response) = read_response(answer) else {
         return;
     };
@@ -249,7 +256,9 @@ pub fn tell_answer(
     command: &[u8],
     answer: &[u8],
     brief: bool,
-) {
+)
+    ensures rest { KeepsRest lane.old lane.new }
+{
     match read_response(answer) {
         Ok(_) => tell_response(out, lane, command, answer, brief),
         Err(ApduFault::Short) => {
@@ -263,15 +272,24 @@ pub fn tell_answer(
     }
 }
 
-/// Tells that the card was pulled out.
-pub fn tell_torn(out: &mut WordLines, command: &[u8]) {
-    out.line(1);
-    out.text(b"the card was pulled out before it had answered");
+/// Tells the command that was left without an answer, where it has a name.
+fn tell_left_open(out: &mut WordLines, command: &[u8])
+    ensures { Tells out.old out.new (left_open command.now (name_of_command command.now)) }
+{
     if let Some(name) = command_name(command) {
         out.text(b" ");
         out.text(name);
         if may_keep(command) {
-            out.text(b"; its next power line tells whether that was kept");
+            out.text(MAY_BE_KEPT);
         }
     }
+}
+
+/// Tells that the card was pulled out.
+pub fn tell_torn(out: &mut WordLines, command: &[u8])
+    ensures { Tells out.old out.new (torn_words command.now) }
+{
+    out.line(1);
+    out.text(NO_ANSWER_YET);
+    tell_left_open(out, command);
 }

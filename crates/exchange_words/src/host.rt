@@ -1,4 +1,7 @@
 //! Messages to the issuer and replies, in both dialects.
+ghost use Rattle.std.specs.Prelude.{◌≡◌};
+ghost use Rattle.exchange_words.specs.Lanes.{with_code};
+
 use crate::answer::DEPTH;
 use crate::iso::{message_type, reply_code, tell_message};
 use crate::lane::{LaneState, Settled};
@@ -113,7 +116,9 @@ fn code_of_objects(reply: &[u8]) -> Option<[u8; 2]> {
 }
 
 /// Keeps the response code of a reply.
-pub fn learn_reply(lane: &mut LaneState, reply: &[u8]) {
+pub fn learn_reply(lane: &mut LaneState, reply: &[u8])
+    ensures rest { lane.new ≡ with_code lane.old lane.new.code }
+{
     lane.code = match message_type(reply) {
         Some(_) => reply_code(reply),
         None => code_of_objects(reply),

@@ -1,7 +1,9 @@
 //! Lines of no lane and no card in words.
 ghost use Rattle.std.specs.Prelude.{◌≡◌, OnOk, option_map};
 ghost use Rattle.narrator.specs.Words as spec;
-ghost use Rattle.narrator.specs.Words.{TellsAlone};
+ghost use Rattle.narrator.specs.Words.{TellsSaid};
+ghost use Rattle.narrator.specs.Endings as endings;
+ghost use Rattle.report_lines.specs.Bytes.{bytes_told};
 ghost use Rattle.report_lines.specs.Reading.{seen_what};
 ghost use Rattle.word_lines.specs.Pieces.{Tells};
 
@@ -20,7 +22,9 @@ fn tell_given_object(
     alloc: Global,
     tag: &[u8],
     value: &[u8],
-) -> Result<(), AllocError> {
+) -> Result<(), AllocError>
+    ensures { OnOk result (TellsSaid (spec.of_object (endings.hex_number tag.now) (bytes_told value.now)) out.old out.new) }
+{
     let Some(number) = hex_number(tag) else {
         return Ok(());
     };
@@ -68,7 +72,7 @@ pub(crate) fn tell_of_report(
     what: &What<'_>,
     brief: bool,
 ) -> Result<(), AllocError>
-    ensures { OnOk result (TellsAlone (spec.of_report (seen_what what.now)) out.old out.new) }
+    ensures { OnOk result (TellsSaid (spec.of_report brief (seen_what what.now)) out.old out.new) }
 {
     match what {
         What::Object { tag, value } => {
