@@ -347,6 +347,8 @@ so_far_short_told all long all' long' after shown p p' seen text words told empt
 pub stopped_short_told : (all : Way) (long : Stand) (after : StateData) (shown : Bool) (p p' seen text words told : List ℕ) (first old new : Option (List ℕ)) → p' ≡ p
     → text ≡ p' → told ≡ words → long.long ≡ false → IsSaid all long.state after p words shown → SoFar all p long seen first old
     → AppendsFront old new (short_piece shown text told) → (taken : ℕ) × Stopped all (seen ++ take taken (10 ∷ [])) first new
-stopped_short_told all long after shown p p' seen text words told first old new e e' w short said s more =
-    (1, stopped_short_at all long after shown p seen text words first old new (e' ∙ e) short said s
-    (subst (λ (t : List ℕ). AppendsFront old new (short_piece shown text t)) w more))
+stopped_short_told all long after shown p p' seen text words told first old new e e' w short said s more = (
+  1,
+  stopped_short_at all long after shown p seen text words first old new (e' ∙ e) short said s
+      (subst (λ (t : List ℕ). AppendsFront old new (short_piece shown text t)) w more),
+)

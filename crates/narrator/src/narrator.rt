@@ -324,7 +324,12 @@ impl Narrator {
     }
 
     /// Tells a reply in the settlement, which stands in hexadecimal.
-    fn tell_settled_text(&self, place: u8, text: &[u8], out: &mut WordLines) -> Result<(), AllocError>
+    fn tell_settled_text(
+        &self,
+        place: u8,
+        text: &[u8],
+        out: &mut WordLines,
+    ) -> Result<(), AllocError>
         ensures { OnOk result (TellsSaid (spec.of_bytes (bytes_told text.now)) out.old out.new) }
     {
         match bytes_of(self.alloc, text)? {
