@@ -9,6 +9,7 @@ SECTIONS = [
     ("SYNOPSIS", [
         ("`emvrun` [`-q`] `replay` < SCENARIO.toml", ""),
         ("`emvrun` [`-q`] `read` < SCENARIO.toml", ""),
+        ("`emvrun` [`-q`] `check` < TRACE.toml", ""),
         ("`emvrun` [`-q`] `generate` N", ""),
         ("`emvrun` `--build` | `--help` | `--version`", ""),
         ("`explain` [`-q`] [`--brief`] [`--ends`] [`--lane` N] [`--purchase` N] [SCENARIO.toml]", ""),
@@ -26,6 +27,8 @@ SECTIONS = [
         ("`replay`", "Runs all purchases, the settlement, an audit of every card, and prints the balances."),
         ("`read`", "Takes the first purchase of the first terminal up to the end of reading, and prints the data "
                    "objects that the card gave."),
+        ("`check`", "Compares what was said between a terminal, a card and the issuer with what this project's terminal "
+                    "says to the same answers: `check ok`, or the first entry that differs."),
         ("`generate` N", "Runs a scenario of N purchases, 1 to 10000, that nobody has to write, and prints three lines "
                          "that sum it up."),
         ("`explain`", "A program of its own: puts words below each line of a report. With a scenario it runs `replay` "
@@ -44,8 +47,8 @@ SECTIONS = [
         "seconds. `--build` takes about an hour of one processor from nothing, and less where several are free.",
     ]),
     ("EXIT STATUS", [
-        ("0", "The scenario was run to its end, whatever became of its purchases."),
-        ("1", "The scenario is refused; the report is one line, `refused` with the fault and its place. Or there is no "
+        ("0", "The scenario was run to its end, whatever became of its purchases; or the trace was compared."),
+        ("1", "The scenario or the trace is refused; the report is one line, `refused` with the fault and its place. Or there is no "
               "build, and none can be made."),
         ("2", "The words on the command line are others than those above."),
         ("3", "Standard input failed."),
@@ -54,6 +57,7 @@ SECTIONS = [
     ]),
     ("FILES", [
         ("docs/scenario.md", "Every key of a scenario; docs/scenario.schema.json is the same for editors."),
+        ("docs/trace.md", "The document that `check` reads; docs/trace.schema.json is the same for editors."),
         ("docs/report.md", "Every line of a report."),
         ("docs/questions.md", "Three questions, each answered by one command."),
         ("examples/README.md", "The examples by what one wants to see."),
@@ -61,6 +65,7 @@ SECTIONS = [
     ("EXAMPLES", [
         ("`./emvrun replay < examples/offline-approval.toml`", "Runs one purchase."),
         ("`./explain --ends examples/decline-by-action-code.toml`", "Says why a purchase was declined."),
+        ("`./emvrun check < examples/traces/offline-approval.toml`", "Checks a trace."),
         ("`scripts/sweep examples/pin-tries.toml 0 1`", "Pulls the card out at every place of a purchase."),
         ("`scripts/expect FOLDER`", "Compares every scenario of a folder with the report beside it."),
     ]),

@@ -172,15 +172,19 @@ def name_hint(text, place):
     return near(value.split("#")[0].strip("\"', }"), names_of_cards(text))
 
 
-def keys_at(table):
-    """The keys that a table of the document may have, by the schema."""
-    return (table_at(table, read_schema()) or {}).get("properties", {})
+def keys_at(table, is_trace):
+    """The keys that a table of the document may have, by the schema; the lane of a trace is a scenario's."""
+    schema = read_schema()
+    if is_trace and not table:
+        return schema["$defs"]["trace"]["properties"]
+    place = ("lane", 0, *table[1:]) if is_trace else table
+    return (table_at(place, schema) or {}).get("properties", {})
 
 
-def key_hint(text, fault, path, place):
+def key_hint(text, fault, path, place, is_trace):
     """Where a key or an element stands, and what may be meant in its place."""
     name = path[-1] if isinstance(path[-1], str) else as_text(path)
-    keys = keys_at(path[:-1])
+    keys = keys_at(path[:-1], is_trace)
     said = f"{line_and_column(text, place)}: {name} stands there"
     if fault == "UnknownKey":
         return said + near(name, keys)
@@ -190,16 +194,27 @@ def key_hint(text, fault, path, place):
     return said + (f": {meant}" if meant else "")
 
 
+def default_hint(text, places, table, key):
+    """The table of a key that is absent and whose value without it is refused."""
+    if not table:
+        return None
+    return f"{line_and_column(text, places[table])}: {as_text(table)} begins there, and has no {key}: the value without it isn't allowed"
+
+
 def path_hint(text, fault, path):
     """Where the key of a refused path stands, and what may be meant in its place; None where it can't be found."""
     places = Scanner(text).scan()
     by_text = {as_text(one): one for one in places}
+    is_trace = ("trace",) in places
     if fault == "MissingKey":
         outer, _, key = path.rpartition(".")
         table = by_text.get(outer)
-        return None if table is None else missing_hint(text, places, table, key, keys_at(table))
+        return None if table is None else missing_hint(text, places, table, key, keys_at(table, is_trace))
     found = by_text.get(path)
-    return key_hint(text, fault, found, places[found]) if found else None
+    if found:
+        return key_hint(text, fault, found, places[found], is_trace)
+    outer, _, key = path.rpartition(".")
+    return default_hint(text, places, by_text.get(outer), key)
 
 
 def hint(document, answer):

@@ -6,6 +6,7 @@ pub mod Selecting
 pub mod Chosen
 pub mod Leading
 pub mod NextLeads
+pub mod Named
 pub mod SeenSaid
 pub mod SeenCandidate
 pub mod SeenState

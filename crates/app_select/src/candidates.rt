@@ -7,6 +7,7 @@ ghost use Rattle.app_select.specs.Candidates as spec;
 ghost use Rattle.app_select.specs.SeenCandidate.{seen_candidate, seen_all, is_kept, is_ranked};
 
 use crate::course::Row;
+use crate::naming::blank_name;
 use arrayvec::ArrayVec;
 use emv_dict::{Name, Settings};
 use std::default::MadeWith;
@@ -43,13 +44,6 @@ impl<'s> MadeWith<Row<'s>> for Candidate<'s> {
             priority: None,
         }
     }
-}
-
-/// The name in an unused place, which is made faster than a copy of another.
-fn blank_name() -> Name {
-    let mut bytes = ArrayVec::new();
-    bytes.push(0);
-    Name(bytes)
 }
 
 /// The candidates for selection: while the list is asked for the applications found so far, then those that

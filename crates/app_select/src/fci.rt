@@ -1,5 +1,5 @@
 //! SELECT and its answer (EMV 4.3 Book 1 section 11.3).
-ghost use Rattle.std.specs.Prelude.{◌≡◌, ◌≤◌, ◌<◌, length, option_map, IfSome};
+ghost use Rattle.std.specs.Prelude.{◌≡◌, ◌≤◌, ◌<◌, length, option_map, is_some, IfSome};
 ghost use Rattle.ber_tlv.specs.Direct.{first_value as value_in};
 ghost use Rattle.ber_tlv.specs.Left.{items_of};
 ghost use Rattle.app_select.specs.Fci.{fci_in, fci_of, fitting_name, proprietary_in, proprietary_of, with_priority};
@@ -80,6 +80,14 @@ pub(crate) fn read_fci(body: &[u8]) -> Option<Fci<'_>>
 {
     let template = sole_value(body, Tag(0x6f))?;
     read_template(template)
+}
+
+/// Whether a body of at most 256 bytes is an FCI that can be read (EMV 4.3 Book 1 section 11.3.4).
+pub fn is_readable(body: &[u8]) -> bool
+    requires { length body.now ≤ 256 }
+    ensures { result ≡ is_some (fci_of body.now) }
+{
+    read_fci(body).is_some()
 }
 
 #[tactic(auto, unfolding(crate::specs::Fci::fci_in))]

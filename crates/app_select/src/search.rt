@@ -2,12 +2,13 @@
 ghost use Rattle.std.specs.Prelude.{◌≡◌, ◌≤◌, ◌<◌, ◌+◌, ◌*◌, ◌∷◌, ◌++◌, ℕ, [], List, length, option_map};
 ghost use Rattle.emv_dict.specs.Progress.{Progress, Wants, Leads};
 ghost use Rattle.emv_dict.specs.Settings.{IsSettings, IsAidRow};
-ghost use Rattle.app_select.specs.Candidates.{CandidateData};
+ghost use Rattle.app_select.specs.Candidates.{CandidateData, candidates as candidates_among};
 ghost use Rattle.app_select.specs.Leading.{rest_with, answers_left, HasRoom};
 ghost use Rattle.app_select.specs.Selecting.{SelectedData, opening, selecting};
 
 use crate::candidates::{Candidate, Candidates};
 use crate::course::{Course, Row};
+use crate::naming::Found;
 use apdu_core::Out;
 use arrayvec::ArrayVec;
 use emv_dict::{AidRow, Cause, Settings};
@@ -15,7 +16,7 @@ use std::marker::Model;
 
 mod turns;
 
-use turns::{choose, first_row, listed, opened, write_asked};
+use turns::{choose, first_row, listed, opened, push_named, write_asked};
 
 /// The bytes of a processing options data object list (9F38): it stands in the body of an answer.
 pub(crate) type Pdol = ArrayVec<u8, 256>;
@@ -77,6 +78,7 @@ pub enum SearchNext<'s> {
 
 impl<'s> Search<'s> {
     ghost use Rattle.app_select.specs.NextLeads.{SearchNextLeads, NextHasRoom, answers_left_next};
+    ghost use Rattle.app_select.specs.Named.{BeginsWith, HaveRows, all_named};
 
     /// Begins selection for a terminal with these settings, at which the cardholder can confirm an
     /// application, or can't. No candidate is found yet.
@@ -88,6 +90,31 @@ impl<'s> Search<'s> {
         ensures few { answers_left result [] ≤ 16 * 16 + 256 }
     {
         first_row(settings.aids.as_slice(), confirm)
+    }
+
+    /// Begins selection among applications that the card named by itself, at most 16, in place of the list's
+    /// (EMV 4.3 Book 1 section 12.3.2): those that may be confirmed, in the order of their priorities. No
+    /// candidate is left where none may be confirmed.
+    pub fn from_names(
+        settings: &'s Settings,
+        confirm: bool,
+        found: &[Found],
+        candidates: &mut Candidates<'s>,
+    ) -> SearchNext<'s>
+        requires settings { IsSettings settings.now }
+        requires few { length found.now ≤ 16 }
+        requires rows { HaveRows settings.now.aids found.now }
+        ensures begins { BeginsWith (candidates_among confirm (all_named settings.entry.now.aids found.now)) result candidates.new }
+        ensures leads { (whole : List (List ℕ) → Progress SelectedData) (answers : List (List ℕ))
+            → Leads whole answers (opening (candidates_among confirm (all_named settings.entry.now.aids found.now)))
+            → SearchNextLeads candidates.new whole answers result }
+        ensures room { NextHasRoom result candidates.new }
+        ensures few { answers_left_next result candidates.new ≤ 16 }
+    {
+        candidates.clear();
+        push_named(settings.aids.as_slice(), found, candidates);
+        candidates.arrange(confirm);
+        choose(candidates)
     }
 
     /// Writes the command that the card is to answer, in place of what `out` held.

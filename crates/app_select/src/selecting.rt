@@ -3,15 +3,18 @@ ghost use Rattle.std.specs.Prelude.{◌≡◌, ◌≤◌, ◌∷◌, ◌++◌, �
 ghost use Rattle.emv_dict.specs.Progress.{Progress, Wants, Leads};
 ghost use Rattle.emv_dict.specs.Settings.{IsSettings, IsAidRow};
 ghost use Rattle.emv_dict.specs.declared.purchase.AidRow.{AidRow};
-ghost use Rattle.app_select.specs.Candidates.{CandidateData};
+ghost use Rattle.app_select.specs.Candidates.{CandidateData, candidates as candidates_among};
 ghost use Rattle.app_select.specs.Chosen.{Follow, chosen, first_of, followed};
 ghost use Rattle.app_select.specs.Leading.{rest_of};
+ghost use Rattle.app_select.specs.Named.{BeginsWith, SelectBeginsWith, HaveRows, all_named};
 ghost use Rattle.app_select.specs.NextLeads.{SearchNextLeads, NextHasRoom, SelectNextLeads};
 ghost use Rattle.app_select.specs.Selecting.{SelectedData, opening, selecting};
 
 use crate::candidates::Candidates;
+use crate::naming::{Found, MOST_NAMES};
 use crate::search::{Choice, Search, SearchNext};
 use apdu_core::Out;
+use arrayvec::ArrayVec;
 use emv_dict::{AidRow, Cause, Settings};
 use std::marker::Model;
 
@@ -72,6 +75,21 @@ impl<'s> Selecting<'s> {
         }
     }
 
+    /// As `Search::from_names`.
+    pub fn from_names(
+        settings: &'s Settings,
+        confirm: bool,
+        found: ArrayVec<Found, MOST_NAMES>,
+    ) -> SelectNext<'s>
+        requires settings { IsSettings settings.now }
+        requires rows { HaveRows settings.now.aids found.items }
+        ensures begins { SelectBeginsWith (candidates_among confirm (all_named settings.entry.now.aids found.items)) result }
+    {
+        let mut candidates = Candidates::new(settings);
+        let next = Search::from_names(settings, confirm, found.as_slice(), &mut candidates);
+        with_candidates(next, candidates)
+    }
+
     /// As `Search::ask`.
     pub fn ask(&self, out: &mut Out)
         ensures wants { (whole : List (List ℕ) → Progress SelectedData) (answers : List (List ℕ))
@@ -127,7 +145,8 @@ impl<'s> Selected<'s> {
 /// The same with the candidates.
 fn with_candidates<'s>(next: SearchNext<'s>, candidates: Candidates<'s>) -> SelectNext<'s>
     requires { NextHasRoom next candidates }
-    ensures { (whole : List (List ℕ) → Progress SelectedData) (answers : List (List ℕ))
+    ensures begins { (among : List CandidateData) → BeginsWith among next.entry candidates.entry → SelectBeginsWith among result }
+    ensures leads { (whole : List (List ℕ) → Progress SelectedData) (answers : List (List ℕ))
         → SearchNextLeads candidates.entry whole answers next.entry → SelectNextLeads whole answers result }
 {
     match next {

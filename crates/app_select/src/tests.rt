@@ -193,6 +193,7 @@ fn settings(rt: &(impl AllocGlobal + Abort), words: &str) -> Settings
         pin_key: [0; 16],
         exceptions: Vec::new(rt.alloc()),
         aids,
+        pse: false,
     }
 }
 

@@ -2,7 +2,7 @@
 use Rattle.std.proofs.Common.{◌≡◌, ℕ, ◌+◌, ◌<◌, ◌++◌, Bool, true, false, List, [], ◌∷◌, length, refl, ap, sym, subst, ◌∙◌, arith, append-nil}
 use Rattle.std.proofs.lemmas.List.{append_assoc, length-map}
 use Rattle.card_files.specs.Files.{opening_of}
-use Rattle.card_files.specs.Views.{AppData}
+use Rattle.card_files.specs.Views.{AppData, ImageData}
 use Rattle.card_state.specs.Allowed.{Allowed}
 use Rattle.card_state.specs.Decisions.{Decided}
 use Rattle.card_state.specs.Totals.{totals, apps_totals}
@@ -57,7 +57,7 @@ module _ (opening : CardState) (ds : List Decided) (allowed : Allowed opening ds
   card_allowed body (Compares k) may = after_compare k may.app may.allowed (is_equal k)
 
 -- a card has a state for each application of its image
-pub count_is : (image : List AppData) (ds : List Decided) (state : CardState) → state ≡ totals (opening_of image) ds → length state.apps.items ≡ length image
+pub count_is : (image : ImageData) (ds : List Decided) (state : CardState) → state ≡ totals (opening_of image) ds → length state.apps.items ≡ length image.apps
 unfolding totals
 count_is image ds state is =
-    ap (λ (s : CardState). length s.apps.items) is ∙ counted 0 (opening_of image).apps.items ds ∙ length-map image (λ (a : AppData). a.opening)
+    ap (λ (s : CardState). length s.apps.items) is ∙ counted 0 (opening_of image).apps.items ds ∙ length-map image.apps (λ (a : AppData). a.opening)

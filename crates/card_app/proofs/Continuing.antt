@@ -4,7 +4,7 @@ use Rattle.std.proofs.lemmas.List.Sums.{fold-append}
 use Rattle.apdu_core.specs.Command.{CommandData, command_of}
 use Rattle.apdu_core.specs.Response.{ResponseData, response_of}
 use Rattle.card_files.specs.Files.{opening_of}
-use Rattle.card_files.specs.Views.{AppData}
+use Rattle.card_files.specs.Views.{ImageData}
 use Rattle.card_state.specs.Decisions.{Decided}
 use Rattle.card_state.specs.Totals.{totals}
 use Rattle.card_state.specs.declared.state.CardState.{CardState}
@@ -22,7 +22,7 @@ use Rattle.card_app.specs.declared.reply.Reply.{Reply}
 use Rattle.card_app.specs.declared.reply.Reply.TheVariants.{Plain, Decides, Compares}
 
 -- the phase behind a reply is the one that its answer leads to
-leads_to : (image : List AppData) (phase : Phase) (c : Option CommandData) (body : List ℕ) (reply : Reply) → Leads image phase c body reply
+leads_to : (image : ImageData) (phase : Phase) (c : Option CommandData) (body : List ℕ) (reply : Reply) → Leads image phase c body reply
     → phase_behind phase reply ≡ after_said image phase c (Some (response_in (reply_data body reply)))
 leads_to image phase c body (Plain status next) leads = leads
 leads_to image phase c body (Decides app decision status next) leads = leads

@@ -1,2 +1,3 @@
 mod Allowing
 mod Continuing
+mod ShortIn

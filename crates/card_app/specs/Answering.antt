@@ -2,7 +2,7 @@
 use Rattle.std.specs.Prelude.{ℕ, ◌==◌, ◌&&◌, not, if◌then◌else◌, List, Option, Some, None}
 use Rattle.apdu_core.specs.Command.{CommandData, command_of}
 use Rattle.card_files.specs.Files.{opening_of}
-use Rattle.card_files.specs.Views.{AppData}
+use Rattle.card_files.specs.Views.{ImageData}
 use Rattle.card_state.specs.Decisions.{Decided}
 use Rattle.card_state.specs.Totals.{totals}
 use Rattle.card_state.specs.declared.state.CardState.{CardState}
@@ -18,39 +18,41 @@ use Rattle.card_pages.specs.Replies.{ReplyData, CardAnswer, refused, said}
 use Rattle.card_app.specs.Session.{Exchange, phase_of}
 use Rattle.card_cryptogram.specs.declared.orders.Order.TheVariants.{BlockApp, UnblockApp, BlockCard}
 use Rattle.card_cryptogram.specs.declared.phase.Phase.{Phase}
-use Rattle.card_cryptogram.specs.declared.phase.Phase.TheVariants.{Idle, Selected, Started, Online, Closed, Done}
+use Rattle.card_cryptogram.specs.declared.phase.Phase.TheVariants.{Idle, Directory, Selected, Started, Online, Closed, Done}
 
 -- GET PROCESSING OPTIONS comes behind SELECT
-abbrev pub options_in : List AppData → CardState → Phase → List ℕ → ReplyData
-options_in image state (Selected app) body = with_app image state app (options_of state.blocked app body)
+abbrev pub options_in : ImageData → CardState → Phase → List ℕ → ReplyData
+options_in image state (Selected app) body = with_app image.apps state app (options_of state.blocked app body)
 options_in image state Idle body = refused 0x6985
+options_in image state Directory body = refused 0x6985
 options_in image state (Started app) body = refused 0x6985
 options_in image state (Online app first sent) body = refused 0x6985
 options_in image state (Closed app) body = refused 0x6985
 options_in image state (Done app first) body = refused 0x6985
 
-unfoldable pub options_row : List AppData → CardState → Phase → CommandData → ReplyData
+unfoldable pub options_row : ImageData → CardState → Phase → CommandData → ReplyData
 options_row image state phase c =
     if not (c.p1 == 0 && c.p2 == 0) then refused 0x6A86 else options_in image state phase c.body
 
 -- VERIFY comes behind GET PROCESSING OPTIONS
-abbrev pub verify_in : List AppData → CardState → Phase → List ℕ → ReplyData
-verify_in image state (Started app) body = with_app image state app (verify_of app body)
+abbrev pub verify_in : ImageData → CardState → Phase → List ℕ → ReplyData
+verify_in image state (Started app) body = with_app image.apps state app (verify_of app body)
 verify_in image state Idle body = refused 0x6985
+verify_in image state Directory body = refused 0x6985
 verify_in image state (Selected app) body = refused 0x6985
 verify_in image state (Online app first sent) body = refused 0x6985
 verify_in image state (Closed app) body = refused 0x6985
 verify_in image state (Done app first) body = refused 0x6985
 
-unfoldable pub verify_row : List AppData → CardState → Phase → CommandData → ReplyData
+unfoldable pub verify_row : ImageData → CardState → Phase → CommandData → ReplyData
 verify_row image state phase c =
     if not (c.p1 == 0 && c.p2 == 0x80) then refused 0x6A86 else verify_in image state phase c.body
 
 -- the row of a command of a known class; an unknown instruction is refused
-unfoldable pub instruction_row : List AppData → CardState → Phase → CommandData → ReplyData
+unfoldable pub instruction_row : ImageData → CardState → Phase → CommandData → ReplyData
 instruction_row image state phase c =
     if c.class == 0x00 && c.ins == 0xA4 then select_row image state phase c
-    else if c.class == 0x00 && c.ins == 0xB2 then record_row image phase c
+    else if c.class == 0x00 && c.ins == 0xB2 then record_row image state phase c
     else if c.class == 0x80 && c.ins == 0xA8 then options_row image state phase c
     else if c.class == 0x00 && c.ins == 0x20 then verify_row image state phase c
     else if c.class == 0x80 && c.ins == 0xCA then data_row image state phase c
@@ -64,20 +66,20 @@ instruction_row image state phase c =
     else refused 0x6D00
 
 -- an unknown class is refused first
-abbrev pub row : List AppData → CardState → Phase → CommandData → ReplyData
+abbrev pub row : ImageData → CardState → Phase → CommandData → ReplyData
 row image state phase c = if is_class c.class then instruction_row image state phase c else refused 0x6E00
 
-abbrev pub row_or_refusal : List AppData → CardState → Phase → Option CommandData → ReplyData
+abbrev pub row_or_refusal : ImageData → CardState → Phase → Option CommandData → ReplyData
 row_or_refusal image state phase None = refused 0x6700
 row_or_refusal image state phase (Some c) = row image state phase c
 
 -- what a card of this image decides and answers in a state and a phase
-unfoldable pub reply_in : List AppData → CardState → Phase → List ℕ → ReplyData
+unfoldable pub reply_in : ImageData → CardState → Phase → List ℕ → ReplyData
 reply_in image state phase command = row_or_refusal image state phase (command_of command)
 
 -- what it decides and answers behind these decisions since it was made and this session since power-up
-unfoldable pub card_reply : List AppData → List Decided → List Exchange → List ℕ → ReplyData
+unfoldable pub card_reply : ImageData → List Decided → List Exchange → List ℕ → ReplyData
 card_reply image ds session command = reply_in image (totals (opening_of image) ds) (phase_of image session) command
 
-abbrev pub card_answer : List AppData → List Decided → List Exchange → List ℕ → CardAnswer
+abbrev pub card_answer : ImageData → List Decided → List Exchange → List ℕ → CardAnswer
 card_answer image ds session command = said (card_reply image ds session command)

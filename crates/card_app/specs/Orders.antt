@@ -3,7 +3,7 @@ use Rattle.std.specs.Prelude.{ℕ, ◌==◌, not, if◌then◌else◌, List, [],
 use Rattle.apdu_core.specs.Command.{CommandData}
 use Rattle.card_cryptogram.specs.Scripts.{has_code, block_in}
 use Rattle.card_files.specs.AppRules.{is_plain_block}
-use Rattle.card_files.specs.Views.{AppData}
+use Rattle.card_files.specs.Views.{AppData, ImageData}
 use Rattle.card_state.specs.declared.decision.Decision.TheVariants.{Script}
 use Rattle.card_state.specs.declared.decision.Scripted.{Scripted}
 use Rattle.card_state.specs.declared.decision.Scripted.TheVariants.{Block, Unblock, CardBlock, PinUnblock, PinChange, Count}
@@ -16,7 +16,7 @@ use Rattle.card_cryptogram.specs.declared.orders.Order.{Order}
 use Rattle.card_cryptogram.specs.declared.orders.Order.TheVariants.{BlockApp, UnblockApp, BlockCard, UnblockPin, ChangePin, LimitCount, LimitSum}
 use Rattle.card_cryptogram.specs.declared.phase.First.{First as FirstData}
 use Rattle.card_cryptogram.specs.declared.phase.Phase.{Phase}
-use Rattle.card_cryptogram.specs.declared.phase.Phase.TheVariants.{Idle, Selected, Started, Online, Closed, Done}
+use Rattle.card_cryptogram.specs.declared.phase.Phase.TheVariants.{Idle, Directory, Selected, Started, Online, Closed, Done}
 
 -- a new PIN, where the block is one
 abbrev pub change_to : ℕ → List ℕ → Option Scripted
@@ -47,14 +47,15 @@ script_for order app first c a s =
     else carried_out app (scripted_of order a first c.body)
 
 -- scripts come behind a first request to go online
-abbrev pub script_in : List AppData → CardState → Phase → Order → CommandData → ReplyData
-script_in image state (Online app first sent) order c = with_app image state app (script_for order app first c)
-script_in image state (Done app first) order c = with_app image state app (script_for order app first c)
+abbrev pub script_in : ImageData → CardState → Phase → Order → CommandData → ReplyData
+script_in image state (Online app first sent) order c = with_app image.apps state app (script_for order app first c)
+script_in image state (Done app first) order c = with_app image.apps state app (script_for order app first c)
 script_in image state Idle order c = refused 0x6985
+script_in image state Directory order c = refused 0x6985
 script_in image state (Selected app) order c = refused 0x6985
 script_in image state (Started app) order c = refused 0x6985
 script_in image state (Closed app) order c = refused 0x6985
 
-unfoldable pub script_row : List AppData → CardState → Phase → Option Order → CommandData → ReplyData
+unfoldable pub script_row : ImageData → CardState → Phase → Option Order → CommandData → ReplyData
 script_row image state phase None c = refused 0x6A86
 script_row image state phase (Some order) c = script_in image state phase order c

@@ -1,7 +1,7 @@
 -- A card in its course, as a contract sees it.
 use Rattle.std.specs.Prelude.{◌≡◌, ℕ, ◌+◌, List, [], ◌∷◌, ◌++◌, false, length, Option, None}
 use Rattle.card_files.specs.Files.{opening_of}
-use Rattle.card_files.specs.Views.{AppData}
+use Rattle.card_files.specs.Views.{ImageData}
 use Rattle.card_state.specs.Decisions.{Decided}
 use Rattle.emv_ports.specs.Memory.{Memory}
 use Rattle.emv_ports.specs.declared.tear.Tear.{Tear}
@@ -12,9 +12,9 @@ use Rattle.card_pages.specs.SeenKept.{KeptState, KeptOn, CutAt}
 use Rattle.card_app.specs.Session.{Exchange, phase_of}
 use Rattle.card_cryptogram.specs.declared.phase.Phase.{Phase}
 
--- a card that is on: the applications of its image, its pages with their state, and its phase
+-- a card that is on: its image, its pages with their state, and its phase
 pub record CardSeen : Type 0 where
-  pub image : List AppData
+  pub image : ImageData
   pub kept : KeptState
   pub phase : Phase
 
@@ -43,6 +43,6 @@ abbrev pub IsRunning : CardSeen → Type 0
 IsRunning seen = (session : List Exchange) × (ds : List Decided) × (plan : Option Tear) × (made : ℕ) × CardOn seen session ds plan made
 
 -- pages that are off and may stand for some decisions of a card of this image
-pub record IsCardOff (image : List AppData) (memory : Memory) : Type 0 where
+pub record IsCardOff (image : ImageData) (memory : Memory) : Type 0 where
   pub off : memory.on ≡ false
-  pub stands : (kept : List Decided) × (pending : Option Decided) × MayStand memory.cells (opening_of image) kept pending
+  pub stands : (kept : List Decided) × (pending : Option Decided) × MayStand memory.cells image.version (opening_of image) kept pending

@@ -10,7 +10,7 @@ use Rattle.card_app.specs.SeenCard.{CardSeen, CardOn}
 use Rattle.card_app.specs.SeenReply.{IsAt}
 use Rattle.card_app.specs.Session.{Exchange}
 
--- the applications of its image, its pages with the state that they hold while it is on, and its phase while it is on
+-- its image, its pages with the state that they hold while it is on, and its phase while it is on
 abbrev pub ChipSeen : Type 0
 ChipSeen = CardSeen
 
@@ -19,8 +19,8 @@ is_on seen = seen.kept.memory.on
 
 -- while it is on, it has a state for each application, and its phase names one that is there
 pub record IsWithin (seen : ChipSeen) : Type 0 where
-  pub apps : length seen.kept.state.apps.items ≡ length seen.image
-  pub at : IsAt seen.phase (length seen.image)
+  pub apps : length seen.kept.state.apps.items ≡ length seen.image.apps
+  pub at : IsAt seen.phase (length seen.image.apps)
 
 -- it is on, and stands for this session and these decisions
 pub record ChipOn (seen : ChipSeen) (session : List Exchange) (ds : List Decided) (plan : Option Tear) (made : ℕ) : Type 0 where
@@ -30,7 +30,7 @@ pub record ChipOn (seen : ChipSeen) (session : List Exchange) (ds : List Decided
 -- it is off, and may stand for these decisions
 pub record ChipOff (seen : ChipSeen) (kept : List Decided) (pending : Option Decided) : Type 0 where
   pub off : is_on seen ≡ false
-  pub may : MayStand seen.kept.memory.cells (opening_of seen.image) kept pending
+  pub may : MayStand seen.kept.memory.cells seen.image.version (opening_of seen.image) kept pending
 
 -- how often the power was lost
 abbrev pub losses_of : ChipSeen → ℕ

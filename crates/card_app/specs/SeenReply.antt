@@ -1,7 +1,7 @@
 -- What a contract sees of a reply that is not carried out yet.
 use Rattle.std.specs.Prelude.{◌≡◌, ℕ, ◌<◌, List, length, slice_get, Option, Some, IfSome}
 use Rattle.apdu_core.specs.Command.{CommandData}
-use Rattle.card_files.specs.Views.{AppData}
+use Rattle.card_files.specs.Views.{AppData, ImageData}
 use Rattle.card_pages.specs.Comparing.{MayCompare, comparison_reply}
 use Rattle.card_pages.specs.Replies.{ReplyData, shows, decides}
 use Rattle.card_pages.specs.SeenKept.{MayTake}
@@ -20,7 +20,7 @@ reply_data body (Decides app decision status phase) = decides app decision body 
 reply_data body (Compares k) = comparison_reply k
 
 -- the phase in a reply is the one that its answer leads to; a comparison leaves the phase
-abbrev pub Leads : List AppData → Phase → Option CommandData → List ℕ → Reply → Type 0
+abbrev pub Leads : ImageData → Phase → Option CommandData → List ℕ → Reply → Type 0
 Leads image phase c body (Plain status next) = next ≡ after_said image phase c (Some (record { body = body; status = status }))
 Leads image phase c body (Decides app decision status next) = next ≡ after_said image phase c (Some (record { body = body; status = status }))
 Leads image phase c body (Compares k) = (given : List ℕ) (status : ℕ) → phase ≡ after_said image phase c (Some (record { body = given; status = status }))
@@ -44,11 +44,11 @@ MayReply state (Compares k) = MayCompare state k
 
 -- the same two for a reply that is made from one application's image and from its state
 abbrev pub LeadsFor : ℕ → AppData → Phase → CommandData → List ℕ → Reply → Type 0
-LeadsFor number a phase c body reply = (image : List AppData) → slice_get image number ≡ Some a → Leads image phase (Some c) body reply
+LeadsFor number a phase c body reply = (image : ImageData) → slice_get image.apps number ≡ Some a → Leads image phase (Some c) body reply
 
 abbrev pub MayFor : ℕ → AppState → Reply → Type 0
 MayFor number s reply = (state : CardState) → number < length state.apps.items → slice_get state.apps.items number ≡ Some s → MayReply state reply
 
 -- whatever is answered, the command leaves the phase
 abbrev pub Stays : Phase → CommandData → Type 0
-Stays phase c = (image : List AppData) (body : List ℕ) (status : ℕ) → phase ≡ next_phase image phase c body status
+Stays phase c = (image : ImageData) (body : List ℕ) (status : ℕ) → phase ≡ next_phase image phase c body status

@@ -1,7 +1,8 @@
--- Which application SELECT finds (EMV 4.3 Book 1 section 11.3).
+-- What SELECT finds: an application (EMV 4.3 Book 1 section 11.3), or the payment system directory (section 12.2.2).
 use Rattle.std.specs.Prelude.{ℕ, ◌+◌, ◌==◌, nat_eq, if◌then◌else◌, List, [], ◌∷◌, drop, Option, Some, None}
 use Rattle.std.specs.List.{starts_with}
-use Rattle.card_files.specs.Views.{AppData}
+use Rattle.card_files.specs.Directory.{directory_named}
+use Rattle.card_files.specs.Views.{AppData, ImageData}
 use Rattle.card_cryptogram.specs.Phases.{current}
 use Rattle.card_cryptogram.specs.declared.phase.Phase.{Phase}
 
@@ -22,4 +23,8 @@ looks_from phase p2 = if p2 == 2 then behind (current phase) else 0
 
 -- the application that SELECT with these data finds
 abbrev pub found : List AppData → Phase → ℕ → List ℕ → Option ℕ
-found image phase p2 name = first_named (looks_from phase p2) name (drop (looks_from phase p2) image)
+found apps phase p2 name = first_named (looks_from phase p2) name (drop (looks_from phase p2) apps)
+
+-- the file of the directory, where SELECT of the first occurrence has its name and the card has one
+abbrev pub directory_asked : ImageData → ℕ → List ℕ → Option ℕ
+directory_asked image p2 name = if p2 == 0 then directory_named image name else None

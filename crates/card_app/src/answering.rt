@@ -4,6 +4,7 @@ ghost use Rattle.apdu_core.specs.Command.{command_of};
 ghost use Rattle.apdu_core.specs.Seen.{seen_command};
 ghost use Rattle.card_app.specs.Answering as spec;
 ghost use Rattle.card_app.specs.SeenReply.{reply_data, Leads, MayReply, IsAt};
+ghost use Rattle.card_state.specs.Encoding.{HasShortLogs};
 
 use crate::authenticate::authenticate;
 use crate::files::{get_data, read_record};
@@ -30,8 +31,9 @@ fn answer_instruction(
     out: &mut Body,
 ) -> Reply
     requires empty { out.old.items ≡ [] }
-    requires apps { length state.now.apps.items ≡ length image.now }
-    requires at { IsAt phase (length image.now) }
+    requires apps { length state.now.apps.items ≡ length image.now.apps }
+    requires at { IsAt phase (length image.now.apps) }
+    requires short { HasShortLogs state.now }
     ensures said { reply_data out.new.items result ≡ spec.instruction_row image.now state.now phase (seen_command command.now) }
     ensures leads { Leads image.now phase (Some (seen_command command.now)) out.new.items result }
     ensures may { MayReply state.now result }
@@ -39,7 +41,7 @@ fn answer_instruction(
     let (p1, p2) = (command.p1, command.p2);
     match (command.class, command.ins) {
         (0x00, 0xa4) => select(image, state, phase, command, out),
-        (0x00, 0xb2) => refused(phase, read_record(image, phase, command, out)),
+        (0x00, 0xb2) => refused(phase, read_record(image, state, phase, command, out)),
         (0x80, 0xa8) => options(image, state, phase, command, out),
         (0x00, 0x20) => verify(image, state, phase, command),
         (0x80, 0xca) => refused(phase, get_data(image, state, phase, command, out)),
@@ -70,8 +72,9 @@ fn answer_command(
     out: &mut Body,
 ) -> Reply
     requires empty { out.old.items ≡ [] }
-    requires apps { length state.now.apps.items ≡ length image.now }
-    requires at { IsAt phase (length image.now) }
+    requires apps { length state.now.apps.items ≡ length image.now.apps }
+    requires at { IsAt phase (length image.now.apps) }
+    requires short { HasShortLogs state.now }
     ensures said { reply_data out.new.items result ≡ spec.row image.now state.now phase (seen_command command.now) }
     ensures leads { Leads image.now phase (Some (seen_command command.now)) out.new.items result }
     ensures may { MayReply state.now result }
@@ -92,8 +95,9 @@ pub(crate) fn answer(
     out: &mut Body,
 ) -> Reply
     requires empty { out.old.items ≡ [] }
-    requires apps { length state.now.apps.items ≡ length image.now }
-    requires at { IsAt phase (length image.now) }
+    requires apps { length state.now.apps.items ≡ length image.now.apps }
+    requires at { IsAt phase (length image.now.apps) }
+    requires short { HasShortLogs state.now }
     ensures said { reply_data out.new.items result ≡ spec.reply_in image.now state.now phase command.now }
     ensures leads { Leads image.now phase (command_of command.now) out.new.items result }
     ensures may { MayReply state.now result }

@@ -2,6 +2,7 @@
 ghost use Rattle.std.specs.Prelude.{◌≡◌, ◌<◌, ◌≤◌, length, slice_get, Some, IsTrue, is_some, option_map, if◌then◌else◌};
 ghost use Rattle.card_files.specs.Kept.{KeepsRules};
 ghost use Rattle.card_files.specs.Lists.{entries_within, most_cdol, is_optional_pdol};
+ghost use Rattle.card_state.specs.Encoding.{HasShortLogs};
 ghost use Rattle.card_app.specs.OwnLists as spec;
 
 use card_files::lists::{MOST_CDOL, MOST_PDOL, list_within};
@@ -9,19 +10,30 @@ use card_files::{AppImage, Image};
 use card_state::{AppState, CardState};
 use object_lists::{Dol, total};
 
+/// An application at work: its number, its image, its state, and whether the card is blocked.
+#[derive(Clone, Copy)]
+pub(crate) struct AtWork<'a> {
+    pub(crate) number: u8,
+    pub(crate) app: &'a AppImage,
+    pub(crate) state: &'a AppState,
+    pub(crate) card_blocked: bool,
+}
+
 /// The image of the application of this number.
 pub(crate) fn app_at(image: &Image, app: u8) -> &AppImage
-    requires { app < length image.now }
-    ensures found { slice_get image.now app ≡ Some result.now }
+    requires { app < length image.now.apps }
+    ensures found { slice_get image.now.apps app ≡ Some result.now }
     ensures rules { KeepsRules result.now }
 {
     &image.apps()[usize::from(app)]
 }
 
 /// The state of the application of this number.
+#[tactic(auto, using(crate::proofs::ShortIn::short_in))]
 pub(crate) fn state_at(state: &CardState, app: u8) -> &AppState
     requires { app < length state.now.apps.items }
-    ensures { slice_get state.now.apps.items app ≡ Some result.now }
+    ensures found { slice_get state.now.apps.items app ≡ Some result.now }
+    ensures short { HasShortLogs state.now → result.now.log_max ≤ 10 }
 {
     &state.apps.as_slice()[usize::from(app)]
 }

@@ -3,7 +3,10 @@ ghost use Rattle.std.specs.Prelude.{◌≡◌, ◌&&◌, [], length, Some, None,
 ghost use Rattle.apdu_core.specs.Seen.{seen_command};
 ghost use Rattle.card_app.specs.SeenReply.{reply_data, Leads, LeadsFor, MayReply, MayFor, IsAt};
 ghost use Rattle.card_app.specs.Cryptograms as spec;
+ghost use Rattle.card_cryptogram.specs.Authentication.{is_authenticated as authenticates, steered_by as steers};
 ghost use Rattle.card_cryptogram.specs.declared.phase.Phase.TheVariants.{Online};
+ghost use Rattle.card_state.specs.declared.decision.Decision.TheVariants.{Authenticated};
+ghost use Rattle.card_app.specs.declared.reply.Reply.TheVariants.{Decides};
 
 use crate::apps::{app_at, state_at};
 use crate::reply::{Reply, refused};
@@ -11,18 +14,29 @@ use apdu_core::Command;
 use apdu_core::status::{
     AUTHENTICATION_FAILED, CONDITIONS_NOT_SATISFIED, NO_ERROR, WRONG_LENGTH, WRONG_PARAMETERS,
 };
-use card_cryptogram::{First, Phase, authenticates, has_issuer_auth, is_authentication_size};
+use card_cryptogram::{
+    First, Phase, authentication, has_issuer_auth, is_authenticated, is_authentication_size,
+    steered_by,
+};
 use card_files::{AppImage, Image};
-use card_state::{AppState, CardState, Decision};
+use card_state::{AppState, Auth, CardState, Decision};
 
-/// The status of an issuer authentication.
-fn status_of(right: bool) -> u16
-    ensures { result ≡ (if right then 0x9000 else 0x6300) }
+/// The decision that the issuer is authenticated so, with the answer's status.
+fn judged(number: u8, first: First, auth: Auth, limit: u8, status: u16) -> Reply
+    ensures { result ≡ Decides number (Authenticated (authenticates auth) (steers limit auth)) status (Online number first (Some auth)) }
 {
-    if right {
-        NO_ERROR
-    } else {
-        AUTHENTICATION_FAILED
+    Reply::Decides {
+        app: number,
+        decision: Decision::Authenticated {
+            right: is_authenticated(auth),
+            steered: steered_by(auth, limit),
+        },
+        status,
+        phase: Phase::Online {
+            app: number,
+            first,
+            sent: Some(auth),
+        },
     }
 }
 
@@ -45,17 +59,11 @@ fn judge(app: &AppImage, state: &AppState, number: u8, first: First, command: &C
     if !is_authentication_size(command.body.len()) {
         return refused(phase, WRONG_LENGTH);
     }
-    let right = authenticates(&app.ac_key, state.counter, first.cryptogram, command.body);
-    Reply::Decides {
-        app: number,
-        decision: Decision::Authenticated { right },
-        status: status_of(right),
-        phase: Phase::Online {
-            app: number,
-            first,
-            sent: Some(right),
-        },
+    let auth = authentication(&app.ac_key, state.counter, first.cryptogram, command.body);
+    if is_authenticated(auth) {
+        return judged(number, first, auth, app.tries, NO_ERROR);
     }
+    judged(number, first, auth, app.tries, AUTHENTICATION_FAILED)
 }
 
 /// EXTERNAL AUTHENTICATE, once in a transaction.
@@ -66,8 +74,8 @@ pub(crate) fn authenticate(
     phase: Phase,
     command: &Command<'_>,
 ) -> Reply
-    requires apps { length state.now.apps.items ≡ length image.now }
-    requires at { IsAt phase (length image.now) }
+    requires apps { length state.now.apps.items ≡ length image.now.apps }
+    requires at { IsAt phase (length image.now.apps) }
     requires ins { command.now.ins ≡ 0x82 }
     ensures said { reply_data [] result ≡ spec.authenticate_row image.now state.now phase (seen_command command.now) }
     ensures leads { Leads image.now phase (Some (seen_command command.now)) [] result }

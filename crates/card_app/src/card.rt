@@ -27,14 +27,14 @@ use torn_store::Lost;
 pub fn personalise<P: Pages>(image: &Image, pages: P) -> P
     requires off { (P.memory pages).on ≡ false }
     requires plan { (P.memory pages).plan ≡ None }
-    ensures stands { StandsFor (P.memory result).cells (opening_of image.now) [] }
+    ensures stands { StandsFor (P.memory result).cells image.now.version (opening_of image.now) [] }
     ensures off { (P.memory result).on ≡ false }
     ensures plan { (P.memory result).plan ≡ None }
     ensures losses { (P.memory result).losses ≡ (P.memory pages).losses }
 {
     let mut opening = CardState::default();
     image.opening(&mut opening);
-    format(&opening, pages)
+    format(&opening, image.version(), pages)
 }
 
 /// A card that is on: the image of its applications, its pages with their state, and how far it has
@@ -66,18 +66,18 @@ impl<'i, P: Pages> Card<'i, P> {
     pub fn power_up(image: &'i Image, pages: P) -> Result<Card<'i, P>, Lost<P>>
         requires off { (P.memory pages).on ≡ false }
         requires stands { (kept : List Decided) × (pending : Option Decided)
-            × MayStand (P.memory pages).cells (opening_of image.now) kept pending }
+            × MayStand (P.memory pages).cells image.now.version (opening_of image.now) kept pending }
 
         ensures found { IfOk result (λ card. (kept : List Decided) (pending : Option Decided)
-            → MayStand (P.memory pages).cells (opening_of image.now) kept pending
+            → MayStand (P.memory pages).cells image.now.version (opening_of image.now) kept pending
             → (with_it : Bool) × CardOn card [] (found_of kept pending with_it) (P.memory pages).plan 0) }
         ensures image { IfOk result (λ card. card.image ≡ image.now) }
         ensures spared { OnOk result (is_named (P.memory pages).plan 0 ≡ false) }
         ensures losses { IfOk result (λ card. card.kept.memory.losses ≡ (P.memory pages).losses) }
 
         ensures lost { IfErr result (λ lost. (kept : List Decided) (pending : Option Decided)
-            → MayStand (P.memory pages).cells (opening_of image.now) kept pending
-            → MayStand (P.memory lost.pages).cells (opening_of image.now) kept pending) }
+            → MayStand (P.memory pages).cells image.now.version (opening_of image.now) kept pending
+            → MayStand (P.memory lost.pages).cells image.now.version (opening_of image.now) kept pending) }
         ensures cut { OnErr result (is_named (P.memory pages).plan 0 ≡ true) }
         ensures gone { IfErr result (λ lost. IsGone (P.memory pages) (P.memory lost.pages)) }
     {
@@ -133,7 +133,7 @@ impl<'i, P: Pages> Card<'i, P> {
         ensures memory { P.memory result ≡ powered_off self.entry.kept.memory }
         ensures stands { (session : List Exchange) (ds : List Decided) (plan : Option Tear) (made : ℕ)
             → CardOn self.entry session ds plan made
-            → StandsFor (P.memory result).cells (opening_of self.entry.image) ds }
+            → StandsFor (P.memory result).cells self.entry.image.version (opening_of self.entry.image) ds }
     {
         let Card { mut chip } = self;
         chip.power_off();

@@ -103,13 +103,13 @@ impl<'i, P: Pages> Chip<'i, P> {
     pub(crate) fn turn_on(&mut self) -> Result<(), Gone>
         requires off { self.old.kept.memory.on ≡ false }
         requires stands { (kept : List Decided) × (pending : Option Decided)
-            × MayStand self.old.kept.memory.cells (opening_of self.old.image) kept pending }
+            × MayStand self.old.kept.memory.cells self.old.image.version (opening_of self.old.image) kept pending }
         ensures found { OnOk result ((kept : List Decided) (pending : Option Decided)
-            → MayStand self.old.kept.memory.cells (opening_of self.old.image) kept pending
+            → MayStand self.old.kept.memory.cells self.old.image.version (opening_of self.old.image) kept pending
             → (with_it : Bool) × CardOn self.new [] (found_of kept pending with_it) self.old.kept.memory.plan 0) }
         ensures lost { OnErr result ((kept : List Decided) (pending : Option Decided)
-            → MayStand self.old.kept.memory.cells (opening_of self.old.image) kept pending
-            → MayStand self.new.kept.memory.cells (opening_of self.old.image) kept pending) }
+            → MayStand self.old.kept.memory.cells self.old.image.version (opening_of self.old.image) kept pending
+            → MayStand self.new.kept.memory.cells self.old.image.version (opening_of self.old.image) kept pending) }
         ensures on { OnOk result (has_power self.new ≡ true) }
         ensures image { self.new.image ≡ self.old.image }
         ensures spared { OnOk result (is_named self.old.kept.memory.plan 0 ≡ false) }
@@ -194,6 +194,13 @@ impl<'i, P: Pages> Chip<'i, P> {
         self.kept.is_on()
     }
 
+    /// The image of its applications.
+    pub fn image(&self) -> &'i Image
+        ensures { result.now ≡ self.now.image }
+    {
+        self.image
+    }
+
     /// The state of the card that is on: the totals of its decisions.
     pub fn totals(&self) -> &CardState
         requires on { has_power self.now ≡ true }
@@ -220,9 +227,9 @@ impl<'i, P: Pages> Chip<'i, P> {
     /// Gives its pages, off.
     pub fn into_pages(self) -> P
         ensures may { (kept : List Decided) (pending : Option Decided) → ChipOff self.entry kept pending
-            → MayStand (P.memory result).cells (opening_of self.entry.image) kept pending }
+            → MayStand (P.memory result).cells self.entry.image.version (opening_of self.entry.image) kept pending }
         ensures stands { (session : List Exchange) (ds : List Decided) (plan : Option Plan) (made : ℕ)
-            → ChipOn self.entry session ds plan made → StandsFor (P.memory result).cells (opening_of self.entry.image) ds }
+            → ChipOn self.entry session ds plan made → StandsFor (P.memory result).cells self.entry.image.version (opening_of self.entry.image) ds }
         ensures off { (P.memory result).on ≡ false }
         ensures losses { (P.memory result).losses ≡ losses_of self.entry }
     {

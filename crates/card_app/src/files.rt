@@ -1,7 +1,9 @@
-//! READ RECORD and GET DATA (EMV 4.3 Book 3 sections 6.5.11 and 6.5.7).
-ghost use Rattle.std.specs.Prelude.{◌≡◌, ◌/◌, ◌%◌, ◌<◌, ◌≤◌, ◌==◌, ◌&&◌, ◌||◌, [], length, not, nat_lt};
+//! READ RECORD and GET DATA (EMV 4.3 Book 3 sections 6.5.11 and 6.5.7), also of the transaction log
+//! (Annex D) and of the payment system directory (Book 1 section 12.2).
+ghost use Rattle.std.specs.Prelude.{◌≡◌, ◌/◌, ◌%◌, ◌<◌, ◌≤◌, ◌==◌, ◌&&◌, ◌||◌, [], length, not, nat_lt, Some};
 ghost use Rattle.apdu_core.specs.Seen.{seen_command};
 ghost use Rattle.card_files.specs.Files as files;
+ghost use Rattle.card_state.specs.Encoding.{row_bytes};
 ghost use Rattle.card_app.specs.Files as spec;
 ghost use Rattle.card_pages.specs.Replies.{shows};
 ghost use Rattle.card_app.specs.SeenReply.{IsAt};
@@ -12,19 +14,30 @@ use apdu_core::status::{
     CONDITIONS_NOT_SATISFIED, DATA_NOT_FOUND, FILE_NOT_FOUND, NO_ERROR, RECORD_NOT_FOUND,
     WRONG_LENGTH, WRONG_PARAMETERS,
 };
-use ber_tlv::Tag;
+use ber_tlv::{Tag, append};
 use card_cryptogram::{Body, Phase, is_record_named, put, replace};
 use card_files::{AppImage, Image};
-use card_state::{AppState, CardState};
+use card_state::{AppState, CardState, LogRow};
 
-/// READ RECORD: record P1 of a file of the selected application goes to `out`. Gives the status.
+/// READ RECORD: record P1 of a file of what is selected goes to `out`. Gives the status.
 #[tactic(auto, unfolding(crate::specs::Files::record_row))]
-pub(crate) fn read_record(image: &Image, phase: Phase, command: &Command<'_>, out: &mut Body) -> u16
-    requires { out.old.items ≡ [] }
-    ensures { shows out.new.items result ≡ spec.record_row image.now phase (seen_command command.now) }
+pub(crate) fn read_record(
+    image: &Image,
+    state: &CardState,
+    phase: Phase,
+    command: &Command<'_>,
+    out: &mut Body,
+) -> u16
+    requires empty { out.old.items ≡ [] }
+    requires apps { length state.now.apps.items ≡ length image.now.apps }
+    requires at { IsAt phase (length image.now.apps) }
+    ensures { shows out.new.items result ≡ spec.record_row image.now state.now phase (seen_command command.now) }
 {
     if !is_record_named(command.p1, command.p2) {
         return WRONG_PARAMETERS;
+    }
+    if phase.in_directory() {
+        return read_directory(image, command, out);
     }
     let Some(app) = phase.current() else {
         return CONDITIONS_NOT_SATISFIED;
@@ -32,13 +45,121 @@ pub(crate) fn read_record(image: &Image, phase: Phase, command: &Command<'_>, ou
     if !command.body.is_empty() {
         return WRONG_LENGTH;
     }
-    give_record(image, app, command.p2 / 8, command.p1, out)
+    give_record_of(image, state, app, command.p2 / 8, command.p1, out)
+}
+
+/// READ RECORD of the payment system directory.
+fn read_directory(image: &Image, command: &Command<'_>, out: &mut Body) -> u16
+    requires empty { out.old.items ≡ [] }
+    requires number { 1 ≤ command.now.p1 }
+    ensures { shows out.new.items result ≡ spec.without_data (seen_command command.now)
+        (spec.directory_reply image.now (command.now.p2 / 8) command.now.p1) }
+{
+    if !command.body.is_empty() {
+        return WRONG_LENGTH;
+    }
+    give_entry(image, command.p2 / 8, command.p1, out)
+}
+
+/// The record of this number in a file, where the file is the directory's.
+fn give_entry(image: &Image, sfi: u8, number: u8, out: &mut Body) -> u16
+    requires empty { out.old.items ≡ [] }
+    requires number { 1 ≤ number }
+    ensures { shows out.new.items result ≡ spec.directory_reply image.now sfi number }
+{
+    if !is_file(sfi, image.directory()) {
+        return FILE_NOT_FOUND;
+    }
+    if image.directory_record(number, out) {
+        NO_ERROR
+    } else {
+        RECORD_NOT_FOUND
+    }
+}
+
+/// Whether the file is this one, where there is one.
+fn is_file(sfi: u8, file: Option<u8>) -> bool
+    ensures { result ≡ spec.is_file sfi file }
+{
+    match file {
+        Some(file) => file == sfi,
+        None => false,
+    }
+}
+
+/// The record of this number in a file of an application, or the row of its log.
+fn give_record_of(
+    image: &Image,
+    state: &CardState,
+    app: u8,
+    sfi: u8,
+    number: u8,
+    out: &mut Body,
+) -> u16
+    requires empty { out.old.items ≡ [] }
+    requires apps { length state.now.apps.items ≡ length image.now.apps }
+    requires app { app < length image.now.apps }
+    requires number { 1 ≤ number }
+    ensures { shows out.new.items result ≡ spec.app_record image.now state.now app sfi number }
+{
+    if is_log_of(app_at(image, app), sfi) {
+        return give_row(state, app, number, out);
+    }
+    give_record(image, app, sfi, number, out)
+}
+
+/// Whether the file is the application's transaction log.
+fn is_log_of(app: &AppImage, sfi: u8) -> bool
+    ensures { result ≡ spec.is_log_of sfi (Some app.now) }
+{
+    app.log != 0 && app.log_sfi == sfi
+}
+
+/// The row of this number of an application's log, the latest one being number 1 (EMV 4.3 Book 3 Annex
+/// D4).
+fn give_row(state: &CardState, app: u8, number: u8, out: &mut Body) -> u16
+    requires empty { out.old.items ≡ [] }
+    requires app { app < length state.now.apps.items }
+    requires number { 1 ≤ number }
+    ensures { shows out.new.items result ≡ spec.row_or (spec.row_at state.now app number) }
+{
+    match state_at(state, app)
+        .log
+        .as_slice()
+        .get(usize::from(number - 1))
+    {
+        Some(row) => {
+            write_row(*row, out);
+            NO_ERROR
+        }
+        None => RECORD_NOT_FOUND,
+    }
+}
+
+/// The bytes of a row.
+#[tactic(auto, unfolding(card_state::specs::Encoding::row_bytes))]
+fn write_row(row: LogRow, out: &mut Body)
+    requires { out.old.items ≡ [] }
+    ensures { out.new.items ≡ row_bytes row }
+{
+    let LogRow {
+        raw,
+        currency,
+        date,
+        counter,
+        kind,
+    } = row;
+    append(out, &raw);
+    append(out, &currency);
+    append(out, &date);
+    append(out, &counter.to_be_bytes());
+    append(out, &[kind]);
 }
 
 /// The record of this number in a file of an application.
 fn give_record(image: &Image, app: u8, sfi: u8, number: u8, out: &mut Body) -> u16
     requires { out.old.items ≡ [] }
-    ensures { shows out.new.items result ≡ spec.record_or (files.has_file image.now app sfi) (files.record_of image.now app sfi number) }
+    ensures { shows out.new.items result ≡ spec.record_or (files.has_file image.now.apps app sfi) (files.record_of image.now.apps app sfi number) }
 {
     match image.record(app, sfi, number) {
         Some(bytes) => {
@@ -60,8 +181,8 @@ pub(crate) fn get_data(
     out: &mut Body,
 ) -> u16
     requires empty { out.old.items ≡ [] }
-    requires apps { length state.now.apps.items ≡ length image.now }
-    requires at { IsAt phase (length image.now) }
+    requires apps { length state.now.apps.items ≡ length image.now.apps }
+    requires at { IsAt phase (length image.now.apps) }
     ensures { shows out.new.items result ≡ spec.data_row image.now state.now phase (seen_command command.now) }
 {
     let Some(app) = phase.current() else {
@@ -74,7 +195,14 @@ pub(crate) fn get_data(
     give_object(app_at(image, app), state_at(state, app), p1, p2, out)
 }
 
-/// The counter, that of the last online transaction, or the PIN tries that are left.
+/// The format of the log's rows (EMV 4.3 Book 3 Annex D3): the amount, its currency, the date, the
+/// counter and the kind of the cryptogram.
+const LOG_FORMAT: [u8; 14] = [
+    0x9f, 0x02, 6, 0x5f, 0x2a, 2, 0x9a, 3, 0x9f, 0x36, 2, 0x9f, 0x27, 1,
+];
+
+/// The counter, that of the last online transaction, the PIN tries that are left, or the format of a
+/// log that is there.
 #[tactic(auto, unfolding(crate::specs::Files::data_object))]
 fn give_object(a: &AppImage, state: &AppState, p1: u8, p2: u8, out: &mut Body) -> u16
     requires { out.old.items ≡ [] }
@@ -84,6 +212,7 @@ fn give_object(a: &AppImage, state: &AppState, p1: u8, p2: u8, out: &mut Body) -
         (0x9f, 0x36) => put(out, Tag(0x9f36), &state.counter.to_be_bytes()),
         (0x9f, 0x13) => put(out, Tag(0x9f13), &state.last_online.to_be_bytes()),
         (0x9f, 0x17) => put(out, Tag(0x9f17), &[state.tries]),
+        (0x9f, 0x4f) if a.log != 0 => put(out, Tag(0x9f4f), &LOG_FORMAT),
         _ => return DATA_NOT_FOUND,
     }
     NO_ERROR

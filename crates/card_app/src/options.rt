@@ -77,8 +77,8 @@ pub(crate) fn options(
     out: &mut Body,
 ) -> Reply
     requires empty { out.old.items ≡ [] }
-    requires apps { length state.now.apps.items ≡ length image.now }
-    requires at { IsAt phase (length image.now) }
+    requires apps { length state.now.apps.items ≡ length image.now.apps }
+    requires at { IsAt phase (length image.now.apps) }
     requires ins { command.now.ins ≡ 0xA8 }
     ensures said { reply_data out.new.items result ≡ options_row image.now state.now phase (seen_command command.now) }
     ensures leads { Leads image.now phase (Some (seen_command command.now)) out.new.items result }

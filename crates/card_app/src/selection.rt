@@ -1,7 +1,8 @@
-//! SELECT (EMV 4.3 Book 1 section 11.3).
-ghost use Rattle.std.specs.Prelude.{◌≡◌, ◌⊎◌, ◌+◌, ◌<◌, ◌≤◌, ◌==◌, ◌&&◌, ◌||◌, [], length, drop, Some, IfSome, if◌then◌else◌, not, nat_le};
+//! SELECT (EMV 4.3 Book 1 sections 11.3 and 12.2.2).
+ghost use Rattle.std.specs.Prelude.{◌≡◌, ◌⊎◌, ◌+◌, ◌<◌, ◌≤◌, ◌==◌, ◌&&◌, ◌||◌, [], length, drop, Some, None, IfSome, if◌then◌else◌, not, nat_le};
 ghost use Rattle.std.specs.Option.{option_map};
 ghost use Rattle.apdu_core.specs.Seen.{seen_command};
+ghost use Rattle.card_files.specs.Directory.{directory_fci as fci_of_directory};
 ghost use Rattle.card_app.specs.Files as files_spec;
 ghost use Rattle.card_app.specs.Replies.{with_app};
 ghost use Rattle.card_pages.specs.Replies.{shows};
@@ -16,7 +17,7 @@ use apdu_core::status::{
     WRONG_PARAMETERS,
 };
 use card_cryptogram::{Body, NEXT_OCCURRENCE, Phase, is_by_name, is_name_size};
-use card_files::{AppImage, Image};
+use card_files::{AppImage, Image, directory_fci};
 use card_state::CardState;
 
 /// The first application whose name begins with these bytes, where the first one has this number.
@@ -55,9 +56,9 @@ fn looks_from(phase: Phase, p2: u8, count: usize) -> u8
 
 /// The application that SELECT finds.
 fn find(image: &Image, phase: Phase, p2: u8, name: &[u8]) -> Option<u8>
-    requires { IsAt phase (length image.now) }
-    ensures found { result ≡ spec.found image.now phase p2 name.now }
-    ensures within { IfSome result (λ app. app < length image.now) }
+    requires { IsAt phase (length image.now.apps) }
+    ensures found { result ≡ spec.found image.now.apps phase p2 name.now }
+    ensures within { IfSome result (λ app. app < length image.now.apps) }
 {
     let apps = image.apps();
     let number = looks_from(phase, p2, apps.len());
@@ -66,9 +67,9 @@ fn find(image: &Image, phase: Phase, p2: u8, name: &[u8]) -> Option<u8>
 
 /// The file control information; a blocked application is shown with a warning.
 fn show(image: &Image, state: &CardState, app: u8, out: &mut Body) -> u16
-    requires app { app < length image.now }
-    requires apps { length state.now.apps.items ≡ length image.now }
-    ensures said { shows out.new.items result ≡ with_app image.now state.now app files_spec.shown_for }
+    requires app { app < length image.now.apps }
+    requires apps { length state.now.apps.items ≡ length image.now.apps }
+    ensures said { shows out.new.items result ≡ with_app image.now.apps state.now app files_spec.shown_for }
     ensures shown { (result ≡ 0x9000) ⊎ (result ≡ 0x6283) }
 {
     image.fci(app, out);
@@ -79,7 +80,72 @@ fn show(image: &Image, state: &CardState, app: u8, out: &mut Body) -> u16
     }
 }
 
-/// SELECT: the first application whose name begins with the data, or the next behind the selected one.
+/// The file of the payment system directory, where SELECT asks for the first occurrence of its name.
+fn directory_asked(image: &Image, p2: u8, name: &[u8]) -> Option<u8>
+    ensures { result ≡ spec.directory_asked image.now p2 name.now }
+{
+    if p2 == 0x00 {
+        image.directory_named(name)
+    } else {
+        None
+    }
+}
+
+/// SELECT of an application by its name.
+#[tactic(auto, unfolding(crate::specs::Session::next_phase))]
+fn select_app(
+    image: &Image,
+    state: &CardState,
+    phase: Phase,
+    command: &Command<'_>,
+    out: &mut Body,
+) -> Reply
+    requires empty { out.old.items ≡ [] }
+    requires apps { length state.now.apps.items ≡ length image.now.apps }
+    requires at { IsAt phase (length image.now.apps) }
+    requires ins { command.now.ins ≡ 0xA4 }
+    requires other { spec.directory_asked image.now command.now.p2 command.now.body.now ≡ None }
+    ensures said { reply_data out.new.items result ≡ files_spec.app_reply image.now state.now phase (seen_command command.now) }
+    ensures leads { Leads image.now phase (Some (seen_command command.now)) out.new.items result }
+    ensures may { MayReply state.now result }
+{
+    if command.p2 == NEXT_OCCURRENCE && phase.in_directory() {
+        return refused(phase, FILE_NOT_FOUND);
+    }
+    match find(image, phase, command.p2, command.body) {
+        Some(app) => Reply::Plain {
+            status: show(image, state, app, out),
+            phase: Phase::Selected { app },
+        },
+        None => refused(phase, FILE_NOT_FOUND),
+    }
+}
+
+/// SELECT of the payment system directory in this file (EMV 4.3 Book 1 section 12.2.2).
+#[tactic(auto, unfolding(crate::specs::Session::next_phase))]
+fn select_directory(
+    image: &Image,
+    state: &CardState,
+    phase: Phase,
+    sfi: u8,
+    command: &Command<'_>,
+    out: &mut Body,
+) -> Reply
+    requires ins { command.now.ins ≡ 0xA4 }
+    requires asked { spec.directory_asked image.now command.now.p2 command.now.body.now ≡ Some sfi }
+    ensures said { reply_data out.new.items result ≡ shows (fci_of_directory sfi) 0x9000 }
+    ensures leads { Leads image.now phase (Some (seen_command command.now)) out.new.items result }
+    ensures may { MayReply state.now result }
+{
+    directory_fci(sfi, out);
+    Reply::Plain {
+        status: NO_ERROR,
+        phase: Phase::Directory,
+    }
+}
+
+/// SELECT: the payment system directory by its whole name, where the card has one, else the first
+/// application whose name begins with the data, or the next behind the selected one.
 #[tactic(auto, unfolding(crate::specs::Files::select_row, crate::specs::Session::next_phase))]
 pub(crate) fn select(
     image: &Image,
@@ -89,8 +155,8 @@ pub(crate) fn select(
     out: &mut Body,
 ) -> Reply
     requires empty { out.old.items ≡ [] }
-    requires apps { length state.now.apps.items ≡ length image.now }
-    requires at { IsAt phase (length image.now) }
+    requires apps { length state.now.apps.items ≡ length image.now.apps }
+    requires at { IsAt phase (length image.now.apps) }
     requires ins { command.now.ins ≡ 0xA4 }
     ensures said { reply_data out.new.items result ≡ files_spec.select_row image.now state.now phase (seen_command command.now) }
     ensures leads { Leads image.now phase (Some (seen_command command.now)) out.new.items result }
@@ -105,11 +171,8 @@ pub(crate) fn select(
     if state.blocked {
         return refused(phase, FUNCTION_NOT_SUPPORTED);
     }
-    match find(image, phase, command.p2, command.body) {
-        Some(app) => Reply::Plain {
-            status: show(image, state, app, out),
-            phase: Phase::Selected { app },
-        },
-        None => refused(phase, FILE_NOT_FOUND),
+    match directory_asked(image, command.p2, command.body) {
+        Some(sfi) => select_directory(image, state, phase, sfi, command, out),
+        None => select_app(image, state, phase, command, out),
     }
 }

@@ -51,8 +51,8 @@ fn compare_with(app: &AppImage, state: &AppState, number: u8, command: &Command<
 /// VERIFY with a plain PIN block.
 #[tactic(auto, unfolding(crate::specs::Answering::verify_row, crate::specs::Session::next_phase))]
 pub(crate) fn verify(image: &Image, state: &CardState, phase: Phase, command: &Command<'_>) -> Reply
-    requires apps { length state.now.apps.items ≡ length image.now }
-    requires at { IsAt phase (length image.now) }
+    requires apps { length state.now.apps.items ≡ length image.now.apps }
+    requires at { IsAt phase (length image.now.apps) }
     requires ins { command.now.ins ≡ 0x20 }
     ensures said { reply_data [] result ≡ verify_row image.now state.now phase (seen_command command.now) }
     ensures leads { Leads image.now phase (Some (seen_command command.now)) [] result }

@@ -27,11 +27,6 @@ kind_asked p1 p2 = if (p2 == 0) && (p1 % 64 == 0) then kind_of p1 else None
 abbrev pub has_issuer_auth : List ℕ → Bool
 has_issuer_auth aip = slice_index aip 0 / 4 % 2 == 1
 
--- EXTERNAL AUTHENTICATE was right
-abbrev pub is_right : Option Bool → Bool
-is_right None = false
-is_right (Some right) = right
-
 -- a request to go online
 abbrev pub is_online : Kind → Bool
 is_online Arqc = true

@@ -5,3 +5,5 @@ pub mod Scripts
 pub mod Asked
 pub mod Orders
 pub mod Phases
+pub mod Authentication
+pub mod Sales

@@ -1,5 +1,5 @@
 //! What a command asks for by P1 and P2, and the phase behind a first cryptogram.
-ghost use Rattle.std.specs.Prelude.{◌≡◌, ◌==◌, length, Some, None, IsTrue, if◌then◌else◌};
+ghost use Rattle.std.specs.Prelude.{◌≡◌, ◌≤◌, ◌==◌, length, Some, None, IsTrue, if◌then◌else◌};
 ghost use Rattle.object_lists.specs.DolEntries.{total_of};
 ghost use Rattle.card_cryptogram.specs.Asked as spec;
 ghost use Rattle.card_cryptogram.specs.declared.phase.Phase.TheVariants.{Online, Closed};
@@ -37,7 +37,8 @@ pub fn is_name_size(size: usize) -> bool
 /// Whether P1 of READ RECORD is a record's number, and P2 names a file by its identifier from 1 to 30
 /// (EMV 4.3 Book 3 section 6.5.11).
 pub fn is_record_named(p1: u8, p2: u8) -> bool
-    ensures { result ≡ spec.is_record_named p1 p2 }
+    ensures exact { result ≡ spec.is_record_named p1 p2 }
+    ensures number { IsTrue result → 1 ≤ p1 }
 {
     p1 != 0 && (p2 % 8 == 4 && (p2 / 8 != 0 && p2 / 8 <= 30))
 }
@@ -80,15 +81,5 @@ pub fn phase_behind(app: u8, kind: Kind, first: First) -> Phase
         },
         Kind::Tc => Phase::Closed { app },
         Kind::Aac => Phase::Closed { app },
-    }
-}
-
-/// Whether EXTERNAL AUTHENTICATE was right.
-pub fn is_right(sent: Option<bool>) -> bool
-    ensures { result ≡ spec.is_right sent }
-{
-    match sent {
-        Some(right) => right,
-        None => false,
     }
 }

@@ -6,18 +6,22 @@
 mod asked;
 mod bodies;
 mod fields;
+mod issuer;
 mod options;
 mod orders;
 mod phase;
+mod sales;
 mod scripts;
 
 pub use asked::{
     NEXT_OCCURRENCE, has_issuer_auth, is_by_name, is_class, is_name_size, is_of_list,
-    is_record_named, is_right, kind_asked, phase_behind,
+    is_record_named, kind_asked, phase_behind,
 };
 pub use bodies::{Body, cryptogram, issuer_data, put, replace, write_body};
 pub use fields::{Given, code_given, first_given, given_from};
+pub use issuer::{auth_of, authentication, is_authenticated, is_authentication_size, steered_by};
 pub use options::write_options;
 pub use orders::{Order, limit_order, limit_to, pin_order, plain_order, size_of};
 pub use phase::{First, Phase};
-pub use scripts::{authenticates, block_in, block_of, has_code, is_authentication_size};
+pub use sales::sale_of;
+pub use scripts::{block_in, block_of, has_code};

@@ -3,6 +3,7 @@ ghost use Rattle.std.specs.Prelude.{◌≡◌};
 ghost use Rattle.card_cryptogram.specs.Phases as spec;
 
 use crate::fields::Given;
+use card_state::Auth;
 
 /// What of the first cryptogram of a transaction the later commands refer to.
 #[derive(Clone, Copy, PartialEq, Eq, Debug)]
@@ -19,6 +20,8 @@ pub struct First {
 pub enum Phase {
     /// No application is selected.
     Idle,
+    /// The payment system directory is selected.
+    Directory,
     /// An application is selected.
     Selected {
         app: u8,
@@ -28,11 +31,11 @@ pub enum Phase {
         app: u8,
     },
     /// Its first cryptogram is a request to go online. `sent` tells whether EXTERNAL AUTHENTICATE was
-    /// sent, and whether it was right.
+    /// sent, and how it authenticated the issuer: `Absent` where it was wrong.
     Online {
         app: u8,
         first: First,
-        sent: Option<bool>,
+        sent: Option<Auth>,
     },
     /// Its first cryptogram approves or declines.
     Closed {
@@ -52,11 +55,19 @@ impl Phase {
     {
         match *self {
             Phase::Idle => None,
+            Phase::Directory => None,
             Phase::Selected { app } => Some(app),
             Phase::Started { app } => Some(app),
             Phase::Online { app, .. } => Some(app),
             Phase::Closed { app } => Some(app),
             Phase::Done { app, .. } => Some(app),
         }
+    }
+
+    /// Whether the payment system directory is selected.
+    pub fn in_directory(&self) -> bool
+        ensures { result ≡ spec.in_directory self.now }
+    {
+        matches!(self, Phase::Directory)
     }
 }

@@ -1,9 +1,9 @@
-//! What an issuer sends under session keys.
-ghost use Rattle.std.specs.Prelude.{◌≡◌, ◌≤◌, ◌-◌, length, take, drop};
+//! What an issuer's script commands hold under session keys.
+ghost use Rattle.std.specs.Prelude.{◌≡◌, ◌≤◌, length};
 ghost use Rattle.card_cryptogram.specs.Scripts as spec;
 
-use app_cryptogram::{arpc_one, script_mac};
-use card_keys::{session_ac, session_script};
+use app_cryptogram::script_mac;
+use card_keys::session_script;
 use triple_des::Key16;
 
 /// Eight bytes as a block.
@@ -37,42 +37,4 @@ pub fn block_in(key: &Key16, first: [u8; 8], body: &[u8]) -> [u8; 8]
     ensures { result ≡ spec.block_in key.now first body.now }
 {
     session_script(key, first).decipher(block_of(&body[..8]))
-}
-
-/// Whether the data of EXTERNAL AUTHENTICATE may have so many bytes: the response cryptogram, and at
-/// most 8 of the issuer's own.
-pub fn is_authentication_size(size: usize) -> bool
-    ensures { result ≡ spec.is_authentication_size size }
-{
-    8 <= size && size <= 16
-}
-
-/// Whether the data of EXTERNAL AUTHENTICATE authenticates the issuer (EMV 4.3 Book 2 section 8.2.1):
-/// ten bytes, the response cryptogram of the first cryptogram and the response code, and that code.
-#[tactic(auto, unfolding(crate::specs::Scripts::authenticates))]
-pub fn authenticates(key: &Key16, counter: u16, first: [u8; 8], body: &[u8]) -> bool
-    ensures { result ≡ spec.authenticates key.now counter first body.now }
-{
-    if body.len() != 10 {
-        return false;
-    }
-    is_response(key, counter, first, body)
-}
-
-/// Whether ten bytes are the response cryptogram of the first cryptogram and their code.
-fn is_response(key: &Key16, counter: u16, first: [u8; 8], body: &[u8]) -> bool
-    requires { length body.now ≡ 10 }
-    ensures { result ≡ spec.is_response key.now counter first body.now }
-{
-    block_of(&body[..8]) == arpc_one(&session_ac(key, counter), first, code_of(body))
-}
-
-/// The response code behind the response cryptogram.
-fn code_of(body: &[u8]) -> [u8; 2]
-    requires { length body.now ≡ 10 }
-    ensures { result ≡ drop 8 body.now }
-{
-    let mut code = [0; 2];
-    code.copy_from_slice(&body[8..]);
-    code
 }

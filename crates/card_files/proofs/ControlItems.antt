@@ -1,6 +1,7 @@
 -- The data objects of what was written, read again.
-use Rattle.std.proofs.Common.{◌≡◌, ℕ, ◌+◌, ◌<◌, List, [], ◌∷◌, ◌++◌, length, map, Option, Some, None, refl, sym, ap, subst, ◌∙◌, arith, append_assoc, length-append}
-use Rattle.std.specs.Prelude.{IsTrue, slice_get}
+use Rattle.std.proofs.Common.{◌≡◌, ℕ, ◌+◌, ◌<◌, ◌==◌, Bool, true, false, List, [], ◌∷◌, ◌++◌, length, map, Option, Some, None, refl, sym, ap, subst, ◌∙◌, arith, append_assoc, length-append}
+use Rattle.std.specs.Prelude.{IsTrue, slice_get, if◌then◌else◌}
+use Rattle.std.proofs.lemmas.Bool.{eqb-true}
 use Rattle.std.proofs.lemmas.List.{append-nil, get_or_at}
 use Rattle.std.proofs.lemmas.Option.{slice_get-get_or}
 use Rattle.ber_tlv.specs.Item.{ItemData}
@@ -9,7 +10,8 @@ use Rattle.ber_tlv.specs.Tag.{is_readable}
 use Rattle.ber_tlv.specs.Written.{written, tag_bytes, length_bytes}
 use Rattle.ber_tlv.proofs.ReadAgain.{appended_read}
 use Rattle.ber_tlv.proofs.Reading.{Items-left, no_zeros}
-use Rattle.card_files.specs.Control.{Objects, Reads, written_some, object_if, one_byte, proprietary, fci_bytes, IsFci}
+use Rattle.card_files.specs.Control.{Objects, Reads, written_some, object_if, one_byte, log_entry, proprietary, fci_bytes, IsLogEntry, IsFci}
+use Rattle.card_files.specs.Directory.{directory_name, directory_fci, entry_bytes, IsDirectoryFci, IsEntry}
 use Rattle.card_files.specs.Views.{AppData}
 
 -- a tag that a reading can give
@@ -80,21 +82,60 @@ one_byte_tag tag readable bytes not_zero = record { readable = readable; first =
 list_tag : IsTag 0x9F38
 list_tag = record { readable = refl; first = 0x9F; others = 0x38 ∷ []; bytes = refl; not_zero = omega arith }
 
-own_written : (label : List ℕ) (priority pdol : Option (List ℕ)) →
-    written 0x50 label ++ written_some 0x87 priority ++ written_some 0x9F38 pdol ≡ all_written ((0x50, label) ∷ object_if 0x87 priority ++ object_if 0x9F38 pdol)
-own_written label None None = append-nil (written 0x50 label ++ [])
-own_written label (Some p) None = append-nil (written 0x50 label ++ written 0x87 p) ∙ ap (λ (bs : List ℕ). written 0x50 label ++ bs) (sym (append-nil (written 0x87 p)))
-own_written label None (Some l) =
-    ap (λ (bs : List ℕ). bs ++ written 0x9F38 l) (append-nil (written 0x50 label)) ∙ ap (λ (bs : List ℕ). written 0x50 label ++ bs) (sym (append-nil (written 0x9F38 l)))
-own_written label (Some p) (Some l) =
-    append_assoc (written 0x50 label) (written 0x87 p) (written 0x9F38 l)
-    ∙ ap (λ (bs : List ℕ). written 0x50 label ++ (written 0x87 p ++ bs)) (sym (append-nil (written 0x9F38 l)))
+log_tag : IsTag 0x9F4D
+log_tag = record { readable = refl; first = 0x9F; others = 0x4D ∷ []; bytes = refl; not_zero = omega arith }
 
-own_tags : (label : List ℕ) (priority pdol : Option (List ℕ)) → AreTags ((0x50, label) ∷ object_if 0x87 priority ++ object_if 0x9F38 pdol)
-own_tags label None None = (one_byte_tag 0x50 refl refl (omega arith), tt)
-own_tags label (Some p) None = (one_byte_tag 0x50 refl refl (omega arith), (one_byte_tag 0x87 refl refl (omega arith), tt))
-own_tags label None (Some l) = (one_byte_tag 0x50 refl refl (omega arith), (list_tag, tt))
-own_tags label (Some p) (Some l) = (one_byte_tag 0x50 refl refl (omega arith), (one_byte_tag 0x87 refl refl (omega arith), (list_tag, tt)))
+template_tag : IsTag 0xBF0C
+template_tag = record { readable = refl; first = 0xBF; others = 0x0C ∷ []; bytes = refl; not_zero = omega arith }
+
+-- an object that may be absent, and objects behind others
+some_written : (tag : ℕ) (value : Option (List ℕ)) → written_some tag value ≡ all_written (object_if tag value)
+some_written tag None = refl
+some_written tag (Some value) = sym (append-nil (written tag value))
+
+if_tags : (tag : ℕ) (value : Option (List ℕ)) → IsTag tag → AreTags (object_if tag value)
+if_tags tag None is = tt
+if_tags tag (Some value) is = (is, tt)
+
+all_written-append : (xs ys : Objects) → all_written (xs ++ ys) ≡ all_written xs ++ all_written ys
+all_written-append [] ys = refl
+all_written-append ((tag, value) ∷ xs) ys =
+    ap (λ (bs : List ℕ). written tag value ++ bs) (all_written-append xs ys) ∙ sym (append_assoc (written tag value) (all_written xs) (all_written ys))
+
+tags-append : (xs ys : Objects) → AreTags xs → AreTags ys → AreTags (xs ++ ys)
+tags-append [] ys firsts others = others
+tags-append ((tag, value) ∷ xs) ys firsts others = (firsts.0, tags-append xs ys firsts.1 others)
+
+-- the label and the priority indicator, and the list behind them, and the log's entry behind those
+abbrev head_objects : List ℕ → Option (List ℕ) → Objects
+head_objects label priority = (0x50, label) ∷ object_if 0x87 priority
+
+abbrev own_objects : List ℕ → Option (List ℕ) → Option (List ℕ) → Option (List ℕ) → Objects
+own_objects label priority pdol log = head_objects label priority ++ object_if 0x9F38 pdol ++ object_if 0xBF0C log
+
+own_written : (label : List ℕ) (priority pdol log : Option (List ℕ)) →
+    written 0x50 label ++ written_some 0x87 priority ++ written_some 0x9F38 pdol ++ written_some 0xBF0C log ≡ all_written (own_objects label priority pdol log)
+own_written label priority pdol log =
+    let head : List ℕ = all_written (head_objects label priority) in
+    let list : List ℕ = all_written (object_if 0x9F38 pdol) in
+    ap (λ (bs : List ℕ). written 0x50 label ++ bs ++ written_some 0x9F38 pdol ++ written_some 0xBF0C log) (some_written 0x87 priority)
+    ∙ ap (λ (bs : List ℕ). head ++ bs ++ written_some 0xBF0C log) (some_written 0x9F38 pdol)
+    ∙ ap (λ (bs : List ℕ). head ++ list ++ bs) (some_written 0xBF0C log)
+    ∙ ap (λ (bs : List ℕ). bs ++ all_written (object_if 0xBF0C log)) (sym (all_written-append (head_objects label priority) (object_if 0x9F38 pdol)))
+    ∙ sym (all_written-append (head_objects label priority ++ object_if 0x9F38 pdol) (object_if 0xBF0C log))
+
+own_tags : (label : List ℕ) (priority pdol log : Option (List ℕ)) → AreTags (own_objects label priority pdol log)
+own_tags label priority pdol log =
+    tags-append (head_objects label priority ++ object_if 0x9F38 pdol) (object_if 0xBF0C log)
+    (tags-append (head_objects label priority) (object_if 0x9F38 pdol)
+    (one_byte_tag 0x50 refl refl (omega arith), if_tags 0x87 priority (one_byte_tag 0x87 refl refl (omega arith))) (if_tags 0x9F38 pdol list_tag))
+    (if_tags 0xBF0C log template_tag)
+
+entry_read : (app : AppData) (none : Bool) → (app.log == 0) ≡ none → IsLogEntry app (if none then None else Some (written 0x9F4D (app.log_sfi ∷ app.log ∷ [])))
+entry_read app true is = eqb-true app.log 0 is
+entry_read app false is =
+    let value : List ℕ = app.log_sfi ∷ app.log ∷ [] in
+    read_again (written 0x9F4D value) ((0x9F4D, value) ∷ []) (sym (append-nil (written 0x9F4D value))) (log_tag, tt)
 
 pub is_fci : (app : AppData) (bytes : List ℕ) → bytes ≡ fci_bytes app → IsFci app bytes
 unfolding fci_bytes proprietary
@@ -109,6 +150,42 @@ is_fci app bytes is =
           read_again template ((0x84, app.name) ∷ (0xA5, own) ∷ []) (ap (λ (bs : List ℕ). written 0x84 app.name ++ bs) (sym (append-nil (written 0xA5 own))))
           (one_byte_tag 0x84 refl refl (omega arith), (one_byte_tag 0xA5 refl refl (omega arith), tt));
       objects =
-          read_again own ((0x50, app.label) ∷ object_if 0x87 (one_byte app.priority) ++ object_if 0x9F38 app.pdol)
-          (own_written app.label (one_byte app.priority) app.pdol) (own_tags app.label (one_byte app.priority) app.pdol);
+          read_again own (own_objects app.label (one_byte app.priority) app.pdol (log_entry app))
+          (own_written app.label (one_byte app.priority) app.pdol (log_entry app)) (own_tags app.label (one_byte app.priority) app.pdol (log_entry app));
+      log = entry_read app (app.log == 0) refl;
+    }
+
+pub is_directory_fci : (sfi : ℕ) (bytes : List ℕ) → bytes ≡ directory_fci sfi → IsDirectoryFci sfi bytes
+unfolding directory_fci
+is_directory_fci sfi bytes is =
+    let own : List ℕ = written 0x88 (sfi ∷ []) in
+    let template : List ℕ = written 0x84 directory_name ++ written 0xA5 own in
+    record {
+      template = template;
+      own = own;
+      whole = read_again bytes ((0x6F, template) ∷ []) (is ∙ sym (append-nil (written 0x6F template))) (one_byte_tag 0x6F refl refl (omega arith), tt);
+      parts =
+          read_again template ((0x84, directory_name) ∷ (0xA5, own) ∷ []) (ap (λ (bs : List ℕ). written 0x84 directory_name ++ bs) (sym (append-nil (written 0xA5 own))))
+          (one_byte_tag 0x84 refl refl (omega arith), (one_byte_tag 0xA5 refl refl (omega arith), tt));
+      objects = read_again own ((0x88, sfi ∷ []) ∷ []) (sym (append-nil own)) (one_byte_tag 0x88 refl refl (omega arith), tt);
+    }
+
+pub is_entry : (app : AppData) (bytes : List ℕ) → bytes ≡ entry_bytes app → IsEntry app bytes
+unfolding entry_bytes
+is_entry app bytes is =
+    let priority : Option (List ℕ) = one_byte app.priority in
+    let entry : List ℕ = written 0x4F app.name ++ written 0x50 app.label ++ written_some 0x87 priority in
+    let template : List ℕ = written 0x61 entry in
+    record {
+      template = template;
+      entry = entry;
+      whole = read_again bytes ((0x70, template) ∷ []) (is ∙ sym (append-nil (written 0x70 template))) (one_byte_tag 0x70 refl refl (omega arith), tt);
+      parts = read_again template ((0x61, entry) ∷ []) (sym (append-nil template)) (one_byte_tag 0x61 refl refl (omega arith), tt);
+      objects =
+          read_again entry ((0x4F, app.name) ∷ (0x50, app.label) ∷ object_if 0x87 priority)
+          (append_assoc (written 0x4F app.name) (written 0x50 app.label) (written_some 0x87 priority)
+          ∙ ap (λ (bs : List ℕ). written 0x4F app.name ++ (written 0x50 app.label ++ bs)) (some_written 0x87 priority)) (
+            one_byte_tag 0x4F refl refl (omega arith),
+            (one_byte_tag 0x50 refl refl (omega arith), if_tags 0x87 priority (one_byte_tag 0x87 refl refl (omega arith))),
+          );
     }

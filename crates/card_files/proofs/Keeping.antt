@@ -1,12 +1,14 @@
--- Where a card has no fault, every key of its applications keeps to its rule.
+-- Where a card has no fault, every key of its applications keeps to its rule and its directory hides none of them.
 use Rattle.std.proofs.Common.{◌≡◌, ℕ, zero, suc, ◌+◌, Bool, true, false, List, [], ◌∷◌, ◌++◌, length, get_or, Option, Some, None, is_some, option_map, refl, ap, arith}
-use Rattle.std.specs.Prelude.{if◌then◌else◌, nat_le}
+use Rattle.std.specs.Prelude.{if◌then◌else◌, nat_le, codes}
 use Rattle.std.specs.Option.{option_or}
 use Rattle.std.specs.List.{All}
 use Rattle.std.proofs.lemmas.Bool.{true≢false, and_parts, and_from, leb-true, le-leb}
-use Rattle.card_files.specs.AppRules.{is_within}
-use Rattle.card_files.specs.Faults.{Line, Fault, OfField, OfCount, file_lines, state_lines, first_broken, app_fault, field_fault, name_fault, image_fault}
-use Rattle.card_files.specs.Kept.{KeepsRules, IsImage}
+use Rattle.card_files.specs.AppRules.{is_within, is_log_size}
+use Rattle.card_files.specs.Directory.{is_hidden}
+use Rattle.card_files.specs.Faults.{Line, Fault, OfField, OfCount, file_lines, state_lines, log_lines, first_broken, app_fault, field_fault, name_fault, hidden_fault, directory_fault, image_fault}
+use Rattle.card_files.specs.Kept.{KeepsRules, AreApps, AreInSight}
+use Rattle.card_files.specs.Lists.{leaves_room}
 use Rattle.card_files.specs.Views.{AppData}
 use Rattle.card_files.proofs.OwnNames.{names_apart, no_name}
 
@@ -28,9 +30,10 @@ rule (l ∷ ls) none zero = (head_holds l.1 l.0 (first_broken ls) none).0
 rule (l ∷ ls) none (suc k) = rule ls (head_holds l.1 l.0 (first_broken ls) none).1 k
 
 kept : (app : AppData) → app_fault app ≡ None → length app.aip ≡ 2 → KeepsRules app
-unfolding app_fault file_lines state_lines
+unfolding app_fault file_lines state_lines log_lines
 kept app none profile =
-    let at = rule (file_lines app ++ state_lines app) none in
+    let at = rule (file_lines app ++ (state_lines app ++ log_lines app)) none in
+    let log = and_parts (is_log_size app.log) (leaves_room app.log app.pdol) (at 24) in
     record {
       name = at 0;
       label = at 1;
@@ -48,7 +51,12 @@ kept app none profile =
       sum_limit = at 17;
       pin = at 18;
       tries = at 19;
-      opening = at 22;
+      currency_two = at 22;
+      limit_two = at 23;
+      log = log.0;
+      room = log.1;
+      log_sfi = at 25;
+      opening = at 26;
     }
 
 first_none : {A : Type 0} (a b : Option A) → option_or a b ≡ None → (a ≡ None) × (b ≡ None)
@@ -72,22 +80,42 @@ counted : (test : Bool) (count : ℕ) (rest : Option Fault) → (if test then re
 counted true count rest none = (refl, none)
 counted false count rest none = absurd (true≢false (some_is_not_none (OfCount count) none))
 
--- a card without a fault is an image
-pub faultless : (apps : List AppData) → image_fault apps ≡ None → All (λ app. length app.aip ≡ 2) apps → IsImage apps
+passed : (test : Bool) (here : Fault) (rest : Option Fault) → (if test then Some here else rest) ≡ None → (test ≡ false) × (rest ≡ None)
+passed true here rest none = absurd (true≢false (some_is_not_none here none))
+passed false here rest none = (refl, none)
+
+each_seen : (number : ℕ) (apps : List AppData) → hidden_fault number apps ≡ None → All (λ a. is_hidden a.name ≡ false) apps
+each_seen number [] none k d within = absurd (omega arith)
+each_seen number (app ∷ apps) none zero d within =
+    (passed (is_hidden app.name) (OfField number (codes "pse")) (hidden_fault (number + 1) apps) none).0
+each_seen number (app ∷ apps) none (suc k) d within =
+    each_seen (number + 1) apps (passed (is_hidden app.name) (OfField number (codes "pse")) (hidden_fault (number + 1) apps) none).1 k d (omega arith)
+
+in_sight : (directory : Option ℕ) (apps : List AppData) → directory_fault directory apps ≡ None → AreInSight directory apps
+in_sight None apps none = tt
+in_sight (Some sfi) apps none = each_seen 0 apps none
+
+-- applications without a fault are a card's
+pub faultless : (apps : List AppData) (directory : Option ℕ) → image_fault apps directory ≡ None → All (λ app. length app.aip ≡ 2) apps
+    → AreApps apps × AreInSight directory apps
 unfolding image_fault
-faultless apps none profiles =
-    let parts = counted (is_within 1 4 (length apps)) (length apps) (option_or (field_fault 0 apps) (name_fault [] apps)) none in
+faultless apps directory none profiles =
+    let behind : Option Fault = option_or (name_fault [] apps) (directory_fault directory apps) in
+    let parts = counted (is_within 1 4 (length apps)) (length apps) (option_or (field_fault 0 apps) behind) none in
     let ends = and_parts (nat_le 1 (length apps)) (nat_le (length apps) 4) parts.0 in
-    let faults = first_none (field_fault 0 apps) (name_fault [] apps) parts.1 in
-    record {
-      some = leb-true 1 (length apps) ends.0;
-      few = leb-true (length apps) 4 ends.1;
-      rules = each_kept 0 apps faults.0 profiles;
-      names = names_apart [] apps (λ i j d before within. absurd (omega arith)) faults.1;
-    }
+    let faults = first_none (field_fault 0 apps) behind parts.1 in
+    let last = first_none (name_fault [] apps) (directory_fault directory apps) faults.1 in (
+      record {
+        some = leb-true 1 (length apps) ends.0;
+        few = leb-true (length apps) 4 ends.1;
+        rules = each_kept 0 apps faults.0 profiles;
+        names = names_apart [] apps (λ i j d before within. absurd (omega arith)) last.0;
+      },
+      in_sight directory apps last.1,
+    )
 
 unbroken : (app : AppData) → KeepsRules app → app_fault app ≡ None
-unfolding app_fault file_lines state_lines
+unfolding app_fault file_lines state_lines log_lines
 unbroken app keeps =
     rw (
       keeps.name,
@@ -105,6 +133,11 @@ unbroken app keeps =
       keeps.sum_limit,
       keeps.pin,
       keeps.tries,
+      keeps.currency_two,
+      keeps.limit_two,
+      keeps.log,
+      keeps.room,
+      keeps.log_sfi,
       keeps.opening,
     ) refl
 
@@ -113,9 +146,20 @@ no_field number [] keep = refl
 no_field number (app ∷ apps) keep =
     rw (unbroken app (keep 0 app (omega arith))) (no_field (number + 1) apps (λ k d within. keep (suc k) d (omega arith)))
 
--- and an image has no fault
-pub has_no_fault : (apps : List AppData) → IsImage apps → image_fault apps ≡ None
+none_hidden : (number : ℕ) (apps : List AppData) → All (λ a. is_hidden a.name ≡ false) apps → hidden_fault number apps ≡ None
+none_hidden number [] seen = refl
+none_hidden number (app ∷ apps) seen = rw (seen 0 app (omega arith)) (none_hidden (number + 1) apps (λ k d within. seen (suc k) d (omega arith)))
+
+no_hidden : (directory : Option ℕ) (apps : List AppData) → AreInSight directory apps → directory_fault directory apps ≡ None
+no_hidden None apps sight = refl
+no_hidden (Some sfi) apps sight = none_hidden 0 apps sight
+
+-- and a card's have no fault
+pub has_no_fault : (apps : List AppData) (directory : Option ℕ) → AreApps apps → AreInSight directory apps → image_fault apps directory ≡ None
 unfolding image_fault
-has_no_fault apps is =
-    rw (and_from (nat_le 1 (length apps)) (nat_le (length apps) 4) (le-leb 1 (length apps) is.some) (le-leb (length apps) 4 is.few), no_field 0 apps is.rules)
-    (no_name [] apps is.names)
+has_no_fault apps directory are sight =
+    rw (
+      and_from (nat_le 1 (length apps)) (nat_le (length apps) 4) (le-leb 1 (length apps) are.some) (le-leb (length apps) 4 are.few),
+      no_field 0 apps are.rules,
+      no_name [] apps are.names,
+    ) (no_hidden directory apps sight)

@@ -1,12 +1,13 @@
 -- The rules of an application's other keys.
-use Rattle.std.specs.Prelude.{ℕ, Bool, false, not, nat_le, ◌==◌, ◌&&◌, ◌||◌, List, [], ◌∷◌, length, take, drop, replicate, slice_index, Option, Some, None}
+use Rattle.std.specs.Prelude.{ℕ, Bool, true, false, not, nat_le, ◌==◌, ◌&&◌, ◌||◌, List, [], ◌∷◌, length, take, drop, replicate, slice_index, Option, Some, None}
 use Rattle.std.specs.List.{list_all, list_any}
 use Rattle.std.specs.Str.{bytes_eq}
 use Rattle.card_state.specs.declared.state.AppState.{AppState}
 use Rattle.emv_dict.specs.Digits.{is_pin_length}
 use Rattle.emv_dict.specs.Nibbles.{nibbles, is_decimal}
-use Rattle.emv_dict.specs.Settings.{most_amount}
+use Rattle.emv_dict.specs.Settings.{is_code, most_amount}
 use Rattle.pin_block.specs.Block.{block_of}
+use Rattle.card_files.specs.Files.{has_record_of}
 use Rattle.card_files.specs.Views.{RecordData}
 
 -- from `least` to `most`
@@ -86,6 +87,27 @@ is_sum_limit n = nat_le n most_amount
 abbrev pub is_tries : ℕ → Bool
 is_tries n = nat_le n 15
 
--- nothing is counted yet, no issuer authentication has failed, and all tries are left
-abbrev pub is_opening : ℕ → AppState → Bool
-is_opening tries s = (s.count == 0) && ((s.sum == 0) && (not s.auth_failed && (s.tries == tries)))
+-- the most rows of a transaction log
+abbrev pub most_rows : ℕ
+most_rows = 10
+
+abbrev pub is_log_size : ℕ → Bool
+is_log_size n = nat_le n most_rows
+
+-- the log's file: none of those that a terminal reads for a transaction, and none with records of its own
+abbrev pub is_log_file : ℕ → ℕ → List RecordData → Bool
+is_log_file log sfi rs = is_within 11 30 sfi && (log == 0 || not (has_record_of sfi rs))
+
+-- where there is a second currency, it is not the first one
+abbrev pub is_second_code : List ℕ → Option (List ℕ) → Bool
+is_second_code first None = true
+is_second_code first (Some code) = is_code code && not (bytes_eq code first)
+
+-- nothing is counted or logged yet, no issuer authentication has failed, and all tries are left
+abbrev pub is_unused : ℕ → AppState → Bool
+is_unused tries s =
+    (s.count == 0) && ((s.sum == 0) && ((s.sum_two == 0) && ((length s.log.items == 0) && (not s.auth_failed && (s.tries == tries)))))
+
+-- and the second limit and the log's size are these
+abbrev pub is_opening : ℕ → ℕ → ℕ → AppState → Bool
+is_opening tries limit_two log s = is_unused tries s && ((s.limit_two == limit_two) && (s.log_max == log))

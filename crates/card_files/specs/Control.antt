@@ -1,5 +1,5 @@
 -- The file control information of an application (EMV 4.3 Book 1 section 11.3.4).
-use Rattle.std.specs.Prelude.{◌≡◌, ℕ, List, [], ◌∷◌, ◌++◌, map, Option, Some, None, Ok}
+use Rattle.std.specs.Prelude.{◌≡◌, ℕ, ◌==◌, if◌then◌else◌, List, [], ◌∷◌, ◌++◌, map, Option, Some, None, Ok}
 use Rattle.ber_tlv.specs.Item.{ItemData}
 use Rattle.ber_tlv.specs.Left.{items_of}
 use Rattle.ber_tlv.specs.Written.{written}
@@ -14,9 +14,17 @@ abbrev pub one_byte : Option ℕ → Option (List ℕ)
 one_byte (Some byte) = Some (byte ∷ [])
 one_byte None = None
 
--- the label, the priority indicator and the processing options object list
+-- the log's file and the most of its records (EMV 4.3 Book 3 Annex D2), where there is a log
+abbrev pub log_entry : AppData → Option (List ℕ)
+log_entry app = if app.log == 0 then None else Some (written 0x9F4D (app.log_sfi ∷ app.log ∷ []))
+
+-- the label, the priority indicator, the processing options object list and the log's entry
 unfoldable pub proprietary : AppData → List ℕ
-proprietary app = written 0x50 app.label ++ written_some 0x87 (one_byte app.priority) ++ written_some 0x9F38 app.pdol
+proprietary app =
+    written 0x50 app.label
+    ++ written_some 0x87 (one_byte app.priority)
+    ++ written_some 0x9F38 app.pdol
+    ++ written_some 0xBF0C (log_entry app)
 
 -- the name, and the proprietary template
 unfoldable pub fci_bytes : AppData → List ℕ
@@ -34,11 +42,17 @@ abbrev pub object_if : ℕ → Option (List ℕ) → Objects
 object_if tag None = []
 object_if tag (Some value) = (tag, value) ∷ []
 
+-- the log's entry, where it is there, is the log's file and the most of its records
+abbrev pub IsLogEntry : AppData → Option (List ℕ) → Type 0
+IsLogEntry app (Some bytes) = Reads bytes ((0x9F4D, app.log_sfi ∷ app.log ∷ []) ∷ [])
+IsLogEntry app None = app.log ≡ 0
+
 -- the information in other words: a template of the name and of the proprietary template, and in that one
--- the label, and the priority indicator and the processing options object list where they are there
+-- the label, and the priority indicator, the processing options object list and the log's entry where they are there
 pub record IsFci (app : AppData) (bytes : List ℕ) : Type 0 where
   pub template : List ℕ
   pub own : List ℕ
   pub whole : Reads bytes ((0x6F, template) ∷ [])
   pub parts : Reads template ((0x84, app.name) ∷ (0xA5, own) ∷ [])
-  pub objects : Reads own ((0x50, app.label) ∷ object_if 0x87 (one_byte app.priority) ++ object_if 0x9F38 app.pdol)
+  pub objects : Reads own ((0x50, app.label) ∷ object_if 0x87 (one_byte app.priority) ++ object_if 0x9F38 app.pdol ++ object_if 0xBF0C (log_entry app))
+  pub log : IsLogEntry app (log_entry app)

@@ -2,7 +2,7 @@
 use Rattle.std.specs.Prelude.{ℕ, Bool, false, ◌==◌, ◌&&◌, if◌then◌else◌, List, [], ◌∷◌, map, slice_get, Option, Some, None, option_and_then, Contains, IsSomeAnd}
 use Rattle.std.specs.List.{list_any}
 use Rattle.card_state.specs.declared.state.CardState.{CardState}
-use Rattle.card_files.specs.Views.{RecordData, AppData}
+use Rattle.card_files.specs.Views.{RecordData, AppData, ImageData}
 
 -- the bytes of the first record of a file with this number
 abbrev pub record_in : ℕ → ℕ → List RecordData → Option (List ℕ)
@@ -30,5 +30,5 @@ abbrev pub has_file : List AppData → ℕ → ℕ → Bool
 has_file apps app sfi = file_in sfi (slice_get apps app)
 
 -- the state of a card before its first decision
-abbrev pub opening_of : List AppData → CardState
-opening_of apps = record { blocked = false; apps = record { items = map (λ a. a.opening) apps } }
+abbrev pub opening_of : ImageData → CardState
+opening_of image = record { blocked = false; apps = record { items = map (λ a. a.opening) image.apps } }

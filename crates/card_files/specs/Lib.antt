@@ -1,5 +1,6 @@
 pub mod AppRules
 pub mod Control
+pub mod Directory
 pub mod Faults
 pub mod Files
 pub mod Kept

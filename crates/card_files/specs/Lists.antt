@@ -1,5 +1,5 @@
 -- The object lists of an application: how long they are, and which entries they hold.
-use Rattle.std.specs.Prelude.{ℕ, Bool, true, false, nat_le, is_some, if◌then◌else◌, List, [], ◌∷◌, length, Option, Some, None, Result, Ok, Err}
+use Rattle.std.specs.Prelude.{ℕ, Bool, true, false, ◌==◌, ◌||◌, nat_le, nat_lt, is_some, if◌then◌else◌, List, [], ◌∷◌, length, Option, Some, None, Result, Ok, Err}
 use Rattle.std.specs.List.{list_all}
 use Rattle.object_lists.specs.DolEntries.{DolEntry, dol_of, total_of, place_of}
 use Rattle.object_lists.specs.declared.dol.DolFault.{DolFault}
@@ -57,6 +57,11 @@ is_cdol1 bytes = holds_all cdol1_entries (entries_within most_cdol bytes)
 
 abbrev pub is_cdol2 : List ℕ → Bool
 is_cdol2 bytes = holds_all cdol2_entries (entries_within most_cdol bytes)
+
+-- with a transaction log, the processing options object list leaves room for it in the file control information
+abbrev pub leaves_room : ℕ → Option (List ℕ) → Bool
+leaves_room log (Some bytes) = log == 0 || nat_lt (length bytes) most_pdol
+leaves_room log None = true
 
 abbrev pub is_optional_pdol : Option (List ℕ) → Bool
 is_optional_pdol (Some bytes) = is_pdol bytes

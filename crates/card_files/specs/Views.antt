@@ -1,4 +1,4 @@
--- What a contract sees of an application's image: numbers and lists.
+-- What a contract sees of an image: numbers and lists.
 use Rattle.std.specs.Prelude.{ℕ, List, Option}
 use Rattle.card_state.specs.declared.state.AppState.{AppState}
 
@@ -27,5 +27,16 @@ pub record AppData : Type 0 where
   pub opening : AppState
   pub tries : ℕ
   pub ac_key : List ℕ
+  pub currency_two : Option (List ℕ)
+  pub limit_two : ℕ
+  pub log : ℕ
+  pub log_sfi : ℕ
   pub mac_key : List ℕ
   pub enc_key : List ℕ
+
+-- a card: its applications, the form of its state before its first decision, and the file of its payment system
+-- directory where it has one
+pub record ImageData : Type 0 where
+  pub apps : List AppData
+  pub version : ℕ
+  pub directory : Option ℕ

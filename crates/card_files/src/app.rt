@@ -54,13 +54,22 @@ pub struct AppImage {
     pub sequence: u8,
     /// The currency in which the card counts offline amounts: a zero and three decimal digits.
     pub currency: [u8; 2],
-    /// The state before the first decision. Its count and sum are 0, no issuer authentication has
-    /// failed, and its tries are `tries`.
+    /// The state before the first decision. Its count and its sums are 0, its log is empty, no issuer
+    /// authentication has failed, its tries are `tries`, its second limit is `limit_two` and the most
+    /// rows of its log are `log`.
     pub opening: AppState,
     /// The PIN try limit, at most 15.
     pub tries: u8,
     /// The master key for application cryptograms (EMV 4.3 Book 2 section 8.1).
     pub ac_key: Key16,
+    /// A second currency in which the card counts offline amounts: another one than the first.
+    pub currency_two: Option<[u8; 2]>,
+    /// The greatest sum of offline amounts in the second currency, in its least unit.
+    pub limit_two: u64,
+    /// The most rows of the transaction log, at most 10; 0 for none (EMV 4.3 Book 3 Annex D).
+    pub log: u8,
+    /// The short file identifier of the log, from 11 to 30. With a log no record has it.
+    pub log_sfi: u8,
     /// The master key for the codes of script commands (EMV 4.3 Book 2 section 9.2).
     pub mac_key: Key16,
     /// The master key for enciphered data of script commands (EMV 4.3 Book 2 section 9.3).
@@ -91,6 +100,10 @@ impl Model for AppImage {
       opening = a.opening;
       tries = a.tries;
       ac_key = a.ac_key;
+      currency_two = a.currency_two;
+      limit_two = a.limit_two;
+      log = a.log;
+      log_sfi = a.log_sfi;
       mac_key = a.mac_key;
       enc_key = a.enc_key;
     } };

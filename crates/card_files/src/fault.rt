@@ -1,16 +1,21 @@
 //! The first fault of a card's applications.
-ghost use Rattle.std.specs.Prelude.{◌≡◌, ◌+◌, ◌≤◌, List, ℕ, [], length, map, Some, None, IfSome, option_map, option_copied};
+ghost use Rattle.std.specs.Prelude.{◌≡◌, ◌+◌, ◌≤◌, ◌&&◌, ◌++◌, List, ℕ, [], length, map, Some, None, IfSome, option_map, option_copied};
 ghost use Rattle.std.specs.List.{All, list_any};
+ghost use Rattle.std.specs.Option.{option_or};
 ghost use Rattle.std.specs.Str.{bytes_eq};
 ghost use Rattle.card_files.specs.Faults as spec;
-ghost use Rattle.card_files.specs.Faults.{first_broken, file_lines, state_lines, app_fault, field_fault, name_fault, image_fault, OfField};
+ghost use Rattle.card_files.specs.AppRules.{is_log_size as is_size};
+ghost use Rattle.card_files.specs.Directory.{is_hidden as is_hidden_name};
+ghost use Rattle.card_files.specs.Faults.{first_broken, file_lines, state_lines, log_lines, app_fault, field_fault, name_fault, hidden_fault, directory_fault, image_fault, OfField};
+ghost use Rattle.card_files.specs.Lists.{leaves_room as has_room};
 ghost use Rattle.card_files.specs.SeenFault.{seen_fault};
 
 use crate::app::AppImage;
-use crate::lists::{is_cdol1, is_cdol2, is_optional_pdol};
+use crate::control::DIRECTORY_NAME;
+use crate::lists::{is_cdol1, is_cdol2, is_optional_pdol, leaves_room};
 use crate::rules::{
-    are_records, is_afl, is_format, is_label, is_name, is_opening, is_reference_pin, is_sum_limit,
-    is_tries,
+    are_records, is_afl, is_format, is_label, is_log_file, is_log_size, is_name, is_opening,
+    is_reference_pin, is_second_code, is_sum_limit, is_tries,
 };
 use arrayvec::ArrayVec;
 use emv_dict::{has_digits, is_code, is_pan_length};
@@ -88,10 +93,51 @@ fn first_state_key(app: &AppImage) -> Option<&'static str>
     if !is_tries(app.tries) {
         return Some("tries");
     }
-    if !is_opening(&app.opening, app.tries) {
+    None
+}
+
+/// The first key of the application's second currency, its log and its opening state that is against
+/// its rule.
+#[tactic(auto, unfolding(crate::specs::Faults::log_lines))]
+fn first_log_key(app: &AppImage) -> Option<&'static str>
+    ensures key { option_copied result ≡ first_broken (log_lines app.now) }
+    ensures short { IfSome result (λ key. length key.now ≤ 16) }
+{
+    if !is_second_code(app.currency, app.currency_two) {
+        return Some("currency_two");
+    }
+    if !is_sum_limit(app.limit_two) {
+        return Some("limit_two");
+    }
+    if !is_log(app.log, &app.pdol) {
+        return Some("log");
+    }
+    if !is_log_file(app.log, app.log_sfi, &app.records) {
+        return Some("log_sfi");
+    }
+    if !is_opening(&app.opening, app.tries, app.limit_two, app.log) {
         return Some("opening");
     }
     None
+}
+
+/// Whether a log may have so many rows beside this processing options object list.
+fn is_log(log: u8, pdol: &Option<Vec<u8>>) -> bool
+    ensures { result ≡ (is_size log && has_room log (option_map (λ list. list.items) pdol.now)) }
+{
+    is_log_size(log) && leaves_room(log, pdol)
+}
+
+/// The first key of the application's state or its log that is against its rule.
+#[tactic(auto, using(crate::proofs::FaultLemmas::first_broken_append))]
+fn first_later_key(app: &AppImage) -> Option<&'static str>
+    ensures key { option_copied result ≡ first_broken (state_lines app.now ++ log_lines app.now) }
+    ensures short { IfSome result (λ key. length key.now ≤ 16) }
+{
+    match first_state_key(app) {
+        Some(key) => Some(key),
+        None => first_log_key(app),
+    }
 }
 
 /// The first key of the application that is against its rule.
@@ -102,7 +148,7 @@ fn first_key(app: &AppImage) -> Option<&'static str>
 {
     match first_file_key(app) {
         Some(key) => Some(key),
-        None => first_state_key(app),
+        None => first_later_key(app),
     }
 }
 
@@ -185,11 +231,61 @@ fn first_same_name(apps: &[AppImage]) -> Option<ImageFault>
     None
 }
 
-/// The first fault of a card's applications: their number; else the first key of any application, the
-/// applications in order; else the first name that an earlier application has.
+/// Whether the directory's name finds an application of this name.
+#[tactic(auto, unfolding(crate::specs::Directory::is_hidden))]
+fn is_hidden(name: &[u8]) -> bool
+    ensures { result ≡ is_hidden_name name.now }
+{
+    name.starts_with(&DIRECTORY_NAME)
+}
+
+/// The first application, counted from this number on, whose name begins with the directory's.
+fn first_hidden(number: u8, apps: &[AppImage]) -> Option<ImageFault>
+    requires { number + length apps.now ≤ 4 }
+    ensures { option_map seen_fault result ≡ hidden_fault number apps.now }
+{
+    match apps {
+        [] => None,
+        [first, rest @ ..] => {
+            if is_hidden(first.name.as_slice()) {
+                return Some(ImageFault::Field {
+                    app: number,
+                    key: key_bytes("pse"),
+                });
+            }
+            first_hidden(number + 1, rest)
+        }
+    }
+}
+
+/// The first application that a directory would hide, where there is one.
+fn first_behind(directory: Option<u8>, apps: &[AppImage]) -> Option<ImageFault>
+    requires { length apps.now ≤ 4 }
+    ensures { option_map seen_fault result ≡ directory_fault directory apps.now }
+{
+    match directory {
+        Some(_) => first_hidden(0, apps),
+        None => None,
+    }
+}
+
+/// The first name that an earlier application has, else the first one that the directory hides.
+fn first_name(directory: Option<u8>, apps: &[AppImage]) -> Option<ImageFault>
+    requires { length apps.now ≤ 4 }
+    ensures { option_map seen_fault result ≡ option_or (name_fault [] apps.now) (directory_fault directory apps.now) }
+{
+    match first_same_name(apps) {
+        Some(fault) => Some(fault),
+        None => first_behind(directory, apps),
+    }
+}
+
+/// The first fault of a card's applications beside its directory: their number; else the first key of
+/// any application, the applications in order; else the first name that an earlier application has;
+/// else the first name that begins with the directory's.
 #[tactic(auto, unfolding(crate::specs::Faults::image_fault))]
-pub(crate) fn first_fault(apps: &[AppImage]) -> Option<ImageFault>
-    ensures fault { option_map seen_fault result ≡ image_fault apps.now }
+pub(crate) fn first_fault(apps: &[AppImage], directory: Option<u8>) -> Option<ImageFault>
+    ensures fault { option_map seen_fault result ≡ image_fault apps.now directory }
     ensures profiles { result ≡ None → All (λ app. length app.aip ≡ 2) apps.now }
 {
     if apps.is_empty() || apps.len() > 4 {
@@ -197,6 +293,6 @@ pub(crate) fn first_fault(apps: &[AppImage]) -> Option<ImageFault>
     }
     match first_field(0, apps) {
         Some(fault) => Some(fault),
-        None => first_same_name(apps),
+        None => first_name(directory, apps),
     }
 }

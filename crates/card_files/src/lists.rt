@@ -118,3 +118,14 @@ pub(crate) fn is_optional_pdol(pdol: &Option<Vec<u8>>) -> bool
         None => true,
     }
 }
+
+/// Whether a transaction log of so many rows leaves room for this processing options object list in
+/// the file control information: with a log, the list has fewer than 200 bytes.
+pub fn leaves_room(log: u8, pdol: &Option<Vec<u8>>) -> bool
+    ensures { result ≡ spec.leaves_room log (option_map (λ list. list.items) pdol.now) }
+{
+    match pdol {
+        Some(bytes) => log == 0 || bytes.len() < MOST_PDOL,
+        None => true,
+    }
+}

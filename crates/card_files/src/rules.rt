@@ -6,8 +6,9 @@ ghost use Rattle.pin_block.specs.Block.{IsPin, block_of};
 ghost use Rattle.card_files.specs.AppRules as spec;
 
 use crate::app::RecordImage;
+use crate::files::is_file;
 use card_state::AppState;
-use emv_dict::{Digits, MOST_AMOUNT};
+use emv_dict::{Digits, MOST_AMOUNT, is_code};
 use pin_block::{plain_block, read_plain};
 
 /// The most bytes of an image's application file locator: 62 entries of four bytes.
@@ -139,10 +140,49 @@ pub fn is_tries(limit: u8) -> bool
     limit <= 15
 }
 
-/// Whether nothing is counted in the state yet, no issuer authentication has failed, and its PIN tries
-/// are the limit.
-pub fn is_opening(state: &AppState, tries: u8) -> bool
-    ensures { result ≡ spec.is_opening tries state.now }
+/// The most rows of a transaction log.
+pub const MOST_ROWS: u8 = 10;
+
+/// Whether a transaction log may have so many rows at most: up to 10.
+pub fn is_log_size(rows: u8) -> bool
+    ensures { result ≡ spec.is_log_size rows }
 {
-    (state.count == 0 && state.sum == 0) && (!state.auth_failed && state.tries == tries)
+    rows <= MOST_ROWS
+}
+
+/// Whether this may be the file of a transaction log of so many rows: its identifier is 11 to 30, and
+/// with a log none of these records is in it.
+pub fn is_log_file(log: u8, sfi: u8, images: &[RecordImage]) -> bool
+    ensures { result ≡ spec.is_log_file log sfi images.now }
+{
+    (11 <= sfi && sfi <= 30) && (log == 0 || !is_file(images, sfi))
+}
+
+/// Whether this is no second currency, or one of three digits that is not the first.
+pub fn is_second_code(first: [u8; 2], second: Option<[u8; 2]>) -> bool
+    ensures { result ≡ spec.is_second_code first second }
+{
+    match second {
+        Some(code) => is_code(code) && code != first,
+        None => true,
+    }
+}
+
+/// Whether nothing is counted or logged in the state yet, no issuer authentication has failed, and its
+/// PIN tries are the limit.
+pub fn is_unused(state: &AppState, tries: u8) -> bool
+    ensures { result ≡ spec.is_unused tries state.now }
+{
+    state.count == 0
+        && (state.sum == 0
+            && (state.sum_two == 0
+                && (state.log.is_empty() && (!state.auth_failed && state.tries == tries))))
+}
+
+/// Whether the state may be an application's before its first decision: it is unused, and its second
+/// limit and the most rows of its log are these.
+pub fn is_opening(state: &AppState, tries: u8, limit_two: u64, log: u8) -> bool
+    ensures { result ≡ spec.is_opening tries limit_two log state.now }
+{
+    is_unused(state, tries) && (state.limit_two == limit_two && state.log_max == log)
 }

@@ -1,4 +1,5 @@
 mod ComparingLemmas
+mod Formats
 mod PowerUps
 mod Stands
 pub mod Steps

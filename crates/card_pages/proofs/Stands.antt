@@ -1,30 +1,30 @@
 -- What pages stand for behind a cut release, and behind a power-up.
-use Rattle.std.proofs.Common.{◌≡◌, ℕ, ◌+◌, ◌*◌, ◌<◌, ◌≤◌, Bool, true, false, ◌==◌, nat_le, List, [], ◌∷◌, ◌++◌, length, get_or, slice_get, slice_set, Option, Some, None, option_map, refl, ap, sym, subst, ◌∙◌, arith, append-nil}
+use Rattle.std.proofs.Common.{◌≡◌, ℕ, ◌+◌, ◌*◌, ◌<◌, ◌≤◌, Bool, true, false, ◌==◌, ◌&&◌, nat_le, List, [], ◌∷◌, ◌++◌, length, get_or, slice_get, slice_set, Option, Some, None, option_map, refl, ap, sym, subst, ◌∙◌, arith, append-nil, inl}
 use Rattle.std.specs.Prelude.{if◌then◌else◌}
 use Rattle.std.proofs.lemmas.Bool.Decides.{nat_tests}
 use Rattle.std.proofs.lemmas.List.{length-set}
 use Rattle.std.proofs.lemmas.Option.{slice_get-get_or}
 use Rattle.card_state.specs.Decisions.{Decided}
-use Rattle.card_state.specs.Encoding.{encoding, IsCardState}
+use Rattle.card_state.specs.Encoding.{encoding, HasShortLogs, IsCardState}
 use Rattle.card_state.specs.Totals.{totals}
 use Rattle.card_state.specs.declared.state.AppState.{AppState}
 use Rattle.card_state.specs.declared.state.CardState.{CardState}
-use Rattle.emv_ports.specs.Cut.{is_named, is_among, release_cut}
+use Rattle.emv_ports.specs.Cut.{is_named, is_among, cut_at, write_cut, cuts_among, release_cut}
 use Rattle.emv_ports.specs.Causes.{one_more}
 use Rattle.emv_ports.specs.Memory.{Memory, next, next_release_cut}
-use Rattle.torn_store.specs.Placed.{Commits, ReleaseTorn}
+use Rattle.torn_store.specs.Placed.{Commits, CommitTorn, ReleaseTorn}
 use Rattle.torn_store.specs.Store.{Stored, IsGone}
-use Rattle.torn_store.proofs.Causes.{release_cut_named}
+use Rattle.torn_store.proofs.Causes.{cuts_named, release_cut_named}
 use Rattle.emv_ports.specs.declared.tear.Cut.TheVariants.{Spared, CutBefore}
 use Rattle.emv_ports.specs.declared.tear.Tear.{Tear}
 use Rattle.emv_ports.specs.declared.tear.TearAt.{TearAt}
 use Rattle.emv_ports.specs.declared.tear.TearAt.TheVariants.{Before, Within, Release}
 use Rattle.torn_store.specs.Layout.{recover, changed, commit_writes}
-use Rattle.torn_store.specs.Recovery.{Holds}
+use Rattle.torn_store.specs.Recovery.{Holds, Between}
 use Rattle.torn_store.proofs.Outcomes.{has_second}
 use Rattle.torn_store.proofs.Stored.{holds_among}
 use Rattle.card_pages.specs.SeenKept.{KeptState, KeptOn, CutAt}
-use Rattle.card_pages.specs.Cuts.{Cut, commit_of, cut_of, behind_one, left_at, left_of, kept_by, pending_by}
+use Rattle.card_pages.specs.Cuts.{Cut, Dropped, Pending, commit_of, cut_of, behind_one, left_at, left_of, kept_by, pending_by}
 use Rattle.card_pages.specs.Pages.{Cells, StandsFor, StandsBetween, MayStand}
 
 -- one element changed
@@ -44,13 +44,13 @@ module _ (cells : Cells) (opening : CardState) (ds : List Decided) (d : Decided)
   alone = record { before = []; cut = d }
 
   -- pages that hold the state with a decision stand between that without it and that with it
-  with_it_between : IsCardState (totals opening ds) → IsCardState (totals opening (ds ++ d ∷ []))
+  with_it_between : IsCardState (totals opening ds) → IsCardState (totals opening (ds ++ d ∷ [])) → HasShortLogs opening
       → Holds recover cells (encoding (totals opening (ds ++ d ∷ []))) → StandsBetween cells opening (ds ++ []) d
-  with_it_between fits fits_with holds =
+  with_it_between fits fits_with short holds =
       let one = encoding (totals opening ds) in
       let other = encoding (totals opening (ds ++ d ∷ [])) in
       let there : StandsBetween cells opening ds d =
-      record { fits = fits; fits_with = fits_with; between = holds_among cells other (one ∷ other ∷ []) holds (has_second one other) } in
+      record { fits = fits; fits_with = fits_with; short = short; between = holds_among cells other (one ∷ other ∷ []) holds (has_second one other) } in
       subst (λ (kept : List Decided). StandsBetween cells opening kept d) (sym (append-nil ds)) there
 
   -- a place that is none of these writes is not the first one
@@ -58,15 +58,16 @@ module _ (cells : Cells) (opening : CardState) (ds : List Decided) (d : Decided)
   not_first planned writes some above = grind (arith, nat_tests)
 
   -- a release that is cut behind some writes leaves a decision that is kept or pending
-  pub at_release : (at : TearAt) (writes : ℕ) → 1 ≤ writes → is_among at writes ≡ false
-      → IsCardState (totals opening ds) → IsCardState (totals opening (ds ++ d ∷ []))
+  pub at_release : (at : TearAt) (writes version : ℕ) → 1 ≤ writes → is_among at writes ≡ false
+      → IsCardState (totals opening ds) → IsCardState (totals opening (ds ++ d ∷ [])) → HasShortLogs opening
       → Holds recover cells (encoding (totals opening (ds ++ d ∷ [])))
-      → MayStand cells opening (kept_by (left_at at) ds alone) (pending_by (left_at at) alone)
-  at_release Release writes some above fits fits_with holds =
-      subst (λ (kept : List Decided). StandsFor cells opening (kept ++ d ∷ [])) (sym (append-nil ds)) (record { fits = fits_with; holds = holds })
-  at_release (Within planned) writes some above fits fits_with holds = with_it_between fits fits_with holds
-  at_release (Before planned) writes some above fits fits_with holds =
-      rw (not_first planned writes some above) (with_it_between fits fits_with holds)
+      → MayStand cells version opening (kept_by (left_at at) ds alone) (pending_by (left_at at) alone)
+  at_release Release writes version some above fits fits_with short holds =
+      subst (λ (kept : List Decided). StandsFor cells version opening (kept ++ d ∷ [])) (sym (append-nil ds))
+      (inl (record { fits = fits_with; short = short; holds = holds }))
+  at_release (Within planned) writes version some above fits fits_with short holds = with_it_between fits fits_with short holds
+  at_release (Before planned) writes version some above fits fits_with short holds =
+      rw (not_first planned writes some above) (with_it_between fits fits_with short holds)
 
   named : (here : Bool) (at : TearAt) (writes : ℕ) → (if here then (if is_among at writes then Spared else CutBefore) else Spared) ≡ CutBefore
       → is_among at writes ≡ false
@@ -77,13 +78,60 @@ module _ (cells : Cells) (opening : CardState) (ds : List Decided) (d : Decided)
       by_test false is = refl
   named false at writes is = cc
 
-  pub cut_release : (plan : Option Tear) (commit writes : ℕ) → release_cut plan commit writes ≡ CutBefore → 1 ≤ writes
-      → IsCardState (totals opening ds) → IsCardState (totals opening (ds ++ d ∷ []))
+  pub cut_release : (plan : Option Tear) (commit writes version : ℕ) → release_cut plan commit writes ≡ CutBefore → 1 ≤ writes
+      → IsCardState (totals opening ds) → IsCardState (totals opening (ds ++ d ∷ [])) → HasShortLogs opening
       → Holds recover cells (encoding (totals opening (ds ++ d ∷ [])))
-      → MayStand cells opening (kept_by (left_of plan) ds alone) (pending_by (left_of plan) alone)
-  cut_release None commit writes is some fits fits_with holds = cc
-  cut_release (Some tear) commit writes is some fits fits_with holds =
-      at_release tear.at writes some (named (tear.commit == commit) tear.at writes is) fits fits_with holds
+      → MayStand cells version opening (kept_by (left_of plan) ds alone) (pending_by (left_of plan) alone)
+  cut_release None commit writes version is some fits fits_with short holds = cc
+  cut_release (Some tear) commit writes version is some fits fits_with short holds =
+      at_release tear.at writes version some (named (tear.commit == commit) tear.at writes is) fits fits_with short holds
+
+  kept_still : IsCardState (totals opening ds) → HasShortLogs opening → Holds recover cells (encoding (totals opening ds))
+      → (version : ℕ) → StandsFor cells version opening (ds ++ [])
+  kept_still fits short holds version =
+      subst (λ (kept : List Decided). StandsFor cells version opening kept) (sym (append-nil ds)) (inl (record { fits = fits; short = short; holds = holds }))
+
+  between_still : IsCardState (totals opening ds) → IsCardState (totals opening (ds ++ d ∷ [])) → HasShortLogs opening
+      → Between recover cells (encoding (totals opening ds)) (encoding (totals opening (ds ++ d ∷ []))) → StandsBetween cells opening (ds ++ []) d
+  between_still fits fits_with short between =
+      subst (λ (kept : List Decided). StandsBetween cells opening kept d) (sym (append-nil ds))
+      (record { fits = fits; fits_with = fits_with; short = short; between = between })
+
+  none_of_none : (b : Bool) → (b && false) ≡ true → ⊥
+  none_of_none true is = cc
+  none_of_none false is = cc
+
+  among_named : (named among : Bool) → (named && among) ≡ true → named ≡ true
+  among_named true among is = refl
+  among_named false among is = is
+
+  -- a write of a commit that is cut leaves the decision dropped or pending
+  at_write : (at : TearAt) (is_here : Bool) (writes version : ℕ) → (is_here && is_among at writes) ≡ true
+      → IsCardState (totals opening ds) → IsCardState (totals opening (ds ++ d ∷ [])) → HasShortLogs opening
+      → Between recover cells (encoding (totals opening ds)) (encoding (totals opening (ds ++ d ∷ [])))
+      → ((if is_here then cut_at at 1 else Spared) ≡ CutBefore → Holds recover cells (encoding (totals opening ds)))
+      → MayStand cells version opening (kept_by (left_at at) ds alone) (pending_by (left_at at) alone)
+  at_write (Before planned) is_here writes version is fits fits_with short between before = by_first (planned == 1) refl
+    where
+      by_first : (first : Bool) → (planned == 1) ≡ first
+          → MayStand cells version opening (kept_by (if first then Dropped else Pending) ds alone) (pending_by (if first then Dropped else Pending) alone)
+      by_first true test =
+          let here : is_here ≡ true = among_named is_here (nat_le planned writes) is in
+          let cut : (if is_here then (if planned == 1 then CutBefore else Spared) else Spared) ≡ CutBefore =
+          ap (λ b. if b then (if planned == 1 then CutBefore else Spared) else Spared) here ∙ ap (λ b. if b then CutBefore else Spared) test in
+          kept_still fits short (before cut) version
+      by_first false test = between_still fits fits_with short between
+  at_write (Within planned) is_here writes version is fits fits_with short between before = between_still fits fits_with short between
+  at_write Release is_here writes version is fits fits_with short between before = absurd (none_of_none is_here is)
+
+  pub cut_write : (plan : Option Tear) (commit writes version : ℕ) → cuts_among plan commit writes ≡ true
+      → IsCardState (totals opening ds) → IsCardState (totals opening (ds ++ d ∷ [])) → HasShortLogs opening
+      → Between recover cells (encoding (totals opening ds)) (encoding (totals opening (ds ++ d ∷ [])))
+      → (write_cut plan commit 1 ≡ CutBefore → Holds recover cells (encoding (totals opening ds)))
+      → MayStand cells version opening (kept_by (left_of plan) ds alone) (pending_by (left_of plan) alone)
+  cut_write None commit writes version is fits fits_with short between before = cc
+  cut_write (Some tear) commit writes version is fits fits_with short between before =
+      at_write tear.at (tear.commit == commit) writes version is fits fits_with short between before
 
   module _ (memory lost : Memory) (made : ℕ) where
     -- the commit behind so many decisions has the next number
@@ -108,10 +156,10 @@ module _ (cells : Cells) (opening : CardState) (ds : List Decided) (d : Decided)
           cut = ap (λ b. if b then Some alone else option_map (behind_one d) None) named;
           left = record {
             gone = record { off = gone.off; plan = gone.plan; losses = gone.losses ∙ ap one_more losses };
-            stands =
-                subst (λ (cs : Cells). MayStand cs opening (kept_by (left_of old.plan) ds alone) (pending_by (left_of old.plan) alone)) same
-                (subst (λ (p : Option Tear). MayStand cells opening (kept_by (left_of p) ds alone) (pending_by (left_of p) alone)) same_plan
-                (cut_release memory.plan memory.commit memory.writes is some on.stands.fits fits_with holds));
+            stands = λ version.
+                subst (λ (cs : Cells). MayStand cs version opening (kept_by (left_of old.plan) ds alone) (pending_by (left_of old.plan) alone)) same
+                (subst (λ (p : Option Tear). MayStand cells version opening (kept_by (left_of p) ds alone) (pending_by (left_of p) alone)) same_plan
+                (cut_release memory.plan memory.commit memory.writes version is some on.stands.fits fits_with on.stands.short holds));
           };
         }
 
@@ -132,3 +180,35 @@ module _ (opening : CardState) (ds : List Decided) (d : Decided) where
       torn.cut torn.gone refl fits
       (subst (λ (s : List ℕ). Holds recover last.memory.cells s) (wrote.state ∙ is) torn.lost) in
       subst (λ (p : Option Tear). CutAt old.memory last.memory opening ds (d ∷ []) p made (record { before = []; cut = d })) on.plan_is cut
+
+  -- one of its writes is
+  pub cut_committing : (old : KeptState) (place last : Stored) (text : List ℕ) (plan : Option Tear) (made : ℕ) → place.memory ≡ old.memory
+      → place.state ≡ encoding (totals opening ds) → KeptOn old opening ds plan made → CommitTorn place text last
+      → text ≡ encoding (totals opening (ds ++ d ∷ [])) → IsCardState (totals opening (ds ++ d ∷ []))
+      → CutAt old.memory last.memory opening ds (d ∷ []) plan made (record { before = []; cut = d })
+  unfolding cut_of
+  cut_committing old place last text plan made same stored on torn is fits =
+      let alone : Cut = record { before = []; cut = d } in
+      let plan_is : place.memory.plan ≡ plan = ap (λ (m : Memory). m.plan) same ∙ on.plan_is in
+      let number : next place.memory.commit ≡ commit_of (made + 1) =
+      ap (λ (m : Memory). next m.commit) same ∙ ap (λ (n : ℕ). next n) on.commit_is ∙ next_number made in
+      let named : is_named plan (commit_of (made + 1)) ≡ true =
+      ap (λ n. is_named plan n) (sym number) ∙ ap (λ (p : Option Tear). is_named p (next place.memory.commit)) (sym plan_is)
+      ∙ cuts_named place.memory.plan (next place.memory.commit) (commit_writes place.state text) torn.cut in
+      let one : List ℕ = encoding (totals opening ds) in
+      let other : List ℕ = encoding (totals opening (ds ++ d ∷ [])) in
+      let between : Between recover last.memory.cells one other =
+      subst (λ (s : List ℕ). Between recover last.memory.cells s other) stored (subst (λ (s : List ℕ). Between recover last.memory.cells place.state s) is torn.lost) in
+      record {
+        cut = ap (λ b. if b then Some alone else option_map (behind_one d) None) named;
+        left = record {
+          gone = record { off = torn.gone.off; plan = torn.gone.plan; losses = torn.gone.losses ∙ ap (λ (m : Memory). one_more m.losses) same };
+          stands = λ version.
+              subst (λ (p : Option Tear). MayStand last.memory.cells version opening (kept_by (left_of p) ds alone) (pending_by (left_of p) alone)) plan_is
+              (cut_write last.memory.cells opening ds d place.memory.plan (next place.memory.commit) (commit_writes place.state text) version torn.cut
+              on.stands.fits fits on.stands.short between (λ before. subst (λ (s : List ℕ). Holds recover last.memory.cells s) stored (torn.before before)));
+        };
+      }
+    where
+      next_number : (made : ℕ) → next (commit_of made) ≡ commit_of (made + 1)
+      next_number made = omega arith

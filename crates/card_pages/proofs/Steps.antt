@@ -84,9 +84,10 @@ module _ (opening : CardState) (ds : List Decided) (plan : Option Tear) (made : 
           cut = behind_spared spared ∙ ap (λ (o : Option Cut). option_map (behind_one one) o) at.cut;
           left = record {
             gone = record { off = gone.off; plan = gone.plan; losses = gone.losses ∙ ap one_more losses };
-            stands =
-                subst (λ (p : Option Decided). MayStand lost.cells opening (kept_by (left_of plan) ds both) p) (left_pending (left_of plan))
-                (subst (λ (xs : List Decided). MayStand lost.cells opening xs (pending_by (left_of plan) (alone other))) (left_kept (left_of plan)) at.left.stands);
+            stands = λ version.
+                subst (λ (p : Option Decided). MayStand lost.cells version opening (kept_by (left_of plan) ds both) p) (left_pending (left_of plan))
+                (subst (λ (xs : List Decided). MayStand lost.cells version opening xs (pending_by (left_of plan) (alone other))) (left_kept (left_of plan))
+                (at.left.stands version));
           };
         }
 

@@ -24,10 +24,11 @@ pub record KeptOn (seen : KeptState) (opening : CardState) (ds : List Decided) (
   pub plan_is : seen.memory.plan ≡ plan
   pub commit_is : seen.memory.commit ≡ commit_of made
 
--- the power is gone at a cut decision: what the pages may stand for
+-- the power is gone at a cut decision: what the pages may stand for, whatever the version in which the card was
+-- personalised
 pub record KeptLost (old new : Memory) (opening : CardState) (ds : List Decided) (plan : Option Tear) (at : Cut) : Type 0 where
   pub gone : IsGone old new
-  pub stands : MayStand new.cells opening (kept_by (left_of plan) ds at) (pending_by (left_of plan) at)
+  pub stands : (version : ℕ) → MayStand new.cells version opening (kept_by (left_of plan) ds at) (pending_by (left_of plan) at)
 
 -- New decisions are taken: the plan cuts none of them, and the pages stand for the longer list.
 pub record Took (next : KeptState) (opening : CardState) (ds new : List Decided) (plan : Option Tear) (made : ℕ) : Type 0 where

@@ -1,20 +1,23 @@
 //! The pages of a card in their place, with the state that they hold while it is on.
 ghost use Rattle.std.specs.Prelude.{◌≡◌, ◌<◌, ◌≤◌, ℕ, List, [], ◌∷◌, Bool, Option, Some, None, length, slice_get, true, false, IsTrue, OnOk, OnErr};
 ghost use Rattle.card_state.specs.Decisions.{Decided};
+ghost use Rattle.card_state.specs.Encoding.{HasShortLogs};
 ghost use Rattle.card_state.specs.Totals.{totals};
 ghost use Rattle.card_state.specs.declared.state.CardState.{CardState as State};
 ghost use Rattle.emv_ports.specs.Cut.{is_named, is_plan};
 ghost use Rattle.emv_ports.specs.Memory.{planned, powered_off};
 ghost use Rattle.emv_ports.specs.declared.tear.Tear.{Tear as Plan};
+ghost use Rattle.torn_store.specs.Layout.{recover};
+ghost use Rattle.torn_store.specs.Recovery.{Holds};
 ghost use Rattle.torn_store.specs.Store.{IsGone};
-ghost use Rattle.card_pages.specs.Pages.{StandsFor, MayStand, found_of};
+ghost use Rattle.card_pages.specs.Pages.{StandsFor, MayStand, found_of, upgraded};
 ghost use Rattle.card_pages.specs.SeenKept.{KeptOn, Takes, IsCutAlone, MayTake};
 
 use arrayvec::ArrayVec;
-use card_state::{CardState, Decision, apply, decode, encode};
+use card_state::{CardState, Decision, apply, decode, decode_one, encode, encode_one, with_limits};
 use emv_ports::{Gone, Pages, Tear};
 use std::marker::Model;
-use torn_store::Place;
+use torn_store::{Convert, Place};
 
 /// The place of a card's pages, on or off, and the state that they hold while they are on.
 #[derive(Drop)]
@@ -25,31 +28,70 @@ pub struct Kept<P: Pages> {
 
 impl<P: Pages> Model for Kept<P> {
     ghost use Rattle.std.specs.Prelude.{◌≡◌, true};
-    ghost use Rattle.card_state.specs.Encoding.{encoding};
+    ghost use Rattle.card_state.specs.Encoding.{encoding, HasShortLogs};
     ghost use Rattle.card_pages.specs.SeenKept.{KeptState};
 
     ghost Value = { KeptState };
 
     ghost view = { λ k. record { memory = k.place.memory; state = k.state } };
 
-    ghost invariant = { λ k. k.place.memory.on ≡ true → k.place.state ≡ encoding k.state };
+    ghost invariant = { λ k. (k.place.memory.on ≡ true → k.place.state ≡ encoding k.state) × HasShortLogs k.state };
 }
 
-/// Writes a card's state before its first decision to pages, which are off and have no plan, before and
-/// behind the call.
-pub fn format<P: Pages>(opening: &CardState, pages: P) -> P
+/// The conversion of states of version 1, with the limits of an opening state.
+#[derive(Drop)]
+struct Upgrade<'a> {
+    opening: &'a CardState,
+}
+
+impl Convert for Upgrade<'_> {
+    ghost means = { λ u bytes. upgraded u.opening.now bytes };
+
+    fn convert(&self, old: &[u8], out: &mut ArrayVec<u8, 1024>) -> bool {
+        match decode_one(old) {
+            Some(state) => {
+                encode(&with_limits(self.opening, &state), out);
+                true
+            }
+            None => false,
+        }
+    }
+}
+
+/// Writes a card's state before its first decision, in version 1 or 2, to pages, which are off and have no plan,
+/// before and behind the call.
+pub fn format<P: Pages>(opening: &CardState, version: u8, pages: P) -> P
+    requires version { (1 ≤ version) × (version ≤ 2) }
     requires none { totals opening.now [] ≡ opening.now }
+    requires short { HasShortLogs opening.now }
     requires off { (P.memory pages).on ≡ false }
     requires plan { (P.memory pages).plan ≡ None }
-    ensures stands { StandsFor (P.memory result).cells opening.now [] }
+    ensures stands { StandsFor (P.memory result).cells version opening.now [] }
     ensures off { (P.memory result).on ≡ false }
     ensures plan { (P.memory result).plan ≡ None }
     ensures losses { (P.memory result).losses ≡ (P.memory pages).losses }
 {
     let mut bytes = ArrayVec::new();
     encode(opening, &mut bytes);
+    if version == 1 {
+        encode_one(opening, &mut bytes);
+        return written(bytes.as_slice(), pages);
+    }
+    written(bytes.as_slice(), pages)
+}
+
+/// The pages with this first state.
+fn written<P: Pages>(bytes: &[u8], pages: P) -> P
+    requires fits { length bytes.now ≤ 1024 }
+    requires off { (P.memory pages).on ≡ false }
+    requires plan { (P.memory pages).plan ≡ None }
+    ensures holds { Holds recover (P.memory result).cells bytes.now }
+    ensures off { (P.memory result).on ≡ false }
+    ensures plan { (P.memory result).plan ≡ None }
+    ensures losses { (P.memory result).losses ≡ (P.memory pages).losses }
+{
     let mut place = Place::new(pages);
-    place.format(bytes.as_slice());
+    place.format(bytes);
     place.power_off();
     place.into_pages()
 }
@@ -62,7 +104,10 @@ impl<P: Pages> Kept<P> {
     {
         Kept {
             place: Place::new(pages),
-            state: CardState::default(),
+            state: CardState {
+                blocked: false,
+                apps: ArrayVec::new(),
+            },
         }
     }
 
@@ -76,28 +121,30 @@ impl<P: Pages> Kept<P> {
     }
 
     /// Turns on pages that may stand for the decisions of a card with this opening state, as `format` and every
-    /// later call leave them, and reads their state. What is found is the list of decisions that are kept, or
-    /// that list with the pending one.
+    /// later call leave them, and reads their state. Bytes of version 1 are written again in version 2, before
+    /// the first decision. What is found is the list of decisions that are kept, or that list with the pending
+    /// one.
     ///
     /// `Gone` comes exactly where a tear is planned before the first decision. The pages stand then for
     /// what they stood for.
     pub fn power_up(&mut self, opening: &CardState) -> Result<(), Gone>
         requires off { self.old.memory.on ≡ false }
-        requires stands { (kept : List Decided) × (pending : Option Decided)
-            × MayStand self.old.memory.cells opening.now kept pending }
-        ensures found { OnOk result ((kept : List Decided) (pending : Option Decided)
-            → MayStand self.old.memory.cells opening.now kept pending
+        requires stands { (version : ℕ) × (kept : List Decided) × (pending : Option Decided)
+            × MayStand self.old.memory.cells version opening.now kept pending }
+        ensures found { OnOk result ((version : ℕ) (kept : List Decided) (pending : Option Decided)
+            → MayStand self.old.memory.cells version opening.now kept pending
             → (with_it : Bool) × KeptOn self.new opening.now (found_of kept pending with_it) self.old.memory.plan 0) }
         ensures on { OnOk result (self.new.memory.on ≡ true) }
         ensures spared { OnOk result (is_named self.old.memory.plan 0 ≡ false) }
         ensures losses { OnOk result (self.new.memory.losses ≡ self.old.memory.losses) }
-        ensures lost { OnErr result ((kept : List Decided) (pending : Option Decided)
-            → MayStand self.old.memory.cells opening.now kept pending
-            → MayStand self.new.memory.cells opening.now kept pending) }
+        ensures lost { OnErr result ((version : ℕ) (kept : List Decided) (pending : Option Decided)
+            → MayStand self.old.memory.cells version opening.now kept pending
+            → MayStand self.new.memory.cells version opening.now kept pending) }
         ensures cut { OnErr result (is_named self.old.memory.plan 0 ≡ true) }
         ensures gone { OnErr result (IsGone self.old.memory self.new.memory) }
     {
-        match self.place.power_up() {
+        let upgrade = Upgrade { opening };
+        match self.place.power_up_with(&upgrade) {
             Ok(()) => {}
             Err(Gone) => return Err(Gone),
         }
@@ -119,7 +166,8 @@ impl<P: Pages> Kept<P> {
 
     /// The state, while the pages are on.
     pub fn state(&self) -> &CardState
-        ensures { result.now ≡ self.now.state }
+        ensures value { result.now ≡ self.now.state }
+        ensures short { HasShortLogs result.now }
     {
         &self.state
     }
@@ -159,8 +207,8 @@ impl<P: Pages> Kept<P> {
     pub fn power_off(&mut self)
         requires on { self.old.memory.on ≡ true }
         ensures memory { self.new.memory ≡ powered_off self.old.memory }
-        ensures stands { (opening : State) (ds : List Decided) (plan : Option Plan) (made : ℕ)
-            → KeptOn self.old opening ds plan made → StandsFor self.new.memory.cells opening ds }
+        ensures stands { (opening : State) (ds : List Decided) (plan : Option Plan) (made : ℕ) (version : ℕ)
+            → KeptOn self.old opening ds plan made → StandsFor self.new.memory.cells version opening ds }
     {
         self.place.power_off();
     }

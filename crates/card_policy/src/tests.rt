@@ -1,116 +1,155 @@
 use super::*;
 
-/// An application with one approval left of its count, and 500 left of its sum.
-const NEAR: AppState = AppState {
-    counter: 11,
-    last_online: 9,
+/// An application with one approval left of its count, 500 left of its sum, and 300 of the one in its second
+/// currency.
+const NEAR: Counts = Counts {
     count: 4,
-    sum: 19_500,
     count_limit: 5,
+    sum: 19_500,
     sum_limit: 20_000,
-    tries: 3,
+    sum_two: 2_700,
+    limit_two: 3_000,
     blocked: false,
     auth_failed: false,
-    pin: [0; 8],
 };
 
-/// What is asked, the state, whether the card is blocked, whether the currency is the card's, the
-/// amount, and the kind by the written policy.
-const FIRSTS: [(Kind, AppState, bool, bool, u64, Kind); 13] = [
-    (Kind::Tc, NEAR, false, true, 500, Kind::Tc),
-    (Kind::Tc, NEAR, false, true, 501, Kind::Arqc),
-    (Kind::Tc, NEAR, false, false, 500, Kind::Arqc),
-    (Kind::Tc, NEAR, true, true, 500, Kind::Aac),
+/// What the policy looks at in an application's state.
+#[derive(Clone, Copy)]
+struct Counts {
+    count: u8,
+    count_limit: u8,
+    sum: u64,
+    sum_limit: u64,
+    sum_two: u64,
+    limit_two: u64,
+    blocked: bool,
+    auth_failed: bool,
+}
+
+/// A state with these counts.
+fn state_of(counts: Counts) -> AppState {
+    AppState {
+        counter: 11,
+        last_online: 9,
+        count: counts.count,
+        count_limit: counts.count_limit,
+        sum: counts.sum,
+        sum_limit: counts.sum_limit,
+        sum_two: counts.sum_two,
+        limit_two: counts.limit_two,
+        blocked: counts.blocked,
+        auth_failed: counts.auth_failed,
+        tries: 3,
+        ..AppState::default()
+    }
+}
+
+/// What is asked, the state, whether the card is blocked, the currency, the amount, and the kind by the written policy.
+const FIRSTS: [(Kind, Counts, bool, Which, u64, Kind); 16] = [
+    (Kind::Tc, NEAR, false, Which::One, 500, Kind::Tc),
+    (Kind::Tc, NEAR, false, Which::One, 501, Kind::Arqc),
+    (Kind::Tc, NEAR, false, Which::Neither, 500, Kind::Arqc),
+    (Kind::Tc, NEAR, true, Which::One, 500, Kind::Aac),
     (
         Kind::Tc,
-        AppState {
+        Counts {
             blocked: true,
             ..NEAR
         },
         false,
-        true,
+        Which::One,
         500,
         Kind::Aac,
     ),
     (
         Kind::Tc,
-        AppState {
+        Counts {
             auth_failed: true,
             ..NEAR
         },
         false,
-        true,
+        Which::One,
         500,
         Kind::Arqc,
     ),
     (
         Kind::Tc,
-        AppState { count: 5, ..NEAR },
+        Counts { count: 5, ..NEAR },
         false,
-        true,
+        Which::One,
         0,
         Kind::Arqc,
     ),
     (
         Kind::Tc,
-        AppState {
+        Counts {
             count: 255,
             count_limit: 255,
             ..NEAR
         },
         false,
-        true,
+        Which::One,
         0,
         Kind::Arqc,
     ),
     (
         Kind::Tc,
-        AppState {
+        Counts {
             sum: 20_001,
             ..NEAR
         },
         false,
-        true,
+        Which::One,
         0,
         Kind::Arqc,
     ),
     (
         Kind::Tc,
-        AppState {
+        Counts {
             sum: u64::MAX,
             sum_limit: u64::MAX,
             ..NEAR
         },
         false,
-        true,
+        Which::One,
         1,
         Kind::Arqc,
     ),
-    (Kind::Arqc, NEAR, false, true, 0, Kind::Arqc),
-    (Kind::Arqc, NEAR, true, true, 0, Kind::Aac),
-    (Kind::Aac, NEAR, false, true, 0, Kind::Aac),
+    (Kind::Tc, NEAR, false, Which::Two, 300, Kind::Tc),
+    (Kind::Tc, NEAR, false, Which::Two, 301, Kind::Arqc),
+    (
+        Kind::Tc,
+        Counts { count: 5, ..NEAR },
+        false,
+        Which::Two,
+        1,
+        Kind::Arqc,
+    ),
+    (Kind::Arqc, NEAR, false, Which::One, 0, Kind::Arqc),
+    (Kind::Arqc, NEAR, true, Which::One, 0, Kind::Aac),
+    (Kind::Aac, NEAR, false, Which::One, 0, Kind::Aac),
 ];
 
 #[test]
 fn first_cryptograms_by_the_policy(rt: HostRuntime) {
-    for (asked, state, blocked, same_currency, amount, wanted) in FIRSTS {
+    for (asked, counts, blocked, which, amount, wanted) in FIRSTS {
         assert_eq!(rt;
-            first(asked, &state, blocked, same_currency, amount),
+            first(asked, &state_of(counts), blocked, which, amount),
             wanted
         );
     }
 }
 
-/// What is asked, the state, whether the card is blocked, the amount, whether the issuer was
+/// What is asked, the state, whether the card is blocked, the amount, how the issuer was
 /// authenticated, the response code, whether the profile has issuer authentication, and the cryptogram by
 /// the written policy.
-const SECONDS: [(Kind, AppState, bool, u64, bool, [u8; 2], bool, (Kind, How)); 12] = [
+const SECONDS: [(Kind, Counts, bool, u64, Auth, [u8; 2], bool, (Kind, How)); 17] = [
     (
         Kind::Tc,
         NEAR,
         false,
         900,
-        true,
+        Auth::One,
         *b"00",
         true,
         (Kind::Tc, How::Authenticated),
@@ -120,7 +159,7 @@ const SECONDS: [(Kind, AppState, bool, u64, bool, [u8; 2], bool, (Kind, How)); 1
         NEAR,
         false,
         900,
-        true,
+        Auth::One,
         *b"Y3",
         true,
         (Kind::Tc, How::Authenticated),
@@ -130,7 +169,7 @@ const SECONDS: [(Kind, AppState, bool, u64, bool, [u8; 2], bool, (Kind, How)); 1
         NEAR,
         false,
         500,
-        false,
+        Auth::Absent,
         *b"Y3",
         true,
         (Kind::Tc, How::Offline),
@@ -140,7 +179,7 @@ const SECONDS: [(Kind, AppState, bool, u64, bool, [u8; 2], bool, (Kind, How)); 1
         NEAR,
         false,
         501,
-        false,
+        Auth::Absent,
         *b"Y3",
         false,
         (Kind::Aac, How::Offline),
@@ -150,7 +189,7 @@ const SECONDS: [(Kind, AppState, bool, u64, bool, [u8; 2], bool, (Kind, How)); 1
         NEAR,
         false,
         500,
-        false,
+        Auth::Absent,
         *b"00",
         true,
         (Kind::Aac, How::Alone),
@@ -160,7 +199,7 @@ const SECONDS: [(Kind, AppState, bool, u64, bool, [u8; 2], bool, (Kind, How)); 1
         NEAR,
         false,
         900,
-        false,
+        Auth::Absent,
         *b"00",
         false,
         (Kind::Tc, How::Alone),
@@ -170,7 +209,7 @@ const SECONDS: [(Kind, AppState, bool, u64, bool, [u8; 2], bool, (Kind, How)); 1
         NEAR,
         false,
         500,
-        false,
+        Auth::Absent,
         *b"Z3",
         true,
         (Kind::Aac, How::Alone),
@@ -180,7 +219,7 @@ const SECONDS: [(Kind, AppState, bool, u64, bool, [u8; 2], bool, (Kind, How)); 1
         NEAR,
         true,
         500,
-        false,
+        Auth::Absent,
         *b"Y3",
         false,
         (Kind::Aac, How::Alone),
@@ -190,20 +229,20 @@ const SECONDS: [(Kind, AppState, bool, u64, bool, [u8; 2], bool, (Kind, How)); 1
         NEAR,
         true,
         500,
-        true,
+        Auth::One,
         *b"00",
         true,
         (Kind::Aac, How::Authenticated),
     ),
     (
         Kind::Tc,
-        AppState {
+        Counts {
             blocked: true,
             ..NEAR
         },
         false,
         500,
-        false,
+        Auth::Absent,
         *b"00",
         false,
         (Kind::Aac, How::Alone),
@@ -213,7 +252,7 @@ const SECONDS: [(Kind, AppState, bool, u64, bool, [u8; 2], bool, (Kind, How)); 1
         NEAR,
         false,
         500,
-        false,
+        Auth::Absent,
         *b"05",
         false,
         (Kind::Aac, How::Alone),
@@ -223,23 +262,73 @@ const SECONDS: [(Kind, AppState, bool, u64, bool, [u8; 2], bool, (Kind, How)); 1
         NEAR,
         false,
         500,
-        true,
+        Auth::One,
         *b"05",
         true,
         (Kind::Aac, How::Authenticated),
+    ),
+    (
+        Kind::Tc,
+        NEAR,
+        false,
+        900,
+        Auth::Two([0x80, 0x80, 0, 0]),
+        *b"00",
+        true,
+        (Kind::Tc, How::Authenticated),
+    ),
+    (
+        Kind::Tc,
+        NEAR,
+        false,
+        900,
+        Auth::Two([0x80, 0x7F, 0, 0]),
+        *b"00",
+        true,
+        (Kind::Tc, How::Held),
+    ),
+    (
+        Kind::Tc,
+        NEAR,
+        false,
+        500,
+        Auth::Two([0x7F, 0x80, 0, 0]),
+        *b"Y3",
+        true,
+        (Kind::Aac, How::Authenticated),
+    ),
+    (
+        Kind::Tc,
+        NEAR,
+        true,
+        500,
+        Auth::Two([0x80, 0, 0, 0]),
+        *b"00",
+        true,
+        (Kind::Aac, How::Held),
+    ),
+    (
+        Kind::Aac,
+        NEAR,
+        false,
+        500,
+        Auth::Two([0, 0, 0, 0]),
+        *b"51",
+        true,
+        (Kind::Aac, How::Held),
     ),
 ];
 
 #[test]
 fn second_cryptograms_by_the_policy(rt: HostRuntime) {
-    for (asked, state, blocked, amount, right, code, issuer_auth, wanted) in SECONDS {
+    for (asked, counts, blocked, amount, auth, code, issuer_auth, wanted) in SECONDS {
         let made = second(
             asked,
-            &state,
+            &state_of(counts),
             blocked,
-            true,
+            Which::One,
             amount,
-            right,
+            auth,
             code,
             issuer_auth,
         );
@@ -248,7 +337,22 @@ fn second_cryptograms_by_the_policy(rt: HostRuntime) {
 }
 
 #[test]
-fn a_second_cryptogram_in_another_currency_declines(rt: HostRuntime) {
-    let made = second(Kind::Tc, &NEAR, false, false, 500, false, *b"Y3", false);
-    assert_eq!(rt; made, (Kind::Aac, How::Offline));
+fn second_cryptograms_in_other_currencies(rt: HostRuntime) {
+    for (which, amount, wanted) in [
+        (Which::Two, 300, Kind::Tc),
+        (Which::Two, 301, Kind::Aac),
+        (Which::Neither, 1, Kind::Aac),
+    ] {
+        let made = second(
+            Kind::Tc,
+            &state_of(NEAR),
+            false,
+            which,
+            amount,
+            Auth::Absent,
+            *b"Y3",
+            false,
+        );
+        assert_eq!(rt; made, (wanted, How::Offline));
+    }
 }

@@ -5,36 +5,39 @@ use Rattle.std.specs.List.{fold, list_any}
 use Rattle.std.proofs.lemmas.List.Sums.{fold-append}
 use Rattle.apdu_core.specs.Command.{CommandData, command_of}
 use Rattle.apdu_core.specs.Response.{ResponseData, response_of}
-use Rattle.card_app.specs.Selection.{found}
-use Rattle.card_app.specs.Session.{Exchange, after, after_said, authenticated, begun, first_in, is_request, is_shown, next_phase, phase_of, selected, started, with_cryptogram}
+use Rattle.card_app.specs.Selection.{found, directory_asked}
+use Rattle.card_app.specs.Session.{Exchange, after, after_said, after_select, authenticated, begun, first_in, is_request, is_shown, directory_selected, next_phase, phase_of, selected, started, with_cryptogram}
+use Rattle.card_cryptogram.specs.Authentication.{told_by}
 use Rattle.card_cryptogram.specs.Bodies.{kind_in}
 use Rattle.card_cryptogram.specs.declared.phase.First.{First}
 use Rattle.card_cryptogram.specs.declared.phase.Phase.{Phase}
-use Rattle.card_cryptogram.specs.declared.phase.Phase.TheVariants.{Idle, Selected, Started, Online, Closed, Done}
-use Rattle.card_files.specs.Views.{AppData}
-use Rattle.card_sessions.specs.Told.{Turn, Selects, Opens, Makes, Authenticates, Other, turn_said, turn_of, is_selection, behind_opening, Made, first_made, sent_in, told_request, told_made, told_of, BeginsIdle, IsTold}
+use Rattle.card_cryptogram.specs.declared.phase.Phase.TheVariants.{Idle, Directory, Selected, Started, Online, Closed, Done}
+use Rattle.card_files.specs.Views.{AppData, ImageData}
+use Rattle.card_state.specs.declared.decision.Auth.{Auth}
+use Rattle.card_state.specs.declared.decision.Auth.TheVariants.{Absent}
+use Rattle.card_sessions.specs.Told.{Turn, Selects, Opens, Makes, Authenticates, Other, turn_said, turn_of, is_selection, behind_opening, Made, first_made, sent_in, told_request, told_made, told_of, BeginsIdle, IsTold, StaysInDirectory}
 
-module _ (image : List AppData) where
+module _ (image : ImageData) where
   -- what a turn makes of a phase
   abbrev turned : Phase → Turn → Phase
-  turned phase (Selects p2 name) = selected (found image phase p2 name) phase
+  turned phase (Selects p2 name) = directory_selected (directory_asked image p2 name) (selected (found image.apps phase p2 name) phase)
   turned phase Opens = started phase
   turned phase (Makes filled body) = with_cryptogram image filled body phase
-  turned phase (Authenticates right) = authenticated right phase
+  turned phase (Authenticates auth) = authenticated auth phase
   turned phase Other = phase
 
   by_tests : (phase : Phase) (c : CommandData) (body : List ℕ) (selects opens makes authenticates shown done failed : Bool)
-      → (if selects then (if shown then selected (found image phase c.p2 c.body) phase else phase)
+      → (if selects then (if shown then after_select image phase c else phase)
       else if opens then (if done then started phase else phase)
       else if makes then (if done then with_cryptogram image c.body body phase else phase)
       else if authenticates then
-      (if done then authenticated true phase else if failed then authenticated false phase else phase)
+      (if done then authenticated (told_by c.body) phase else if failed then authenticated Absent phase else phase)
       else phase)
       ≡ turned phase
       (if selects then (if shown then Selects c.p2 c.body else Other)
       else if opens then (if done then Opens else Other)
       else if makes then (if done then Makes c.body body else Other)
-      else if authenticates then (if done then Authenticates true else if failed then Authenticates false else Other)
+      else if authenticates then (if done then Authenticates (told_by c.body) else if failed then Authenticates Absent else Other)
       else Other)
   by_tests phase c body true opens makes authenticates true done failed = refl
   by_tests phase c body true opens makes authenticates false done failed = refl
@@ -72,8 +75,17 @@ module _ (image : List AppData) where
   idle_stays (Selects p2 name ∷ ts) none = cc
   idle_stays (Opens ∷ ts) none = idle_stays ts none
   idle_stays (Makes filled body ∷ ts) none = idle_stays ts none
-  idle_stays (Authenticates right ∷ ts) none = idle_stays ts none
+  idle_stays (Authenticates auth ∷ ts) none = idle_stays ts none
   idle_stays (Other ∷ ts) none = idle_stays ts none
+
+  directory_stays : (ts : List Turn) → list_any is_selection ts ≡ false → after_turns Directory ts ≡ Directory
+  unfolding after_turns
+  directory_stays [] none = refl
+  directory_stays (Selects p2 name ∷ ts) none = cc
+  directory_stays (Opens ∷ ts) none = directory_stays ts none
+  directory_stays (Makes filled body ∷ ts) none = directory_stays ts none
+  directory_stays (Authenticates auth ∷ ts) none = directory_stays ts none
+  directory_stays (Other ∷ ts) none = directory_stays ts none
 
   closed_stays : (app : ℕ) (ts : List Turn) → list_any is_selection ts ≡ false → after_turns (Closed app) ts ≡ Closed app
   unfolding after_turns
@@ -81,7 +93,7 @@ module _ (image : List AppData) where
   closed_stays app (Selects p2 name ∷ ts) none = cc
   closed_stays app (Opens ∷ ts) none = closed_stays app ts none
   closed_stays app (Makes filled body ∷ ts) none = closed_stays app ts none
-  closed_stays app (Authenticates right ∷ ts) none = closed_stays app ts none
+  closed_stays app (Authenticates auth ∷ ts) none = closed_stays app ts none
   closed_stays app (Other ∷ ts) none = closed_stays app ts none
 
   done_stays : (app : ℕ) (first : First) (ts : List Turn) → list_any is_selection ts ≡ false → after_turns (Done app first) ts ≡ Done app first
@@ -90,10 +102,10 @@ module _ (image : List AppData) where
   done_stays app first (Selects p2 name ∷ ts) none = cc
   done_stays app first (Opens ∷ ts) none = done_stays app first ts none
   done_stays app first (Makes filled body ∷ ts) none = done_stays app first ts none
-  done_stays app first (Authenticates right ∷ ts) none = done_stays app first ts none
+  done_stays app first (Authenticates auth ∷ ts) none = done_stays app first ts none
   done_stays app first (Other ∷ ts) none = done_stays app first ts none
 
-  online_goes : (app : ℕ) (first : First) (sent : Option Bool) (ts : List Turn) → list_any is_selection ts ≡ false
+  online_goes : (app : ℕ) (first : First) (sent : Option Auth) (ts : List Turn) → list_any is_selection ts ≡ false
       → after_turns (Online app first sent) ts ≡ told_request app first sent ts (first_made ts)
   unfolding first_made sent_in after_turns
   online_goes app first sent [] none = refl
@@ -104,9 +116,9 @@ module _ (image : List AppData) where
       same_sent None = refl
       same_sent (Some made) = refl
   online_goes app first sent (Makes filled body ∷ ts) none = done_stays app first ts none
-  online_goes app first sent (Authenticates right ∷ ts) none = online_goes app first (Some right) ts none ∙ same_sent (first_made ts)
+  online_goes app first sent (Authenticates auth ∷ ts) none = online_goes app first (Some auth) ts none ∙ same_sent (first_made ts)
     where
-      same_sent : (m : Option Made) → told_request app first (Some right) ts m ≡ told_request app first sent (Authenticates right ∷ ts) m
+      same_sent : (m : Option Made) → told_request app first (Some auth) ts m ≡ told_request app first sent (Authenticates auth ∷ ts) m
       same_sent None = refl
       same_sent (Some made) = refl
   online_goes app first sent (Other ∷ ts) none = online_goes app first sent ts none ∙ same_sent (first_made ts)
@@ -115,7 +127,7 @@ module _ (image : List AppData) where
       same_sent None = refl
       same_sent (Some made) = refl
 
-  module _ (app : ℕ) (a : AppData) (here : slice_get image app ≡ Some a) where
+  module _ (app : ℕ) (a : AppData) (here : slice_get image.apps app ≡ Some a) where
     begun_is : (filled body : List ℕ) → with_cryptogram image filled body (Started app) ≡ begun app a filled body
     begun_is filled body = rw here refl
 
@@ -133,7 +145,7 @@ module _ (image : List AppData) where
     started_goes (Makes filled body ∷ ts) none =
         ap (λ (p : Phase). after_turns p ts) (begun_is filled body)
         ∙ begun_goes filled body (is_request (kind_in a.ac_format body)) ts none
-    started_goes (Authenticates right ∷ ts) none = started_goes ts none
+    started_goes (Authenticates auth ∷ ts) none = started_goes ts none
     started_goes (Other ∷ ts) none = started_goes ts none
 
     selected_goes : (ts : List Turn) → list_any is_selection ts ≡ false → after_turns (Selected app) ts ≡ told_of a app ts
@@ -142,7 +154,7 @@ module _ (image : List AppData) where
     selected_goes (Selects p2 name ∷ ts) none = cc
     selected_goes (Opens ∷ ts) none = started_goes ts none
     selected_goes (Makes filled body ∷ ts) none = selected_goes ts none
-    selected_goes (Authenticates right ∷ ts) none = selected_goes ts none
+    selected_goes (Authenticates auth ∷ ts) none = selected_goes ts none
     selected_goes (Other ∷ ts) none = selected_goes ts none
 
   pub begins_idle : BeginsIdle image
@@ -151,13 +163,27 @@ module _ (image : List AppData) where
 
   pub is_told : IsTold image
   unfolding phase_of
-  is_told before x behind app a (p2, name, turn, finds) here none =
+  is_told before x behind app a (p2, name, turn, other, finds) here none =
       let at : Phase = phase_of image before in
       let chosen : after image at x ≡ Selected app =
       said_is at (command_of x.command) (response_of x.answer)
       ∙ ap (λ (t : Turn). turned at t) turn
+      ∙ ap (λ (o : Option ℕ). directory_selected o (selected (found image.apps at p2 name) at)) other
       ∙ ap (λ (o : Option ℕ). selected o at) finds in
       fold-append (after image) Idle before (x ∷ behind)
       ∙ ap (λ (p : Phase). fold (after image) p behind) chosen
       ∙ folded (Selected app) behind
       ∙ selected_goes app a here (map turn_of behind) none
+
+  pub in_directory : StaysInDirectory image
+  unfolding phase_of
+  in_directory before x behind (p2, name, sfi, turn, asked) none =
+      let at : Phase = phase_of image before in
+      let chosen : after image at x ≡ Directory =
+      said_is at (command_of x.command) (response_of x.answer)
+      ∙ ap (λ (t : Turn). turned at t) turn
+      ∙ ap (λ (o : Option ℕ). directory_selected o (selected (found image.apps at p2 name) at)) asked in
+      fold-append (after image) Idle before (x ∷ behind)
+      ∙ ap (λ (p : Phase). fold (after image) p behind) chosen
+      ∙ folded Directory behind
+      ∙ directory_stays (map turn_of behind) none

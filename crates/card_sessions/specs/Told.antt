@@ -3,21 +3,24 @@ use Rattle.std.specs.Prelude.{◌≡◌, ℕ, ◌==◌, ◌++◌, Bool, true, fa
 use Rattle.std.specs.List.{list_any}
 use Rattle.apdu_core.specs.Command.{CommandData, command_of}
 use Rattle.apdu_core.specs.Response.{ResponseData, response_of}
-use Rattle.card_app.specs.Selection.{found}
+use Rattle.card_app.specs.Selection.{found, directory_asked}
 use Rattle.card_app.specs.Session.{Exchange, first_in, is_request, is_shown, phase_of}
+use Rattle.card_cryptogram.specs.Authentication.{told_by}
 use Rattle.card_cryptogram.specs.Bodies.{kind_in}
 use Rattle.card_cryptogram.specs.declared.phase.First.{First}
 use Rattle.card_cryptogram.specs.declared.phase.Phase.{Phase}
-use Rattle.card_cryptogram.specs.declared.phase.Phase.TheVariants.{Idle, Selected, Started, Online, Closed, Done}
-use Rattle.card_files.specs.Views.{AppData}
+use Rattle.card_cryptogram.specs.declared.phase.Phase.TheVariants.{Idle, Directory, Selected, Started, Online, Closed, Done}
+use Rattle.card_files.specs.Views.{AppData, ImageData}
+use Rattle.card_state.specs.declared.decision.Auth.{Auth}
+use Rattle.card_state.specs.declared.decision.Auth.TheVariants.{Absent}
 
 -- what an exchange counts as: a SELECT that gave file control information, processing options that were given, a
--- cryptogram that was made, or an issuer authentication that was right or not
+-- cryptogram that was made, or an issuer authentication and how it came out
 pub data Turn : Type 0 where
   Selects : (p2 : ℕ) (name : List ℕ) → Turn
   Opens : Turn
   Makes : (filled body : List ℕ) → Turn
-  Authenticates : (right : Bool) → Turn
+  Authenticates : (auth : Auth) → Turn
   Other : Turn
 
 -- GET PROCESSING OPTIONS and GENERATE AC count where they were answered 9000, SELECT also where it was answered 6283,
@@ -27,7 +30,7 @@ turn_in c body status =
     if c.ins == 0xA4 then (if is_shown status then Selects c.p2 c.body else Other)
     else if c.ins == 0xA8 then (if status == 0x9000 then Opens else Other)
     else if c.ins == 0xAE then (if status == 0x9000 then Makes c.body body else Other)
-    else if c.ins == 0x82 then (if status == 0x9000 then Authenticates true else if status == 0x6300 then Authenticates false else Other)
+    else if c.ins == 0x82 then (if status == 0x9000 then Authenticates (told_by c.body) else if status == 0x6300 then Authenticates Absent else Other)
     else Other
 
 abbrev pub turn_said : Option CommandData → Option ResponseData → Turn
@@ -42,7 +45,7 @@ abbrev pub is_selection : Turn → Bool
 is_selection (Selects p2 name) = true
 is_selection Opens = false
 is_selection (Makes filled body) = false
-is_selection (Authenticates right) = false
+is_selection (Authenticates auth) = false
 is_selection Other = false
 
 -- the turns behind the first processing options that were given
@@ -51,7 +54,7 @@ behind_opening [] = None
 behind_opening (Opens ∷ ts) = Some ts
 behind_opening (Selects p2 name ∷ ts) = behind_opening ts
 behind_opening (Makes filled body ∷ ts) = behind_opening ts
-behind_opening (Authenticates right ∷ ts) = behind_opening ts
+behind_opening (Authenticates auth ∷ ts) = behind_opening ts
 behind_opening (Other ∷ ts) = behind_opening ts
 
 -- a cryptogram, made for these data and answered in this body, and the turns behind it
@@ -66,20 +69,20 @@ first_made [] = None
 first_made (Makes filled body ∷ ts) = Some (record { filled = filled; body = body; behind = ts })
 first_made (Selects p2 name ∷ ts) = first_made ts
 first_made (Opens ∷ ts) = first_made ts
-first_made (Authenticates right ∷ ts) = first_made ts
+first_made (Authenticates auth ∷ ts) = first_made ts
 first_made (Other ∷ ts) = first_made ts
 
--- whether the issuer was authenticated, by the last answer to it, or else as it stood before
-unfoldable pub sent_in : Option Bool → List Turn → Option Bool
+-- how the issuer was authenticated, by the last answer to it, or else as it stood before
+unfoldable pub sent_in : Option Auth → List Turn → Option Auth
 sent_in sent [] = sent
-sent_in sent (Authenticates right ∷ ts) = sent_in (Some right) ts
+sent_in sent (Authenticates auth ∷ ts) = sent_in (Some auth) ts
 sent_in sent (Selects p2 name ∷ ts) = sent_in sent ts
 sent_in sent (Opens ∷ ts) = sent_in sent ts
 sent_in sent (Makes filled body ∷ ts) = sent_in sent ts
 sent_in sent (Other ∷ ts) = sent_in sent ts
 
 -- behind a first request to go online: online, and done with a second cryptogram
-abbrev pub told_request : ℕ → First → Option Bool → List Turn → Option Made → Phase
+abbrev pub told_request : ℕ → First → Option Auth → List Turn → Option Made → Phase
 told_request app first sent behind None = Online app first (sent_in sent behind)
 told_request app first sent behind (Some second) = Done app first
 
@@ -105,16 +108,27 @@ abbrev pub SelectsNone : List Exchange → Type 0
 SelectsNone session = list_any is_selection (map turn_of session) ≡ false
 
 -- the exchange is a SELECT that gave the file control information of this application
-abbrev pub IsSelection : List AppData → List Exchange → Exchange → ℕ → Type 0
-IsSelection image before x app = (p2 : ℕ) × (name : List ℕ) × (turn_of x ≡ Selects p2 name) × (found image (phase_of image before) p2 name ≡ Some app)
+abbrev pub IsSelection : ImageData → List Exchange → Exchange → ℕ → Type 0
+IsSelection image before x app =
+    (p2 : ℕ) × (name : List ℕ) × (turn_of x ≡ Selects p2 name) × (directory_asked image p2 name ≡ None) × (found image.apps (phase_of image before) p2 name ≡ Some app)
+
+-- or that of the payment system directory
+abbrev pub IsOfDirectory : ImageData → Exchange → Type 0
+IsOfDirectory image x = (p2 : ℕ) × (name : List ℕ) × (sfi : ℕ) × (turn_of x ≡ Selects p2 name) × (directory_asked image p2 name ≡ Some sfi)
 
 -- without such a SELECT a card is at the start of its session
-abbrev pub BeginsIdle : List AppData → Type 0
+abbrev pub BeginsIdle : ImageData → Type 0
 BeginsIdle image = (session : List Exchange) → SelectsNone session → phase_of image session ≡ Idle
 
 -- the last such SELECT, and the exchanges behind it, make the phase
-abbrev pub IsTold : List AppData → Type 0
+abbrev pub IsTold : ImageData → Type 0
 IsTold image =
     (before : List Exchange) (x : Exchange) (behind : List Exchange) (app : ℕ) (a : AppData)
-    → IsSelection image before x app → slice_get image app ≡ Some a → SelectsNone behind
+    → IsSelection image before x app → slice_get image.apps app ≡ Some a → SelectsNone behind
     → phase_of image (before ++ x ∷ behind) ≡ told_of a app (map turn_of behind)
+
+-- behind one of the directory no application is selected
+abbrev pub StaysInDirectory : ImageData → Type 0
+StaysInDirectory image =
+    (before : List Exchange) (x : Exchange) (behind : List Exchange) → IsOfDirectory image x → SelectsNone behind
+    → phase_of image (before ++ x ∷ behind) ≡ Directory

@@ -1,6 +1,7 @@
 //! The cards that are tried, and what is sent to them.
-ghost use Rattle.std.specs.Prelude.{◌≡◌, ◌<◌, true, OnOk, OnErr};
+ghost use Rattle.std.specs.Prelude.{◌≡◌, ◌<◌, ◌≤◌, true, OnOk, OnErr};
 ghost use Rattle.card_app.specs.SeenChip.{IsChipOn, IsChipOff, is_on};
+ghost use Rattle.card_files.specs.Kept.{IsDirectoryFile};
 
 use crate::send;
 use apdu_core::Answer;
@@ -49,6 +50,18 @@ pub(crate) enum Variant {
     NothingToTry,
     /// Its counter is FFFE.
     LastCounter,
+    /// A transaction log of ten rows.
+    LogOfTen,
+    /// A transaction log of one row, and no offline approval is within its limits.
+    LogOfOne,
+    /// A second currency with a limit of 3000, and a transaction log of five rows.
+    TwoCurrencies,
+    /// A payment system directory in file 1.
+    Directory,
+    /// Two names, and a directory in file 10.
+    TwoInDirectory,
+    /// Its state is in the older form, and no offline approval is within its limits.
+    OlderForm,
 }
 
 const AC_KEY: u128 = 0x0123_4567_89ab_cdef_fedc_ba98_7654_3210;
@@ -108,6 +121,11 @@ pub(crate) fn bytes_of(text: &str) -> ArrayVec<u8, 261> {
     bytes
 }
 
+/// The command of a line and its answer.
+pub(crate) fn halves_of(line: Line) -> (&'static str, &'static str) {
+    line.split_once(' ').unwrap_or((line, ""))
+}
+
 /// The key of the base card under an issuer's key.
 fn key_of(issuer: u128, pan: &Digits) -> Key16 {
     master_key(&Key16::new(issuer.to_be_bytes()), pan, 0x01)
@@ -119,6 +137,15 @@ fn record_of(alloc: Global, number: u8, text: &str) -> Result<RecordImage, Fail>
         number,
         bytes: bytes_of(text).as_slice().to_vec(alloc)?,
     })
+}
+
+/// The records of its one file.
+fn records_of(alloc: Global) -> Result<Vec<RecordImage>, Fail> {
+    let mut records = Vec::new(alloc);
+    records.push(record_of(alloc, 1, RECORD_1)?)?;
+    records.push(record_of(alloc, 2, RECORD_2)?)?;
+    records.push(record_of(alloc, 3, RECORD_3)?)?;
+    Ok(records)
 }
 
 /// The PIN try limit.
@@ -151,6 +178,43 @@ fn cdols_of(variant: Variant) -> (&'static str, &'static str) {
     }
 }
 
+/// The most rows of the transaction log.
+fn rows_of(variant: Variant) -> u8 {
+    match variant {
+        Variant::LogOfTen => 10,
+        Variant::LogOfOne => 1,
+        Variant::TwoCurrencies => 5,
+        _ => 0,
+    }
+}
+
+/// The greatest sum in the second currency.
+fn limit_two_of(variant: Variant) -> u64 {
+    match variant {
+        Variant::TwoCurrencies => 3_000,
+        _ => 0,
+    }
+}
+
+/// The second currency.
+fn second_of(variant: Variant) -> Option<[u8; 2]> {
+    match variant {
+        Variant::TwoCurrencies => Some([0x09, 0x78]),
+        _ => None,
+    }
+}
+
+/// The file of the payment system directory.
+fn directory_of(variant: Variant) -> Option<u8>
+    ensures { IsDirectoryFile result }
+{
+    match variant {
+        Variant::Directory => Some(1),
+        Variant::TwoInDirectory => Some(10),
+        _ => None,
+    }
+}
+
 /// The state before the first decision.
 pub(crate) fn opening_of(variant: Variant) -> AppState {
     AppState {
@@ -161,7 +225,11 @@ pub(crate) fn opening_of(variant: Variant) -> AppState {
         },
         last_online: 9,
         count_limit: match variant {
-            Variant::Online | Variant::NoIssuerAuth | Variant::OwnListsOnline => 0,
+            Variant::Online
+            | Variant::NoIssuerAuth
+            | Variant::OwnListsOnline
+            | Variant::LogOfOne
+            | Variant::OlderForm => 0,
             Variant::OneOffline => 1,
             _ => 5,
         },
@@ -176,6 +244,8 @@ pub(crate) fn opening_of(variant: Variant) -> AppState {
             Variant::NoPin | Variant::NothingToTry => [0; 8],
             _ => PIN_1234,
         },
+        limit_two: limit_two_of(variant),
+        log_max: rows_of(variant),
         ..AppState::default()
     }
 }
@@ -183,7 +253,7 @@ pub(crate) fn opening_of(variant: Variant) -> AppState {
 /// The profile.
 fn profile_of(variant: Variant) -> [u8; 2] {
     match variant {
-        Variant::FormatTwo | Variant::TwoNames => [0x00, 0x00],
+        Variant::FormatTwo | Variant::TwoNames | Variant::TwoInDirectory => [0x00, 0x00],
         Variant::NoIssuerAuth => [0x18, 0x00],
         _ => [0x1c, 0x00],
     }
@@ -204,10 +274,6 @@ fn app_of(
         1
     };
     let (cdol1, cdol2) = cdols_of(variant);
-    let mut records = Vec::new(alloc);
-    records.push(record_of(alloc, 1, RECORD_1)?)?;
-    records.push(record_of(alloc, 2, RECORD_2)?)?;
-    records.push(record_of(alloc, 3, RECORD_3)?)?;
     Ok(AppImage {
         name: Name::new(bytes_of(name).as_slice()).expect(rt, "a name"),
         label: b"CREDIT".to_vec(alloc)?,
@@ -219,8 +285,12 @@ fn app_of(
         ac_format: format,
         cdol1: bytes_of(cdol1).as_slice().to_vec(alloc)?,
         cdol2: bytes_of(cdol2).as_slice().to_vec(alloc)?,
-        records,
+        records: records_of(alloc)?,
         ac_key: key_of(AC_KEY, &pan),
+        currency_two: second_of(variant),
+        limit_two: limit_two_of(variant),
+        log: rows_of(variant),
+        log_sfi: 11,
         mac_key: key_of(MAC_KEY, &pan),
         enc_key: key_of(ENC_KEY, &pan),
         pan,
@@ -231,47 +301,54 @@ fn app_of(
     })
 }
 
+/// The form of the state before the first decision.
+fn version_of(variant: Variant) -> u8
+    ensures { (1 ≤ result) × (result ≤ 2) }
+{
+    match variant {
+        Variant::OlderForm => 1,
+        _ => 2,
+    }
+}
+
 /// The image of a card.
 pub(crate) fn image_of(rt: &impl Abort, alloc: Global, variant: Variant) -> Result<Image, Fail> {
     let mut apps = Vec::new(alloc);
-    if variant == Variant::TwoNames {
+    if matches!(variant, Variant::TwoNames | Variant::TwoInDirectory) {
         apps.push(app_of(rt, alloc, variant, "a000000003101001", 2)?)?;
         apps.push(app_of(rt, alloc, variant, "a000000003101002", 1)?)?;
     } else {
         apps.push(app_of(rt, alloc, variant, "a0000000031010", 1)?)?;
     }
-    Ok(Image::new(apps).expect(rt, "an image"))
+    Ok(Image::new(apps, version_of(variant), directory_of(variant)).expect(rt, "an image"))
 }
 
-/// A command and its answer.
-pub(crate) type Line = (&'static str, &'static str);
+/// A command and its answer, with a space between them.
+pub(crate) type Line = &'static str;
 
-pub(crate) const SELECT: Line = (
-    "00a4040007a000000003101000",
-    "6f168407a0000000031010a50b50064352454449548701019000",
-);
+pub(crate) const SELECT: Line =
+    "00a4040007a000000003101000 6f168407a0000000031010a50b50064352454449548701019000";
 
-pub(crate) const OPTIONS: Line = ("80a8000002830000", "80061c00080103009000");
+pub(crate) const OPTIONS: Line = "80a8000002830000 80061c00080103009000";
 
-pub(crate) const VERIFY: Line = ("0020008008241234ffffffffff", "9000");
+pub(crate) const VERIFY: Line = "0020008008241234ffffffffff 9000";
 
-/// The first GENERATE AC, which asks for TC.
-pub(crate) const FIRST: &str =
-    "80ae40001d000000002500000000000000084080000000000840240615000102030400";
+/// The first GENERATE AC, which asks for TC and is answered by a request to go online.
+pub(crate) const REQUEST: Line =
+    "80ae40001d000000002500000000000000084080000000000840240615000102030400 801180000b204bb40db680038e0180000003019000";
 
-/// A request to go online.
-pub(crate) const REQUEST: Line = (FIRST, "801180000b204bb40db680038e0180000003019000");
+/// The first GENERATE AC, which asks for TC and is approved.
+pub(crate) const OFFLINE: Line =
+    "80ae40001d000000002500000000000000084080000000000840240615000102030400 801140000b6114ff966d2fd2320140000103019000";
 
-pub(crate) const AUTHENTICATE: Line = ("008200000a0e66769950e1f3be3030", "9000");
+pub(crate) const AUTHENTICATE: Line = "008200000a0e66769950e1f3be3030 9000";
 
 /// The second GENERATE AC, which asks for TC with code 00.
-pub(crate) const SECOND: &str =
-    "80ae40001f3030000000002500000000000000084080000000000840240615000102030400";
-
-pub(crate) const APPROVED: Line = (SECOND, "801140000b4d89bb8933ef3e9b0140000003019000");
+pub(crate) const APPROVED: Line =
+    "80ae40001f3030000000002500000000000000084080000000000840240615000102030400 801140000b4d89bb8933ef3e9b0140000003019000";
 
 /// GET PROCESSING OPTIONS once more.
-pub(crate) const OPTIONS_AGAIN: Line = ("80a8000002830000", "6985");
+pub(crate) const OPTIONS_AGAIN: Line = "80a8000002830000 6985";
 
 /// Sends commands to a card that is on, until its power is gone. Each has to have this answer, and one
 /// that is cut has none.
@@ -288,7 +365,8 @@ pub(crate) fn go_through<'i, P: Pages>(
 {
     match session {
         [] => Ok(()),
-        [(command, answer), rest @ ..] => {
+        [line, rest @ ..] => {
+            let (command, answer) = halves_of(line);
             let mut out = Answer::new();
             match send(chip, bytes_of(command).as_slice(), &mut out) {
                 Ok(()) => {

@@ -1,14 +1,15 @@
 //! A law on how far a card has come.
-ghost use Rattle.std.specs.Prelude.{List};
-ghost use Rattle.card_files.specs.Views.{AppData};
-ghost use Rattle.card_sessions.specs.Told.{BeginsIdle, IsTold};
+ghost use Rattle.card_files.specs.Views.{ImageData};
+ghost use Rattle.card_sessions.specs.Told.{BeginsIdle, IsTold, StaysInDirectory};
 
 /// The phase of a card is what the last SELECT that was answered with file control information, and the
-/// answers behind it, make of it: idle where there is no such SELECT, selected before a GET PROCESSING
+/// answers behind it, make of it: idle where there is no such SELECT, in the directory where it is the
+/// directory's, and behind that of an application selected before a GET PROCESSING
 /// OPTIONS that was answered 9000, started before a first cryptogram, online behind a first request to go
 /// online alone, closed behind a first cryptogram of another kind, and done behind two. EXTERNAL
 /// AUTHENTICATE counts as sent where it was answered 9000 or 6300.
 pub fn phases_are_told()
-    ensures idle { (image : List AppData) → BeginsIdle image }
-    ensures told { (image : List AppData) → IsTold image }
+    ensures idle { (image : ImageData) → BeginsIdle image }
+    ensures told { (image : ImageData) → IsTold image }
+    ensures directory { (image : ImageData) → StaysInDirectory image }
 {}

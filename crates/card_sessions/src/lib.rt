@@ -90,6 +90,12 @@ pub fn turn_off<'i, P: Pages>(chip: &mut Chip<'i, P>)
 #[cfg(test)]
 mod cards;
 #[cfg(test)]
+mod directories;
+#[cfg(test)]
+mod issuers;
+#[cfg(test)]
+mod logs;
+#[cfg(test)]
 mod refusals;
 #[cfg(test)]
 mod sessions;

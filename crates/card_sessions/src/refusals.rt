@@ -3,7 +3,7 @@ ghost use Rattle.std.specs.Prelude.{◌≡◌, ◌<◌, length, None, false, tru
 ghost use Rattle.card_app.specs.SeenChip.{IsChipOn, is_on};
 
 use crate::cards::{
-    APPROVED, AUTHENTICATE, FIRST, Line, OPTIONS, REQUEST, SELECT, VERIFY, Variant, bytes_of,
+    APPROVED, AUTHENTICATE, Line, OFFLINE, OPTIONS, REQUEST, SELECT, VERIFY, Variant, bytes_of,
     go_through, image_of,
 };
 use crate::{send, turn_on};
@@ -21,15 +21,7 @@ const PHASES: [(Variant, &[Line]); 6] = [
     (Variant::Base, &[SELECT]),
     (Variant::Base, &[SELECT, OPTIONS]),
     (Variant::Online, &[SELECT, OPTIONS, VERIFY, REQUEST]),
-    (
-        Variant::Base,
-        &[
-            SELECT,
-            OPTIONS,
-            VERIFY,
-            (FIRST, "801140000b6114ff966d2fd2320140000103019000"),
-        ],
-    ),
+    (Variant::Base, &[SELECT, OPTIONS, VERIFY, OFFLINE]),
     (
         Variant::Online,
         &[SELECT, OPTIONS, VERIFY, REQUEST, AUTHENTICATE, APPROVED],

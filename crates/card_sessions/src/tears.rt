@@ -23,9 +23,9 @@ const PURCHASE: [Line; 8] = [
     VERIFY,
     REQUEST,
     AUTHENTICATE,
-    ("04dadf01090935c47f63c1704132", "9000"),
+    "04dadf01090935c47f63c1704132 9000",
     APPROVED,
-    ("8424000210b0869a45da56310b591ffd95cee7feef", "9000"),
+    "8424000210b0869a45da56310b591ffd95cee7feef 9000",
 ];
 
 /// The state behind so many decisions of the purchase: the counter is taken, a PIN try, the try is
@@ -136,6 +136,19 @@ fn try_plans<P: Pages>(rt: &impl Abort, image: &Image, pages: P, first: Tear, ag
     if let Some(state) = then {
         assert_eq!(rt; state, last, "{first:?}, {again:?}");
     }
+}
+
+/// A card whose state is in the older form is cut while its first power-up writes it anew.
+#[test]
+fn older_states_are_found_whole(rt: HostRuntime) -> Result<(), Fail> {
+    let image = image_of(&rt, rt.alloc(), Variant::OlderForm)?;
+    for first in 0..PLACES {
+        for again in 0..PLANS {
+            let pages = Held::new(rt.alloc(), MemoryPages::blank())?;
+            try_plans(&rt, &image, pages, plan_of(first), plan_of(again));
+        }
+    }
+    Ok(())
 }
 
 #[test]

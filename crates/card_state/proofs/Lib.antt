@@ -1,10 +1,14 @@
 pub mod AllowedLemmas
-mod AppLists
+mod Appended
 mod Applied
+mod Apps
+mod Bytes
 pub mod CardLemmas
+pub mod Decoded
 pub mod Encodable
-mod Heads
 pub mod LayoutLemmas
 mod Pushes
+pub mod ShortLogs
 pub mod TotalsLemmas
 pub mod Unused
+pub mod UpgradeLemmas

@@ -1,11 +1,19 @@
 -- What each decision of a card counts as, and what it gives.
-use Rattle.std.specs.Prelude.{ℕ, Bool, true, false, not, List, Option, Some, None, is_some}
+use Rattle.std.specs.Prelude.{ℕ, ◌+◌, ◌/◌, ◌%◌, ◌==◌, Bool, true, false, not, if◌then◌else◌, List, [], ◌∷◌, slice_index, Option, Some, None, is_some}
+use Rattle.std.specs.List.{cons_option}
+use Rattle.emv_dict.specs.Kinds.{kind_byte}
+use Rattle.emv_dict.specs.declared.ending.Kind.{Kind}
 use Rattle.emv_dict.specs.declared.ending.Kind.TheVariants.{Aac, Tc, Arqc}
-use Rattle.card_state.specs.declared.decision.How.TheVariants.{Authenticated as ByIssuer, Alone, Offline}
+use Rattle.card_state.specs.declared.decision.Which.{Which}
+use Rattle.card_state.specs.declared.decision.Which.TheVariants.{One, Two, Neither}
+use Rattle.card_state.specs.declared.decision.Sale.{Sale}
+use Rattle.card_state.specs.declared.decision.Steered.{Steered}
+use Rattle.card_state.specs.declared.decision.How.TheVariants.{Authenticated as ByIssuer, Held, Alone, Offline}
 use Rattle.card_state.specs.declared.decision.Scripted.{Scripted}
 use Rattle.card_state.specs.declared.decision.Scripted.TheVariants.{Block, Unblock, CardBlock, PinUnblock, PinChange, Count, Sum}
 use Rattle.card_state.specs.declared.decision.Decision.{Decision}
 use Rattle.card_state.specs.declared.decision.Decision.TheVariants.{Started, PinTry, PinRight, First, Authenticated, Script, Second}
+use Rattle.card_state.specs.declared.state.LogRow.{LogRow}
 
 -- a decision, and the number of the application that took it
 pub record Decided : Type 0 where
@@ -16,50 +24,124 @@ abbrev pub is_start : Decision → Bool
 is_start Started = true
 is_start PinTry = false
 is_start (PinRight limit) = false
-is_start (First kind amount currency) = false
-is_start (Authenticated right) = false
+is_start (First kind sale) = false
+is_start (Authenticated right steered) = false
 is_start (Script command) = false
-is_start (Second kind how amount) = false
+is_start (Second kind how sale) = false
 
 abbrev pub is_try : Decision → Bool
 is_try Started = false
 is_try PinTry = true
 is_try (PinRight limit) = false
-is_try (First kind amount currency) = false
-is_try (Authenticated right) = false
+is_try (First kind sale) = false
+is_try (Authenticated right steered) = false
 is_try (Script command) = false
-is_try (Second kind how amount) = false
+is_try (Second kind how sale) = false
 
--- a second cryptogram decided after right issuer authentication
+-- a second cryptogram that resets the totals
 abbrev pub is_reset : Decision → Bool
 is_reset Started = false
 is_reset PinTry = false
 is_reset (PinRight limit) = false
-is_reset (First kind amount currency) = false
-is_reset (Authenticated right) = false
+is_reset (First kind sale) = false
+is_reset (Authenticated right steered) = false
 is_reset (Script command) = false
-is_reset (Second kind ByIssuer amount) = true
-is_reset (Second kind Alone amount) = false
-is_reset (Second kind Offline amount) = false
+is_reset (Second kind ByIssuer sale) = true
+is_reset (Second kind Held sale) = false
+is_reset (Second kind Alone sale) = false
+is_reset (Second kind Offline sale) = false
 
--- the amount of an offline approval: a first TC, or a second TC of a card that decided offline
-abbrev pub offline_amount : Decision → Option ℕ
-offline_amount Started = None
-offline_amount PinTry = None
-offline_amount (PinRight limit) = None
-offline_amount (First Tc amount currency) = Some amount
-offline_amount (First Aac amount currency) = None
-offline_amount (First Arqc amount currency) = None
-offline_amount (Authenticated right) = None
-offline_amount (Script command) = None
-offline_amount (Second Tc Offline amount) = Some amount
-offline_amount (Second Tc ByIssuer amount) = None
-offline_amount (Second Tc Alone amount) = None
-offline_amount (Second Aac how amount) = None
-offline_amount (Second Arqc how amount) = None
+-- a second cryptogram behind a right issuer authentication, whether it resets the totals or not
+abbrev pub is_online : Decision → Bool
+is_online Started = false
+is_online PinTry = false
+is_online (PinRight limit) = false
+is_online (First kind sale) = false
+is_online (Authenticated right steered) = false
+is_online (Script command) = false
+is_online (Second kind ByIssuer sale) = true
+is_online (Second kind Held sale) = true
+is_online (Second kind Alone sale) = false
+is_online (Second kind Offline sale) = false
+
+-- the sale of an offline approval: a first TC, or a second TC of a card that decided offline
+abbrev pub offline_sale : Decision → Option Sale
+offline_sale Started = None
+offline_sale PinTry = None
+offline_sale (PinRight limit) = None
+offline_sale (First Tc sale) = Some sale
+offline_sale (First Aac sale) = None
+offline_sale (First Arqc sale) = None
+offline_sale (Authenticated right steered) = None
+offline_sale (Script command) = None
+offline_sale (Second Tc Offline sale) = Some sale
+offline_sale (Second Tc ByIssuer sale) = None
+offline_sale (Second Tc Held sale) = None
+offline_sale (Second Tc Alone sale) = None
+offline_sale (Second Aac how sale) = None
+offline_sale (Second Arqc how sale) = None
 
 abbrev pub is_offline_approval : Decision → Bool
-is_offline_approval d = is_some (offline_amount d)
+is_offline_approval d = is_some (offline_sale d)
+
+-- the application's currency, and its second one
+abbrev pub is_one : Which → Bool
+is_one One = true
+is_one Two = false
+is_one Neither = false
+
+abbrev pub is_two : Which → Bool
+is_two One = false
+is_two Two = true
+is_two Neither = false
+
+-- the amount of a sale that is in this currency
+abbrev pub amount_in : (Which → Bool) → Option Sale → Option ℕ
+amount_in own None = None
+amount_in own (Some sale) = (if own sale.which then Some sale.amount else None)
+
+-- a row of the transaction log: the sale, the counter that its decision finds, and the kind of the cryptogram
+abbrev pub row : ℕ → Kind → Sale → LogRow
+row counter kind sale = record { raw = sale.raw; currency = sale.currency; date = sale.date; counter = counter; kind = kind_byte kind }
+
+-- a first cryptogram that ends the transaction, and each second one, are logged
+abbrev pub row_given : ℕ → Decision → Option LogRow
+row_given counter Started = None
+row_given counter PinTry = None
+row_given counter (PinRight limit) = None
+row_given counter (First Tc sale) = Some (row counter Tc sale)
+row_given counter (First Aac sale) = Some (row counter Aac sale)
+row_given counter (First Arqc sale) = None
+row_given counter (Authenticated right steered) = None
+row_given counter (Script command) = None
+row_given counter (Second kind how sale) = Some (row counter kind sale)
+
+-- the rows of some decisions, oldest first, where the counter stands at this number before them
+unfoldable pub rows_from : ℕ → List Decision → List LogRow
+rows_from counter [] = []
+rows_from counter (d ∷ ds) = cons_option (row_given counter d) (rows_from (if is_start d then counter + 1 else counter) ds)
+
+-- the bits of the second byte of a card status update: b7 blocks the application, b6 the card, b5 restores the tries
+abbrev pub blocks : Steered → Bool
+blocks s = slice_index s.status 1 / 64 % 2 == 1
+
+abbrev pub blocks_whole : Steered → Bool
+blocks_whole s = slice_index s.status 1 / 32 % 2 == 1
+
+abbrev pub restores : Steered → Bool
+restores s = slice_index s.status 1 / 16 % 2 == 1
+
+abbrev pub block_steered : Option Steered → Option Bool
+block_steered None = None
+block_steered (Some s) = (if blocks s then Some true else None)
+
+abbrev pub tries_steered : Option Steered → Option ℕ
+tries_steered None = None
+tries_steered (Some s) = (if restores s then Some s.limit else None)
+
+abbrev pub card_steered : Option Steered → Bool
+card_steered None = false
+card_steered (Some s) = blocks_whole s
 
 -- the values that a decision gives to the fields of an application's state that are not counted
 pub record Given : Type 0 where
@@ -87,10 +169,10 @@ abbrev pub given : Decision → Given
 given Started = nothing
 given PinTry = nothing
 given (PinRight limit) = record nothing { tries = Some limit }
-given (First kind amount currency) = nothing
-given (Authenticated right) = record nothing { failure = Some (not right) }
+given (First kind sale) = nothing
+given (Authenticated right steered) = record nothing { tries = tries_steered steered; blocked = block_steered steered; failure = Some (not right) }
 given (Script command) = given_by_script command
-given (Second kind how amount) = nothing
+given (Second kind how sale) = nothing
 
 abbrev pub tries_given : Decision → Option ℕ
 tries_given d = (given d).tries
@@ -123,7 +205,7 @@ abbrev pub blocks_card : Decision → Bool
 blocks_card Started = false
 blocks_card PinTry = false
 blocks_card (PinRight limit) = false
-blocks_card (First kind amount currency) = false
-blocks_card (Authenticated right) = false
+blocks_card (First kind sale) = false
+blocks_card (Authenticated right steered) = card_steered steered
 blocks_card (Script command) = is_card_block command
-blocks_card (Second kind how amount) = false
+blocks_card (Second kind how sale) = false

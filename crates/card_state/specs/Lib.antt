@@ -5,3 +5,4 @@ pub mod Encoding
 pub mod Fits
 pub mod Layout
 pub mod Totals
+pub mod Upgrade

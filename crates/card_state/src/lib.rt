@@ -7,12 +7,14 @@ pub mod decision;
 pub mod decoding;
 pub mod encoding;
 pub mod state;
+pub mod upgrade;
 
 pub use change::{apply, changed};
-pub use decision::{Decision, How, Scripted};
-pub use decoding::decode;
-pub use encoding::{encode, flags};
-pub use state::{AppState, CardState};
+pub use decision::{Auth, Decision, How, Sale, Scripted, Steered, Which};
+pub use decoding::{decode, decode_one};
+pub use encoding::{encode, encode_one, flags};
+pub use state::{AppState, CardState, LogRow};
+pub use upgrade::with_limits;
 
 #[cfg(test)]
 mod tests;

@@ -1,4 +1,4 @@
-ghost use Rattle.std.specs.Prelude.{IsTrue};
+ghost use Rattle.std.specs.Prelude.{◌≤◌, IsTrue};
 ghost use Rattle.card_state.specs.Change.{MayDecide, WithinLimits};
 
 use super::*;
@@ -10,22 +10,28 @@ const PIN_1234: [u8; 8] = [0x24, 0x12, 0x34, 0xFF, 0xFF, 0xFF, 0xFF, 0xFF];
 
 const PIN_99999: [u8; 8] = [0x25, 0x99, 0x99, 0x9F, 0xFF, 0xFF, 0xFF, 0xFF];
 
-/// A card of two like applications.
-fn opening() -> CardState {
-    let mut apps = ArrayVec::new();
-    apps.push(OPENED);
-    apps.push(OPENED);
-    CardState {
-        blocked: false,
-        apps,
-    }
+/// What an application's state counts, without its log.
+#[derive(Clone, Copy, PartialEq, Eq, Debug)]
+struct Counts {
+    counter: u16,
+    last_online: u16,
+    count: u8,
+    sum: u64,
+    sum_two: u64,
+    count_limit: u8,
+    sum_limit: u64,
+    tries: u8,
+    blocked: bool,
+    auth_failed: bool,
+    pin: [u8; 8],
 }
 
-const OPENED: AppState = AppState {
+const OPENED: Counts = Counts {
     counter: 10,
     last_online: 9,
     count: 0,
     sum: 0,
+    sum_two: 0,
     count_limit: 5,
     sum_limit: 20000,
     tries: 3,
@@ -33,6 +39,55 @@ const OPENED: AppState = AppState {
     auth_failed: false,
     pin: PIN_1234,
 };
+
+/// A state with these counts, a limit of 30.00 in its second currency, and a log of at most three rows.
+fn app_of(counts: Counts) -> AppState {
+    let pin = counts.pin;
+    AppState {
+        counter: counts.counter,
+        last_online: counts.last_online,
+        count: counts.count,
+        sum: counts.sum,
+        count_limit: counts.count_limit,
+        sum_limit: counts.sum_limit,
+        tries: counts.tries,
+        blocked: counts.blocked,
+        auth_failed: counts.auth_failed,
+        pin,
+        sum_two: counts.sum_two,
+        limit_two: 3000,
+        log_max: 3,
+        log: ArrayVec::new(),
+    }
+}
+
+/// What a state counts.
+fn counts_of(app: &AppState) -> Counts {
+    Counts {
+        counter: app.counter,
+        last_online: app.last_online,
+        count: app.count,
+        sum: app.sum,
+        sum_two: app.sum_two,
+        count_limit: app.count_limit,
+        sum_limit: app.sum_limit,
+        tries: app.tries,
+        blocked: app.blocked,
+        auth_failed: app.auth_failed,
+        pin: app.pin,
+    }
+}
+
+/// A card of two like applications.
+fn opening() -> CardState {
+    let mut apps = ArrayVec::new();
+    apps.push(app_of(OPENED));
+    apps.push(app_of(OPENED));
+    CardState {
+        blocked: false,
+        apps,
+    }
+}
 
 /// Whether the state allows the decision.
 fn is_allowed(app: &AppState, decision: &Decision) -> bool
@@ -43,33 +98,72 @@ fn is_allowed(app: &AppState, decision: &Decision) -> bool
         Decision::PinTry => app.tries > 0,
         Decision::First {
             kind: Kind::Tc,
-            amount,
-            ..
-        } => is_within(app, *amount),
+            sale,
+        } => is_within(app, sale),
         Decision::Second {
             kind: Kind::Tc,
             how: How::Offline,
-            amount,
-        } => is_within(app, *amount),
+            sale,
+        } => is_within(app, sale),
         _ => true,
     }
+}
+
+/// Whether one more offline approval is within the limits.
+fn is_within(app: &AppState, sale: &Sale) -> bool
+    ensures { IsTrue result → WithinLimits app.now sale.now }
+{
+    if app.count >= app.count_limit {
+        return false;
+    }
+    match sale.which {
+        Which::One => app.sum <= app.sum_limit && sale.amount <= app.sum_limit - app.sum,
+        Which::Two => app.sum_two <= app.limit_two && sale.amount <= app.limit_two - app.sum_two,
+        Which::Neither => false,
+    }
+}
+
+/// Whether the log has at most ten rows by its limit.
+fn is_short(app: &AppState) -> bool
+    ensures { IsTrue result → app.now.log_max ≤ 10 }
+{
+    app.log_max <= 10
 }
 
 /// Takes the decision, or stops where the state doesn't allow it.
 fn take(rt: &impl Abort, state: &mut CardState, app: u8, decision: &Decision) {
     match state.apps.get(usize::from(app)) {
-        Some(found) => assert!(rt; is_allowed(found, decision)),
+        Some(found) => {
+            assert!(rt; is_allowed(found, decision));
+            assert!(rt; is_short(found));
+        }
         None => panic!(rt; "no such application"),
     }
     apply(state, app, decision);
 }
 
-/// Whether one more offline approval is within both limits.
-fn is_within(app: &AppState, amount: u64) -> bool
-    ensures { IsTrue result → WithinLimits app.now amount }
-{
-    app.count < app.count_limit && app.sum <= app.sum_limit && amount <= app.sum_limit - app.sum
-}
+/// A sale of 1.00 on 15 June 2024, in the application's currency.
+const SALE: Sale = Sale {
+    amount: 100,
+    raw: [0, 0, 0, 0, 0x01, 0x00],
+    currency: [0x08, 0x40],
+    date: [0x24, 0x06, 0x15],
+    which: Which::One,
+};
+
+/// One of 25.00.
+const SALE_2500: Sale = Sale {
+    amount: 2500,
+    raw: [0, 0, 0, 0, 0x25, 0x00],
+    ..SALE
+};
+
+/// One of 25.00 in the second currency.
+const SALE_TWO: Sale = Sale {
+    currency: [0x09, 0x78],
+    which: Which::Two,
+    ..SALE_2500
+};
 
 const STARTED: Decision = Decision::Started;
 
@@ -77,56 +171,52 @@ const TRY: Decision = Decision::PinTry;
 
 const ONLINE: Decision = Decision::First {
     kind: Kind::Arqc,
-    amount: 500,
-    currency: [0x08, 0x40],
+    sale: SALE,
+};
+
+const APPROVED: Decision = Decision::First {
+    kind: Kind::Tc,
+    sale: SALE_2500,
+};
+
+const APPROVED_TWO: Decision = Decision::First {
+    kind: Kind::Tc,
+    sale: SALE_TWO,
+};
+
+const REFUSED: Decision = Decision::First {
+    kind: Kind::Aac,
+    sale: SALE,
 };
 
 const FINISHED: Decision = Decision::Second {
     kind: Kind::Tc,
     how: How::Authenticated,
-    amount: 500,
+    sale: SALE,
 };
 
-const APPROVED_100: Decision = Decision::First {
-    kind: Kind::Tc,
-    amount: 100,
-    currency: [0x08, 0x40],
-};
-
-const APPROVED_700: Decision = Decision::First {
-    kind: Kind::Tc,
-    amount: 700,
-    currency: [0x08, 0x40],
-};
-
-const APPROVED_1000: Decision = Decision::First {
-    kind: Kind::Tc,
-    amount: 1000,
-    currency: [0x08, 0x40],
-};
-
-const APPROVED_2500: Decision = Decision::First {
-    kind: Kind::Tc,
-    amount: 2500,
-    currency: [0x08, 0x40],
+const HELD: Decision = Decision::Second {
+    kind: Kind::Aac,
+    how: How::Held,
+    sale: SALE,
 };
 
 const OFFLINE: Decision = Decision::Second {
     kind: Kind::Tc,
     how: How::Offline,
-    amount: 300,
+    sale: SALE,
 };
 
 const DECLINED: Decision = Decision::Second {
     kind: Kind::Aac,
     how: How::Offline,
-    amount: 300,
+    sale: SALE,
 };
 
 const ALONE: Decision = Decision::Second {
     kind: Kind::Tc,
     how: How::Alone,
-    amount: 300,
+    sale: SALE,
 };
 
 const RIGHT_PIN: Decision = Decision::PinRight { limit: 3 };
@@ -136,16 +226,22 @@ const CHANGE: Decision = Decision::Script(Scripted::PinChange {
     limit: 5,
 });
 
-const RIGHT: Decision = Decision::Authenticated { right: true };
+const RIGHT: Decision = Decision::Authenticated {
+    right: true,
+    steered: None,
+};
 
-const WRONG: Decision = Decision::Authenticated { right: false };
+const WRONG: Decision = Decision::Authenticated {
+    right: false,
+    steered: None,
+};
 
-/// Decisions of one application, and its state behind them, worked out by hand.
-const HISTORIES: [(&[Decision], AppState); 9] = [
+/// Decisions of one application, and what its state counts behind them, worked out by hand.
+const HISTORIES: [(&[Decision], Counts); 10] = [
     (&[], OPENED),
     (
-        &[STARTED, TRY, RIGHT_PIN, APPROVED_2500],
-        AppState {
+        &[STARTED, TRY, RIGHT_PIN, APPROVED],
+        Counts {
             counter: 11,
             count: 1,
             sum: 2500,
@@ -155,41 +251,54 @@ const HISTORIES: [(&[Decision], AppState); 9] = [
     (
         &[
             STARTED,
-            APPROVED_1000,
+            APPROVED_TWO,
+            APPROVED,
             STARTED,
             ONLINE,
             RIGHT,
             FINISHED,
             STARTED,
-            APPROVED_700,
+            APPROVED,
+            APPROVED_TWO,
         ],
-        AppState {
+        Counts {
             counter: 13,
             last_online: 12,
+            count: 2,
+            sum: 2500,
+            sum_two: 2500,
+            ..OPENED
+        },
+    ),
+    (
+        &[STARTED, APPROVED, STARTED, ONLINE, RIGHT, HELD],
+        Counts {
+            counter: 12,
+            last_online: 12,
             count: 1,
-            sum: 700,
+            sum: 2500,
             ..OPENED
         },
     ),
     (
         &[STARTED, ONLINE, OFFLINE],
-        AppState {
+        Counts {
             counter: 11,
             count: 1,
-            sum: 300,
+            sum: 100,
             ..OPENED
         },
     ),
     (
         &[STARTED, ONLINE, DECLINED, STARTED, ONLINE, ALONE],
-        AppState {
+        Counts {
             counter: 12,
             ..OPENED
         },
     ),
     (
         &[STARTED, TRY, TRY, CHANGE, TRY],
-        AppState {
+        Counts {
             counter: 11,
             tries: 4,
             pin: PIN_99999,
@@ -202,7 +311,7 @@ const HISTORIES: [(&[Decision], AppState); 9] = [
             TRY,
             Decision::Script(Scripted::PinUnblock { limit: 2 }),
         ],
-        AppState { tries: 2, ..OPENED },
+        Counts { tries: 2, ..OPENED },
     ),
     (
         &[
@@ -212,7 +321,7 @@ const HISTORIES: [(&[Decision], AppState); 9] = [
             Decision::Script(Scripted::Count(9)),
             Decision::Script(Scripted::Sum(77)),
         ],
-        AppState {
+        Counts {
             counter: 11,
             auth_failed: true,
             count_limit: 9,
@@ -238,55 +347,114 @@ fn totals_are_those_worked_out_by_hand(rt: HostRuntime) {
         for decision in decisions {
             take(&rt, &mut state, 0, decision);
         }
-        assert_eq!(rt; state.apps.as_slice(), [want, OPENED].as_slice());
+        for (app, counts) in state.apps.as_slice().iter().zip([want, OPENED]) {
+            assert_eq!(rt; counts_of(app), counts);
+        }
         assert!(rt; !state.blocked);
     }
 }
 
+/// The second byte of a card status update, and what it leaves of three tries where it restores five: the tries,
+/// whether the application is blocked, and whether the card is.
+const STEERINGS: [(u8, u8, bool, bool); 5] = [
+    (0x8F, 2, false, false),
+    (0x40, 2, true, false),
+    (0x20, 2, false, true),
+    (0x10, 5, false, false),
+    (0xFF, 5, true, true),
+];
+
 #[test]
-fn applications_count_their_own_decisions(rt: HostRuntime) {
-    let mut state = opening();
-    let block = Decision::Script(Scripted::Block);
-    for (app, decision) in [
-        (0, STARTED),
-        (1, STARTED),
-        (1, TRY),
-        (0, APPROVED_100),
-        (1, STARTED),
-        (0, block),
-    ] {
-        take(&rt, &mut state, app, &decision);
+fn a_steering_does_what_its_bits_say(rt: HostRuntime) {
+    for (byte, tries, blocked, card) in STEERINGS {
+        let steered = Some(Steered {
+            status: [0xFF, byte, 0xFF, 0xFF],
+            limit: 5,
+        });
+        let mut state = opening();
+        take(&rt, &mut state, 1, &TRY);
+        let right = Decision::Authenticated {
+            right: true,
+            steered,
+        };
+        take(&rt, &mut state, 1, &right);
+        let want = Counts {
+            tries,
+            blocked,
+            ..OPENED
+        };
+        for (app, counts) in state.apps.as_slice().iter().zip([OPENED, want]) {
+            assert_eq!(rt; counts_of(app), counts);
+        }
+        assert_eq!(rt; state.blocked, card);
     }
-    assert!(rt; !state.blocked);
-    take(&rt, &mut state, 1, &Decision::Script(Scripted::CardBlock));
-    assert!(rt; state.blocked);
-    let first = AppState {
-        counter: 11,
-        count: 1,
-        sum: 100,
-        blocked: true,
-        ..OPENED
-    };
-    let second = AppState {
-        counter: 12,
-        tries: 2,
-        ..OPENED
-    };
-    assert_eq!(rt; state.apps.as_slice(), [first, second].as_slice());
+}
+
+/// The row of a sale.
+fn row(counter: u16, kind: u8, sale: Sale) -> LogRow {
+    let Sale {
+        raw,
+        currency,
+        date,
+        ..
+    } = sale;
+    LogRow {
+        raw,
+        currency,
+        date,
+        counter,
+        kind,
+    }
+}
+
+#[test]
+fn a_log_has_its_latest_rows(rt: HostRuntime) {
+    let mut state = opening();
+    for decision in [
+        STARTED,
+        REFUSED,
+        STARTED,
+        ONLINE,
+        FINISHED,
+        STARTED,
+        APPROVED,
+        STARTED,
+        APPROVED_TWO,
+    ] {
+        take(&rt, &mut state, 0, &decision);
+    }
+    let want = [
+        row(14, 0x40, SALE_TWO),
+        row(13, 0x40, SALE_2500),
+        row(12, 0x40, SALE),
+    ];
+    match state.apps.get(0) {
+        Some(app) => assert_eq!(rt; app.log.as_slice(), want.as_slice()),
+        None => panic!(rt; "no such application"),
+    }
 }
 
 /// A blocked card whose one application has approved 25.00 offline, is blocked and has seen a failed issuer
-/// authentication, worked out by hand.
+/// authentication, in version 1, worked out by hand.
 const BLOCKED: [u8; 35] = [
     0x01, 0x01, 0x01, 0x00, 0x0B, 0x00, 0x09, 0x01, 0x00, 0x00, 0x00, 0x00, 0x00, 0x00, 0x09, 0xC4,
     0x05, 0x00, 0x00, 0x00, 0x00, 0x00, 0x00, 0x4E, 0x20, 0x02, 0x03, 0x24, 0x12, 0x34, 0xFF, 0xFF,
     0xFF, 0xFF, 0xFF,
 ];
 
-#[test]
-fn every_field_has_its_place(rt: HostRuntime) {
+/// The same in version 2, with 3.00 of 30.00 in the second currency, and one row of at most five.
+const LOGGED: [u8; 67] = [
+    0x02, 0x01, 0x01, 0x00, 0x0B, 0x00, 0x09, 0x01, 0x00, 0x00, 0x00, 0x00, 0x00, 0x00, 0x09, 0xC4,
+    0x05, 0x00, 0x00, 0x00, 0x00, 0x00, 0x00, 0x4E, 0x20, 0x02, 0x03, 0x24, 0x12, 0x34, 0xFF, 0xFF,
+    0xFF, 0xFF, 0xFF, 0x00, 0x00, 0x00, 0x00, 0x00, 0x00, 0x01, 0x2C, 0x00, 0x00, 0x00, 0x00, 0x00,
+    0x00, 0x0B, 0xB8, 0x05, 0x01, 0x00, 0x00, 0x00, 0x00, 0x25, 0x00, 0x08, 0x40, 0x24, 0x06, 0x15,
+    0x00, 0x0B, 0x40,
+];
+
+/// The blocked card's state.
+fn blocked() -> CardState {
     let mut apps = ArrayVec::new();
-    apps.push(AppState {
+    apps.push(app_of(Counts {
         counter: 11,
         count: 1,
         sum: 2500,
@@ -294,52 +462,90 @@ fn every_field_has_its_place(rt: HostRuntime) {
         blocked: true,
         auth_failed: true,
         ..OPENED
-    });
-    let state = CardState {
+    }));
+    CardState {
         blocked: true,
         apps,
-    };
-    let mut bytes = ArrayVec::new();
-    encode(&state, &mut bytes);
-    assert_eq!(rt; bytes.as_slice(), BLOCKED.as_slice());
-    assert_eq!(rt; decode(&BLOCKED), Some(state));
+    }
+}
+
+/// The state whose bytes of version 2 are worked out above.
+fn logged() -> CardState {
+    let mut log = ArrayVec::new();
+    log.push(row(11, 0x40, SALE_2500));
+    let mut apps = ArrayVec::new();
+    apps.push(AppState {
+        sum_two: 300,
+        log_max: 5,
+        log,
+        ..app_of(Counts {
+            counter: 11,
+            count: 1,
+            sum: 2500,
+            tries: 2,
+            blocked: true,
+            auth_failed: true,
+            ..OPENED
+        })
+    });
+    CardState {
+        blocked: true,
+        apps,
+    }
 }
 
 #[test]
-fn encodings_are_read_back_and_nothing_else_is(rt: HostRuntime) {
-    let mut apps = ArrayVec::new();
-    apps.push(OPENED);
-    let state = CardState {
-        blocked: false,
-        apps,
-    };
+fn every_field_has_its_place(rt: HostRuntime) {
     let mut bytes = ArrayVec::new();
-    encode(&state, &mut bytes);
-    let want: [u8; 35] = [
-        0x01, 0x01, 0x00, 0x00, 0x0A, 0x00, 0x09, 0x00, 0x00, 0x00, 0x00, 0x00, 0x00, 0x00, 0x00,
-        0x00, 0x05, 0x00, 0x00, 0x00, 0x00, 0x00, 0x00, 0x4E, 0x20, 0x03, 0x00, 0x24, 0x12, 0x34,
-        0xFF, 0xFF, 0xFF, 0xFF, 0xFF,
+    encode(&logged(), &mut bytes);
+    assert_eq!(rt; bytes.as_slice(), LOGGED.as_slice());
+    assert_eq!(rt; decode(&LOGGED), Some(logged()));
+    assert!(rt; decode_one(&LOGGED).is_none());
+}
+
+#[test]
+fn version_one_gains_the_limits_of_its_card(rt: HostRuntime) {
+    let mut bytes = ArrayVec::new();
+    encode_one(&logged(), &mut bytes);
+    assert_eq!(rt; bytes.as_slice(), BLOCKED.as_slice());
+    match decode_one(&BLOCKED) {
+        Some(old) => {
+            assert_eq!(rt; with_limits(&blocked(), &old), blocked());
+            assert_eq!(rt; decode(&BLOCKED), Some(old));
+        }
+        None => panic!(rt; "bytes of version 1"),
+    }
+}
+
+#[test]
+fn other_bytes_are_no_state(rt: HostRuntime) {
+    assert!(rt; decode(&LOGGED[..66]).is_none());
+    let mut longer = [0; 68];
+    longer[..67].copy_from_slice(&LOGGED);
+    assert!(rt; decode(&longer).is_none());
+    let wrong_bytes: [(usize, u8); 7] = [
+        (0, 3),
+        (0, 1),
+        (1, 5),
+        (2, 2),
+        (26, 4),
+        (52, 0),
+        (52, 11),
     ];
-    assert_eq!(rt; bytes.as_slice(), want.as_slice());
-    assert_eq!(rt; decode(bytes.as_slice()), Some(state));
+    for (place, byte) in wrong_bytes {
+        let mut wrong = LOGGED;
+        if place < 67 {
+            wrong[place] = byte;
+        }
+        assert!(rt; decode(&wrong).is_none(), "at {place}");
+    }
+    assert!(rt; decode(&BLOCKED[..34]).is_none());
+    assert!(rt; decode(&[1, 0]).is_none());
     assert_eq!(rt;
-        decode(&[1, 0, 1]),
+        decode(&[2, 0, 1]),
         Some(CardState {
             blocked: true,
             apps: ArrayVec::new()
         })
     );
-    assert!(rt; decode(&want[..34]).is_none());
-    let mut longer = [0; 36];
-    longer[..35].copy_from_slice(&want);
-    assert!(rt; decode(&longer).is_none());
-    let wrong_bytes: [(usize, u8); 4] = [(0, 2), (1, 5), (2, 2), (26, 4)];
-    for (place, byte) in wrong_bytes {
-        let mut wrong = want;
-        if place < 35 {
-            wrong[place] = byte;
-        }
-        assert!(rt; decode(&wrong).is_none(), "at {place}");
-    }
-    assert!(rt; decode(&[1, 0]).is_none());
 }

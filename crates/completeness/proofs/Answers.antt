@@ -11,32 +11,32 @@ use Rattle.card_app.specs.Session.{Exchange, after, after_said, next_phase, phas
 use Rattle.card_cryptogram.specs.declared.phase.Phase.{Phase}
 use Rattle.card_cryptogram.specs.declared.phase.Phase.TheVariants.{Idle}
 use Rattle.card_files.specs.Files.{opening_of}
-use Rattle.card_files.specs.Views.{AppData}
+use Rattle.card_files.specs.Views.{ImageData}
 use Rattle.card_pages.specs.Replies.{ReplyData, response_in}
 use Rattle.card_state.specs.Totals.{totals}
 use Rattle.card_state.specs.declared.state.CardState.{CardState}
 use Rattle.completeness.specs.Cards.{Now, says, goes}
 
 -- the state of the card, and its phase
-abbrev pub state_at : List AppData → Now → CardState
+abbrev pub state_at : ImageData → Now → CardState
 state_at image now = totals (opening_of image) now.kept
 
-abbrev pub phase_at : List AppData → Now → Phase
+abbrev pub phase_at : ImageData → Now → Phase
 phase_at image now = phase_of image now.session
 
 -- the card makes this reply to a command, whose answer is read, and goes on so
-pub record Answers (image : List AppData) (now : Now) (command : List ℕ) (reply : ReplyData) (next : Phase) : Type 0 where
+pub record Answers (image : ImageData) (now : Now) (command : List ℕ) (reply : ReplyData) (next : Phase) : Type 0 where
   pub says_so : says image now command ≡ response_bytes reply.body reply.status
   pub read : response_of (says image now command) ≡ Some (response_in reply)
   pub phase : phase_at image (goes image now command) ≡ next
   pub kept : (goes image now command).kept ≡ now.kept ++ reply.new
 
-is_reply : (image : List AppData) (now : Now) (command : List ℕ) (c : CommandData) (phase : Phase) → command_of command ≡ Some c → phase_at image now ≡ phase
+is_reply : (image : ImageData) (now : Now) (command : List ℕ) (c : CommandData) (phase : Phase) → command_of command ≡ Some c → phase_at image now ≡ phase
     → card_reply image now.kept now.session command ≡ row image (state_at image now) phase c
 unfolding card_reply reply_in
 is_reply image now command c phase known here = rw (known, here) refl
 
-pub answers : {image : List AppData} {now : Now} {command : List ℕ} {reply : ReplyData} (c : CommandData) (phase : Phase) → command_of command ≡ Some c
+pub answers : {image : ImageData} {now : Now} {command : List ℕ} {reply : ReplyData} (c : CommandData) (phase : Phase) → command_of command ≡ Some c
     → phase_at image now ≡ phase → row image (state_at image now) phase c ≡ reply → length reply.body ≤ 256
     → Answers image now command reply (next_phase image phase c reply.body reply.status)
 unfolding phase_of

@@ -8,7 +8,7 @@ use Rattle.card_cryptogram.specs.Asked.{is_online}
 use Rattle.card_cryptogram.specs.Bodies.{kind_in}
 use Rattle.card_cryptogram.specs.declared.phase.Phase.{Phase}
 use Rattle.card_cryptogram.specs.declared.phase.Phase.TheVariants.{Started, Online}
-use Rattle.card_files.specs.Views.{AppData}
+use Rattle.card_files.specs.Views.{AppData, ImageData}
 use Rattle.card_pages.specs.Replies.{ReplyData}
 use Rattle.completeness.proofs.Answers.{state_at, phase_at, answers, command_again}
 use Rattle.completeness.proofs.Filled.{list_filled}
@@ -27,7 +27,7 @@ use Rattle.online_step.specs.Ac.{ac_of}
 use Rattle.online_step.specs.Generate.{generated, generate_command, list_data}
 use Rattle.online_step.specs.Laws.{read_of}
 
-module _ (image : List AppData) (back : AnswersAreReadBack) where
+module _ (image : ImageData) (back : AnswersAreReadBack) where
   -- a card that makes a cryptogram answers so that the terminal goes on
   generate_runs : (now : Now) (phase : Phase) (tag : ℕ) (asked : Kind) (twice : Bool) (given : List ℕ) (format : ℕ) (Post : Now → AcData → Type 0) → phase_at image now ≡ phase
       → (holds : Holds format asked twice (row image (state_at image now) phase (generating asked given)))
@@ -43,7 +43,7 @@ module _ (image : List AppData) (back : AnswersAreReadBack) where
       ap (λ (answer : List ℕ). ac_of answer asked twice) said.says_so ∙ is_read back format asked twice reply holds in
       asks command refl (done (read_of (given_in holds.kind holds.state holds.cryptogram)) (λ later. rw read refl) (post (goes image now command) said.phase))
 
-  request_phase : (a : AppData) (app : ℕ) (asked : Kind) (given : List ℕ) (reply : ReplyData) (holds : Holds a.ac_format asked false reply) → slice_get image app ≡ Some a → holds.kind ≡ Arqc
+  request_phase : (a : AppData) (app : ℕ) (asked : Kind) (given : List ℕ) (reply : ReplyData) (holds : Holds a.ac_format asked false reply) → slice_get image.apps app ≡ Some a → holds.kind ≡ Arqc
       → next_phase image (Started app) (generating asked given) reply.body reply.status ≡ Online app (first_in a given reply.body) None
   unfolding next_phase
   request_phase a app asked given reply holds own request =
@@ -51,7 +51,7 @@ module _ (image : List AppData) (back : AnswersAreReadBack) where
       rw (holds.status, own, kind) refl
 
   -- the first GENERATE AC: behind a request the card waits for the second one
-  pub first_runs : (a : AppData) (app : ℕ) (now : Now) (asked : Kind) (card : ReadCard) (terminal : Entries) → slice_get image app ≡ Some a → HasLists a card → phase_at image now ≡ Started app
+  pub first_runs : (a : AppData) (app : ℕ) (now : Now) (asked : Kind) (card : ReadCard) (terminal : Entries) → slice_get image.apps app ≡ Some a → HasLists a card → phase_at image now ≡ Started app
       → Runs image (λ at ac. ac.kind ≡ Arqc → IsOnline image app at) now (generated 0x8C asked false (list_data 0x8C card terminal))
   first_runs a app now asked card terminal own lists here =
       let found = list_filled 0x8C a.cdol1 card terminal lists.first in
@@ -63,7 +63,7 @@ module _ (image : List AppData) (back : AnswersAreReadBack) where
       (λ at phase request. record { first = first_in a found.given reply.body; sent = None; is = phase ∙ request_phase a app asked found.given reply holds own request }))
 
   -- the second one
-  pub second_runs : (a : AppData) (app : ℕ) (now : Now) (asked : Kind) (card : ReadCard) (terminal : Entries) → slice_get image app ≡ Some a → HasLists a card → IsOnline image app now
+  pub second_runs : (a : AppData) (app : ℕ) (now : Now) (asked : Kind) (card : ReadCard) (terminal : Entries) → slice_get image.apps app ≡ Some a → HasLists a card → IsOnline image app now
       → is_online asked ≡ false → Runs image (λ at ac. ⊤) now (generated 0x8D asked true (list_data 0x8D card terminal))
   second_runs a app now asked card terminal own lists at offline =
       let found = list_filled 0x8D a.cdol2 card terminal lists.second in

@@ -11,7 +11,7 @@ use Rattle.auth_message.specs.declared.fault.MessageFault.{MessageFault}
 use Rattle.ber_tlv.specs.Left.{items_of, items_behind, items_from}
 use Rattle.card_cryptogram.specs.Asked.{is_online}
 use Rattle.card_cryptogram.specs.declared.phase.Phase.TheVariants.{Started}
-use Rattle.card_files.specs.Views.{AppData}
+use Rattle.card_files.specs.Views.{AppData, ImageData}
 use Rattle.completeness.proofs.Answers.{phase_at}
 use Rattle.completeness.proofs.Asking.{first_runs, second_runs}
 use Rattle.completeness.proofs.Ends.{Ends, over, sends}
@@ -69,7 +69,7 @@ kept_plain scripts plain true = plain
 kept_plain scripts plain false = All-nil IsPlainScript
 
 -- the scripts behind the second cryptogram change nothing of the outcome
-behind_ends : (image : List AppData) (ending : Ending) → IsDecided ending → (scripts : List (List ℕ)) (marks : List Mark) (now : Now) (log : List Logged)
+behind_ends : (image : ImageData) (ending : Ending) → IsDecided ending → (scripts : List (List ℕ)) (marks : List Mark) (now : Now) (log : List Logged)
     → Ends image now (scripts_behind ending scripts marks log)
 unfolding scripts_behind
 behind_ends image ending decided [] marks now log = over ending refl decided
@@ -78,7 +78,7 @@ behind_ends image ending decided (template ∷ others) marks now log =
     step.Script (template_ran template) (any_runs image now template)
     (λ at result post log. behind_ends image ending decided others (mark.HasRunBehind result ∷ marks) at log) log
 
-module _ (image : List AppData) (back : AnswersAreReadBack) (a : AppData) (app : ℕ) (own : slice_get image app ≡ Some a) (trade : Trade) (lists : HasLists a trade.card) where
+module _ (image : ImageData) (back : AnswersAreReadBack) (a : AppData) (app : ℕ) (own : slice_get image.apps app ≡ Some a) (trade : Trade) (lists : HasLists a trade.card) where
   second_ends : (sent : Bool) (asked : Kind) (behind : List (List ℕ)) (marks : List Mark) (now : Now) (log : List Logged) → is_online asked ≡ false → IsOnline image app now
       → Ends image now (second trade sent asked behind marks log)
   unfolding second
@@ -156,7 +156,7 @@ module _ (image : List AppData) (back : AnswersAreReadBack) (a : AppData) (app :
       (λ at ac waits log. answered_ends ac (mark.HasFirst ac ∷ marks) ac.kind at log waits) log
 
 -- from action analysis on
-pub analysis_ends : (image : List AppData) → AnswersAreReadBack → AnalysisEnds image
+pub analysis_ends : (image : ImageData) → AnswersAreReadBack → AnalysisEnds image
 unfolding analysis
 analysis_ends image back = λ a app now trade marks log own lists here.
     first_ends image back a app own trade lists (kind_wanted trade marks) (mark.HasAnalysed (kind_wanted trade marks) ∷ marks) now log here

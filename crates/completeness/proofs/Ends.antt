@@ -2,7 +2,7 @@
 -- first, and carried along what a terminal was told.
 use Rattle.std.proofs.Common.{◌≡◌, ℕ, List, [], ◌∷◌, ◌++◌, Option, ap, sym, subst, ◌∙◌, append-nil}
 use Rattle.std.proofs.lemmas.List.{append_assoc}
-use Rattle.card_files.specs.Views.{AppData}
+use Rattle.card_files.specs.Views.{ImageData}
 use Rattle.card_state.specs.Decisions.{Decided}
 use Rattle.completeness.specs.Cards.{Now, powered, says, goes}
 use Rattle.completeness.specs.Told.{Told, begins, card as told_card, host as told_host, IsDecided, IsLinked}
@@ -15,7 +15,7 @@ use Rattle.terminal_state.specs.Marks.{Mark}
 use Rattle.terminal_state.specs.Terminal.{Deal}
 
 -- the rest of a dialogue over the replies to come ends with a decision
-pub data Ends (image : List AppData) : Now → (List Reply → Standing Mark) → Type 0 where
+pub data Ends (image : ImageData) : Now → (List Reply → Standing Mark) → Type 0 where
   over : {now : Now} {start : List Reply → Standing Mark} (ending : Ending) → (start []).deed ≡ Over ending → IsDecided ending → Ends image now start
   asks : {now : Now} {start : List Reply → Standing Mark} (command : List ℕ) → (start []).deed ≡ ToCard command →
       ((log : List Logged) → Ends image (goes image now command) (λ later. start (CardSaid (says image now command) log ∷ later))) →
@@ -25,7 +25,7 @@ pub data Ends (image : List AppData) : Now → (List Reply → Standing Mark) �
       Ends image now start
 
 -- so does any other that makes the same of all replies
-pub ends_as : {image : List AppData} {now : Now} {start other : List Reply → Standing Mark} → ((later : List Reply) → start later ≡ other later)
+pub ends_as : {image : ImageData} {now : Now} {start other : List Reply → Standing Mark} → ((later : List Reply) → start later ≡ other later)
     → Ends image now start → Ends image now other
 ends_as {image} {now} {start} {other} same (over ending is decided) =
     over ending (sym (ap (λ (s : Standing Mark). s.deed) (same [])) ∙ is) decided
@@ -51,7 +51,7 @@ at_front deal replies = ap (λ (rs : List Reply). (dialogue deal rs).deed) (appe
 behind : (deal : Deal) (replies : List Reply) (reply : Reply) (later : List Reply) → left deal replies (reply ∷ later) ≡ left deal (replies ++ reply ∷ []) later
 behind deal replies reply later = ap (dialogue deal) (sym (append_assoc replies (reply ∷ []) later))
 
-module _ {image : List AppData} (deal : Deal) where
+module _ {image : ImageData} (deal : Deal) where
   answered : {now : Now} (replies : List Reply) (command : List ℕ) (log : List Logged) → Ends image now (left deal replies) → (dialogue deal replies).deed ≡ ToCard command
       → Ends image (goes image now command) (left deal (replies ++ CardSaid (says image now command) log ∷ []))
   unfolding command_in

@@ -11,7 +11,7 @@ use Rattle.card_app.specs.Cryptograms.{generate_row, generate_in}
 use Rattle.card_cryptogram.specs.Bodies.{iad_of, body_one, body_two, body_with, cryptogram_of, kind_in}
 use Rattle.card_cryptogram.specs.declared.fields.Given.{Given as GivenData}
 use Rattle.card_cryptogram.specs.declared.phase.Phase.{Phase}
-use Rattle.card_files.specs.Views.{AppData}
+use Rattle.card_files.specs.Views.{ImageData}
 use Rattle.card_pages.specs.Replies.{ReplyData}
 use Rattle.card_state.specs.declared.state.AppState.{AppState}
 use Rattle.card_state.specs.declared.state.CardState.{CardState}
@@ -35,7 +35,7 @@ pub record AnswersAreReadBack : Type 0 where
 abbrev pub generating : Kind → List ℕ → CommandData
 generating kind given = record { class = 0x80; ins = 0xAE; p1 = kind_byte kind; p2 = 0; body = given; expects = Some 0 }
 
-pub generates : (image : List AppData) (state : CardState) (phase : Phase) (kind : Kind) (given : List ℕ)
+pub generates : (image : ImageData) (state : CardState) (phase : Phase) (kind : Kind) (given : List ℕ)
     → row image state phase (generating kind given) ≡ generate_in image state phase kind given
 unfolding instruction_row generate_row
 generates image state phase Aac given = refl

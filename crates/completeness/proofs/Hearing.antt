@@ -7,19 +7,19 @@ use Rattle.card_app.specs.Answering.{row}
 use Rattle.card_app.specs.Replies.{with_both}
 use Rattle.card_app.specs.Session.{next_phase}
 use Rattle.card_cryptogram.specs.declared.phase.Phase.TheVariants.{Started}
-use Rattle.card_files.specs.Views.{AppData}
+use Rattle.card_files.specs.Views.{AppData, ImageData}
 use Rattle.card_pages.specs.Replies.{ReplyData, response_in}
 use Rattle.card_state.specs.declared.state.AppState.{AppState}
 use Rattle.completeness.proofs.Answers.{answers, command_again, state_at, phase_at}
 use Rattle.completeness.specs.Cards.{Now, says, goes}
 
-pub record Heard (image : List AppData) (app : ℕ) (now : Now) (command : List ℕ) : Type 0 where
+pub record Heard (image : ImageData) (app : ℕ) (now : Now) (command : List ℕ) : Type 0 where
   pub response : ResponseData
   pub read : response_of (says image now command) ≡ Some response
   pub phase : phase_at image (goes image now command) ≡ Started app
 
 -- where the command moves no phase and its answer has room
-pub heard : (image : List AppData) (app : ℕ) (now : Now) (c : CommandData) → phase_at image now ≡ Started app
+pub heard : (image : ImageData) (app : ℕ) (now : Now) (c : CommandData) → phase_at image now ≡ Started app
     → length (row image (state_at image now) (Started app) c).body ≤ 256 → ((body : List ℕ) (status : ℕ) → next_phase image (Started app) c body status ≡ Started app)
     → Heard image app now (command_bytes c)
 heard image app now c here room stays =

@@ -31,9 +31,9 @@ made_links code auth keys scripts =
 online_links : (keys : HostKeys) (account : AccountData) (books : Books) (f : RequestData) (code : Code) → LinksTo (said_bytes (online_reply keys account books f code))
 online_links keys account books f code = by (is_served account.pan books)
   where
-    by : (served : Bool) → LinksTo (said_bytes (record { code = code; auth = Some (response_of keys f code); scripts = (if served then [] else all_script_bytes (script_keys keys f) account.scripts) }))
-    by true = plain_reply [] refl refl (All-nil HoldsPlain) (code_bytes code) (Some (response_of keys f code))
-    by false = made_links code (Some (response_of keys f code)) (script_keys keys f) account.scripts
+    by : (served : Bool) → LinksTo (said_bytes (record { code = code; auth = Some (response_of keys account f code); scripts = (if served then [] else all_script_bytes (script_keys keys f) account.scripts) }))
+    by true = plain_reply [] refl refl (All-nil HoldsPlain) (code_bytes code) (Some (response_of keys account f code))
+    by false = made_links code (Some (response_of keys account f code)) (script_keys keys f) account.scripts
 
 -- each reply of a host
 pub hosts_linked : HostsAreLinked

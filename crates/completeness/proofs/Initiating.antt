@@ -10,9 +10,9 @@ use Rattle.card_app.specs.Options.{is_of_size, body_for, starts, options_of}
 use Rattle.card_app.specs.OwnLists.{pdol_total}
 use Rattle.card_app.specs.Replies.{with_both}
 use Rattle.card_app.specs.Session.{next_phase}
-use Rattle.card_cryptogram.specs.declared.phase.Phase.TheVariants.{Selected, Started}
+use Rattle.card_cryptogram.specs.declared.phase.Phase.TheVariants.{Directory, Selected, Started}
 use Rattle.card_files.specs.Lists.{entries_within, fitting, is_pdol, is_optional_pdol}
-use Rattle.card_files.specs.Views.{AppData}
+use Rattle.card_files.specs.Views.{AppData, ImageData}
 use Rattle.card_pages.specs.Replies.{ReplyData, refused, decides}
 use Rattle.card_state.specs.declared.decision.Decision.TheVariants.{Started as TakesCounter}
 use Rattle.card_state.specs.declared.state.AppState.{AppState}
@@ -28,7 +28,7 @@ use Rattle.object_lists.proofs.EntryPlaces.{length-dol_data}
 use Rattle.object_lists.specs.DolEntries.{DolEntry, dol_of, total_of}
 use Rattle.object_lists.specs.Filled.{dol_data}
 use Rattle.object_lists.specs.declared.dol.DolFault.{DolFault}
-use Rattle.read_records.specs.Options.{Said, Refused, Granted, options_command, options_data, filled, granted_by, response_said, options_said, after_options, initiated, initiating_with}
+use Rattle.read_records.specs.Options.{Said, Refused, Granted, options_command, options_data, filled, granted_by, response_said, options_said, after_options, initiated, initiating, initiating_with}
 
 -- the entries of an object list that can be read and filled
 record Entered (list : List ℕ) : Type 0 where
@@ -78,7 +78,7 @@ abbrev command_for : List ℕ → CommandData
 command_for given = record { class = 0x80; ins = 0xA8; p1 = 0; p2 = 0; body = written 0x83 given; expects = Some 0 }
 
 -- the application is asked
-options_row_is : (image : List AppData) (state : CardState) (app : ℕ) (a : AppData) (s : AppState) (given : List ℕ) → slice_get image app ≡ Some a
+options_row_is : (image : ImageData) (state : CardState) (app : ℕ) (a : AppData) (s : AppState) (given : List ℕ) → slice_get image.apps app ≡ Some a
     → slice_get state.apps.items app ≡ Some s → row image state (Selected app) (command_for given) ≡ options_of state.blocked app (written 0x83 given) a s
 unfolding instruction_row options_row
 options_row_is image state app a s given there now =
@@ -105,7 +105,7 @@ options_is app a s blocked given left size is =
     (size_right given (pdol_total a.pdol) size)
     ∙ ap (answered app a) is
 
-module _ (image : List AppData) (a : AppData) (app : ℕ) (whole : IsWhole a) (profile : length a.aip ≡ 2) where
+module _ (image : ImageData) (a : AppData) (app : ℕ) (whole : IsWhole a) (profile : length a.aip ≡ 2) where
   -- with a counter left it is granted, and gives its own profile and locator
   granted : (now : Now) (given : List ℕ) → Answers image now (options_command given) (answered app a true) (Started app)
       → options_said (says image now (options_command given)) ≡ Granted whole.reads.start
@@ -132,7 +132,7 @@ module _ (image : List AppData) (a : AppData) (app : ℕ) (whole : IsWhole a) (p
       asks (options_command given) refl
       (done None (λ later. ap (λ (said : Said). after_options said later) (refuses now given ans)) (ltb-false s.counter 65535 left, ans.phase, ans.kept ∙ append-nil now.kept))
 
-pub initiation_runs : (image : List AppData) → InitiationRuns image
+pub initiation_runs : (image : ImageData) → InitiationRuns image
 initiation_runs image a app now s terminal whole rules there state_is card_open app_open here =
     let g = given_for a.pdol terminal rules.pdol in
     let room : length (body_for a) ≤ 256 = options_room a.gpo_format a.aip a.afl rules.gpo_format rules.aip (leb-true (length a.afl) 248 rules.afl) whole.short in
@@ -141,3 +141,13 @@ initiation_runs image a app now s terminal whole rules there state_is card_open 
     options_row_is image (state_at image now) app a s g.given there state_is
     ∙ options_is app a s (state_at image now).blocked g.given left g.size (starts_is a s (state_at image now).blocked card_open app_open room left refl) in
     runs_as (λ later. sym (ap (λ (filling : Option (List ℕ)). initiating_with filling later) g.is)) (run_by image a app whole rules.aip now s g.given left refl is room here)
+
+-- the directory starts no transaction
+pub directory_refuses : (image : ImageData) (now : Now) (terminal : Entries) → phase_at image now ≡ Directory
+    → Runs image (λ at value. (value ≡ None) × (at.kept ≡ now.kept)) now (initiating None terminal)
+unfolding initiated next_phase instruction_row options_row options_said
+directory_refuses image now terminal here =
+    let none : length {A = ℕ} [] ≤ 256 = omega arith in
+    let ans : Answers image now (options_command []) (refused 0x6985) Directory = answers (command_for []) Directory (command_again (command_for [])) here refl none in
+    asks (options_command []) refl
+    (done None (λ later. ap (λ (said : Said). after_options said later) (ap response_said ans.read)) (refl, ans.kept ∙ append-nil now.kept))

@@ -1,14 +1,14 @@
 -- Terminal risk management with a card whose application is started: the two counters, each answered readably.
-use Rattle.std.proofs.Common.{◌≡◌, ℕ, ◌≤◌, ◌/◌, ◌%◌, ◌==◌, ◌&&◌, Bool, true, false, if◌then◌else◌, List, [], ◌∷◌, length, slice_get, slice_index, bit_and, Option, Some, None, Result, Ok, refl, ap, sym, zero-le, arith, w16}
+use Rattle.std.proofs.Common.{◌≡◌, ℕ, ◌≤◌, ◌/◌, ◌%◌, ◌==◌, ◌&&◌, not, Bool, true, false, if◌then◌else◌, List, [], ◌∷◌, length, slice_get, slice_index, bit_and, Option, Some, None, Result, Ok, refl, ap, sym, zero-le, arith, w16}
 use Rattle.std.specs.Int.{to_be_bytes}
 use Rattle.apdu_core.specs.Command.{CommandData}
 use Rattle.auth_message.proofs.Sizes.{written_short}
 use Rattle.ber_tlv.specs.Written.{written}
 use Rattle.card_app.specs.Answering.{instruction_row}
-use Rattle.card_app.specs.Files.{data_object, data_row}
+use Rattle.card_app.specs.Files.{log_format, data_object, data_row}
 use Rattle.card_app.specs.Session.{next_phase}
 use Rattle.card_cryptogram.specs.declared.phase.Phase.TheVariants.{Started}
-use Rattle.card_files.specs.Views.{AppData}
+use Rattle.card_files.specs.Views.{AppData, ImageData}
 use Rattle.card_state.specs.declared.state.AppState.{AppState}
 use Rattle.completeness.proofs.Answers.{state_at, phase_at}
 use Rattle.completeness.proofs.Hearing.{Heard, heard, if_room, app_room}
@@ -35,14 +35,15 @@ unfolding data_object
 data_room p1 p2 a s =
     if_room (p1 == 0x9F && p2 == 0x36) _ _ (object_room 0x9F36 (to_be_bytes w16 s.counter) (omega arith))
     (if_room (p1 == 0x9F && p2 == 0x13) _ _ (object_room 0x9F13 (to_be_bytes w16 s.last_online) (omega arith))
-    (if_room (p1 == 0x9F && p2 == 0x17) _ _ (object_room 0x9F17 (s.tries ∷ []) (omega arith)) (zero-le)))
+    (if_room (p1 == 0x9F && p2 == 0x17) _ _ (object_room 0x9F17 (s.tries ∷ []) (omega arith))
+    (if_room ((p1 == 0x9F && p2 == 0x4F) && not (a.log == 0)) _ _ (omega (arith, written_short 0x9F4F log_format)) zero-le)))
 
-module _ (image : List AppData) (app : ℕ) where
+module _ (image : ImageData) (app : ℕ) where
   data_heard : (now : Now) (tag : ℕ) → phase_at image now ≡ Started app → Heard image app now (get_data tag)
   unfolding get_data instruction_row data_row next_phase
   data_heard now tag here =
       heard image app now (command_for tag) here
-      (app_room (slice_get image app) (slice_get (state_at image now).apps.items app) (data_object (tag / 256) (tag % 256)) (data_room (tag / 256) (tag % 256)))
+      (app_room (slice_get image.apps app) (slice_get (state_at image now).apps.items app) (data_object (tag / 256) (tag % 256)) (data_room (tag / 256) (tag % 256)))
       (λ body status. refl)
 
   -- whatever is found, the application stays started

@@ -1,8 +1,8 @@
 mod Ends
-mod Runs
-mod Answers
+pub mod Runs
+pub mod Answers
 mod Stages
-mod Fields
+pub mod Fields
 mod OptionsRead
 mod Initiating
 mod Hearing
@@ -17,12 +17,14 @@ mod Standing
 mod Asking
 mod Scripting
 mod Deciding
-mod Shown
-mod Seeking
-mod Selects
-mod Ordering
-mod Choices
-mod Listing
+pub mod Shown
+pub mod Seeking
+pub mod Selects
+pub mod Ordering
+pub mod Choices
+pub mod Listing
+pub mod DirectoryRead
+pub mod Directing
 mod Selecting
 mod MadeScripts
 mod PlainReplies

@@ -1,23 +1,26 @@
 -- The card makes the cryptograms that it is asked for: the first where the transaction is started, the second online.
-use Rattle.std.proofs.Common.{◌≡◌, ℕ, ◌==◌, Bool, true, false, if◌then◌else◌, List, length, slice_get, Option, Some, refl, sym, subst, ◌∙◌, arith}
+use Rattle.std.proofs.Common.{◌≡◌, ℕ, ◌==◌, ◌||◌, not, Bool, true, false, if◌then◌else◌, List, length, slice_get, Option, Some, refl, sym, subst, ◌∙◌, arith}
 use Rattle.std.specs.Str.{bytes_eq}
 use Rattle.std.proofs.lemmas.Bool.Decides.{nat_tests}
 use Rattle.card_app.specs.Answering.{row}
-use Rattle.card_app.specs.Cryptograms.{generate_in, first_for, second_for, first_of, second_by, first_made, second_made, amount_in, is_own}
+use Rattle.card_app.specs.Cryptograms.{sale_for, generate_in, first_for, second_for, first_of, second_by, first_made, second_made}
 use Rattle.card_app.specs.OwnLists.{cdol_of}
-use Rattle.card_cryptogram.specs.Asked.{is_online, is_right, has_issuer_auth}
+use Rattle.card_cryptogram.specs.Asked.{is_online, has_issuer_auth}
+use Rattle.card_cryptogram.specs.Authentication.{auth_of}
 use Rattle.card_cryptogram.specs.Bodies.{body_of, cryptogram_of}
 use Rattle.card_cryptogram.specs.Fields.{first_given, given_from, code_given}
 use Rattle.card_cryptogram.specs.declared.fields.Given.{Given as GivenData}
 use Rattle.card_cryptogram.specs.declared.phase.First.{First as FirstData}
 use Rattle.card_cryptogram.specs.declared.phase.Phase.TheVariants.{Started, Online}
-use Rattle.card_files.specs.Views.{AppData}
+use Rattle.card_files.specs.Views.{AppData, ImageData}
 use Rattle.card_pages.specs.Replies.{decides}
-use Rattle.card_policy.specs.Policy.{first_kind, second_kind, is_blocked, approves, unable_code, with_how, decline_of, unauthenticated}
+use Rattle.card_policy.specs.Policy.{first_kind, second_kind, is_blocked, is_absent, is_declined, approves, unable_code, with_how, online_how, decline_of, unauthenticated}
 use Rattle.card_state.specs.Change.{changed}
+use Rattle.card_state.specs.declared.decision.Auth.{Auth}
 use Rattle.card_state.specs.declared.decision.Decision.{Decision}
 use Rattle.card_state.specs.declared.decision.Decision.TheVariants.{First, Second}
-use Rattle.card_state.specs.declared.decision.How.TheVariants.{Authenticated as ByIssuer, Alone, Offline}
+use Rattle.card_state.specs.declared.decision.How.TheVariants.{Alone, Offline}
+use Rattle.card_state.specs.declared.decision.Which.{Which}
 use Rattle.card_state.specs.declared.state.AppState.{AppState}
 use Rattle.card_state.specs.declared.state.CardState.{CardState}
 use Rattle.emv_dict.specs.declared.ending.Kind.{Kind}
@@ -26,35 +29,42 @@ use Rattle.object_lists.specs.DolEntries.{total_of}
 use Rattle.online_step.specs.Ac.{is_refused}
 use Rattle.completeness.proofs.Generating.{Holds, generating, generates, eight_bytes}
 
-first_allowed : (asked : Kind) (s : AppState) (blocked own : Bool) (amount : ℕ) → is_refused (first_kind asked s blocked own amount) asked false ≡ false
+first_allowed : (asked : Kind) (s : AppState) (blocked : Bool) (which : Which) (amount : ℕ) → is_refused (first_kind asked s blocked which amount) asked false ≡ false
 unfolding first_kind
-first_allowed Aac s blocked own amount = refl
-first_allowed Arqc s blocked own amount = by (is_blocked s blocked)
+first_allowed Aac s blocked which amount = refl
+first_allowed Arqc s blocked which amount = by (is_blocked s blocked)
   where
     by : (b : Bool) → is_refused (if b then Aac else Arqc) Arqc false ≡ false
     by true = refl
     by false = refl
-first_allowed Tc s blocked own amount = by (is_blocked s blocked) (approves s own amount)
+first_allowed Tc s blocked which amount = by (is_blocked s blocked) (approves s which amount)
   where
     by : (b c : Bool) → is_refused (if b then Aac else if c then Tc else Arqc) Tc false ≡ false
     by true c = refl
     by false true = refl
     by false false = refl
 
-second_allowed : (asked : Kind) (s : AppState) (blocked own : Bool) (amount : ℕ) (right : Bool) (code : List ℕ) (issuer_auth : Bool) → is_online asked ≡ false
-    → is_refused (second_kind asked s blocked own amount right code issuer_auth).0 asked true ≡ false
+second_allowed : (asked : Kind) (s : AppState) (blocked : Bool) (which : Which) (amount : ℕ) (auth : Auth) (code : List ℕ) (issuer_auth : Bool) → is_online asked ≡ false
+    → is_refused (second_kind asked s blocked which amount auth code issuer_auth).0 asked true ≡ false
 unfolding second_kind
-second_allowed Aac s blocked own amount right code issuer_auth offline = refl
-second_allowed Arqc s blocked own amount right code issuer_auth offline = absurd (cc offline)
-second_allowed Tc s blocked own amount right code issuer_auth offline = by (is_blocked s blocked) right (bytes_eq code unable_code) (approves s own amount) issuer_auth
+second_allowed Aac s blocked which amount auth code issuer_auth offline = refl
+second_allowed Arqc s blocked which amount auth code issuer_auth offline = absurd (cc offline)
+second_allowed Tc s blocked which amount auth code issuer_auth offline =
+    by (is_blocked s blocked || is_declined auth) (not (is_absent auth)) (bytes_eq code unable_code) (approves s which amount) issuer_auth
   where
-    by : (b right unable c auth : Bool) → is_refused (if b then decline_of right else if right then with_how ByIssuer Tc else if unable then with_how Offline (if c then Tc else Aac) else with_how Alone (unauthenticated auth)).0 Tc true ≡ false
-    by true right unable c auth = refl
-    by false true unable c auth = refl
-    by false false true true auth = refl
-    by false false true false auth = refl
-    by false false false c true = refl
-    by false false false c false = refl
+    by : (told right unable alone due : Bool)
+        → is_refused
+        (if told then decline_of auth
+        else if right then with_how (online_how auth) Tc
+        else if unable then with_how Offline (if alone then Tc else Aac) else with_how Alone (unauthenticated due)).0
+        Tc true
+        ≡ false
+    by true right unable alone due = refl
+    by false true unable alone due = refl
+    by false false true true due = refl
+    by false false true false due = refl
+    by false false false alone true = refl
+    by false false false alone false = refl
 
 made_holds : (format : ℕ) (asked : Kind) (second : Bool) (app : ℕ) (decision : Decision) (key aip : List ℕ) (s : AppState) (kind : Kind) (given : GivenData) → is_refused kind asked second ≡ false
     → Holds format asked second (decides app decision (body_of format key aip s kind given) 0x9000)
@@ -69,7 +79,7 @@ made_holds format asked second app decision key aip s kind given allowed = recor
   allowed = allowed;
 }
 
-module _ (image : List AppData) (state : CardState) (app : ℕ) (a : AppData) (s : AppState) (own : slice_get image app ≡ Some a) (there : slice_get state.apps.items app ≡ Some s) where
+module _ (image : ImageData) (state : CardState) (app : ℕ) (a : AppData) (s : AppState) (own : slice_get image.apps app ≡ Some a) (there : slice_get state.apps.items app ≡ Some s) where
   first_is : (asked : Kind) (filled : List ℕ) → length filled ≡ total_of (cdol_of a.cdol1)
       → generate_in image state (Started app) asked filled
       ≡ first_made app a s (first_of state.blocked asked a s (first_given (cdol_of a.cdol1) filled)) (first_given (cdol_of a.cdol1) filled)
@@ -84,12 +94,12 @@ module _ (image : List AppData) (state : CardState) (app : ℕ) (a : AppData) (s
   first_holds asked filled size =
       let given = first_given (cdol_of a.cdol1) filled in
       let kind = first_of state.blocked asked a s given in
-      let decision : Decision = First kind (amount_in given) given.currency in
+      let decision : Decision = First kind (sale_for a given) in
       subst (Holds a.ac_format asked false) (sym (generates image state (Started app) asked filled ∙ first_is asked filled size))
       (made_holds a.ac_format asked false app decision a.ac_key a.aip (changed s decision) kind given
-      (first_allowed asked s state.blocked (is_own a given) (amount_in given)))
+      (first_allowed asked s state.blocked (sale_for a given).which (sale_for a given).amount))
 
-  second_is : (first : FirstData) (sent : Option Bool) (asked : Kind) (filled : List ℕ) → length filled ≡ total_of (cdol_of a.cdol2) → is_online asked ≡ false
+  second_is : (first : FirstData) (sent : Option Auth) (asked : Kind) (filled : List ℕ) → length filled ≡ total_of (cdol_of a.cdol2) → is_online asked ≡ false
       → generate_in image state (Online app first sent) asked filled
       ≡ second_made app a s
       (second_by state.blocked asked a s sent (code_given (cdol_of a.cdol2) filled) (given_from (cdol_of a.cdol2) filled first.given))
@@ -100,13 +110,13 @@ module _ (image : List AppData) (state : CardState) (app : ℕ) (a : AppData) (s
       rw (own, there, test, offline) refl
 
   -- the second one, behind a request to go online
-  pub second_holds : (first : FirstData) (sent : Option Bool) (asked : Kind) (filled : List ℕ) → length filled ≡ total_of (cdol_of a.cdol2) → is_online asked ≡ false
+  pub second_holds : (first : FirstData) (sent : Option Auth) (asked : Kind) (filled : List ℕ) → length filled ≡ total_of (cdol_of a.cdol2) → is_online asked ≡ false
       → Holds a.ac_format asked true (row image state (Online app first sent) (generating asked filled))
   second_holds first sent asked filled size offline =
       let given = given_from (cdol_of a.cdol2) filled first.given in
       let code = code_given (cdol_of a.cdol2) filled in
       let made = second_by state.blocked asked a s sent code given in
-      let decision : Decision = Second made.0 made.1 (amount_in given) in
+      let decision : Decision = Second made.0 made.1 (sale_for a given) in
       subst (Holds a.ac_format asked true) (sym (generates image state (Online app first sent) asked filled ∙ second_is first sent asked filled size offline))
       (made_holds a.ac_format asked true app decision a.ac_key a.aip (changed s decision) made.0 given
-      (second_allowed asked s state.blocked (is_own a given) (amount_in given) (is_right sent) code (has_issuer_auth a.aip) offline))
+      (second_allowed asked s state.blocked (sale_for a given).which (sale_for a given).amount (auth_of sent) code (has_issuer_auth a.aip) offline))

@@ -12,7 +12,7 @@ module _ (P : CandidateData → Type 0) where
   all_by true candidate rest one all = all
   all_by false candidate rest one all = All-cons P candidate rest one all
 
-  all_firsts : (earlier found : List CandidateData) → All P found → All P (firsts_behind earlier found)
+  pub all_firsts : (earlier found : List CandidateData) → All P found → All P (firsts_behind earlier found)
   all_firsts earlier [] all = All-nil P
   all_firsts earlier (candidate ∷ found) all =
       all_by (list_any (has_name candidate.name) earlier) candidate (firsts_behind (earlier ++ candidate ∷ []) found) (All-head P candidate found all)

@@ -2,7 +2,7 @@
 use Rattle.std.proofs.Common.{◌≡◌, ℕ, List, [], ◌∷◌, All, slice_get, Some, ap, ◌∙◌}
 use Rattle.card_cryptogram.specs.declared.phase.Phase.TheVariants.{Started}
 use Rattle.card_files.specs.Kept.{KeepsRules}
-use Rattle.card_files.specs.Views.{AppData}
+use Rattle.card_files.specs.Views.{AppData, ImageData}
 use Rattle.completeness.proofs.Answers.{phase_at}
 use Rattle.completeness.proofs.Choices.{all_at}
 use Rattle.completeness.proofs.Ends.{Ends}
@@ -32,7 +32,7 @@ own_lists a whole card same = record {
   second = ap (λ (c : ReadCard). list_total (value_of 0x8D c.entries)) same ∙ whole.second;
 }
 
-module _ (image : List AppData) (analysed : AnalysisEnds image) (a : AppData) (app : ℕ) (there : slice_get image app ≡ Some a) where
+module _ (image : ImageData) (analysed : AnalysisEnds image) (a : AppData) (app : ℕ) (there : slice_get image.apps app ≡ Some a) where
   risk_ends : (now : Now) (trade : Trade) (marks : List Mark) (log : List Logged) → HasLists a trade.card → phase_at image now ≡ Started app → Ends image now (risk trade marks log)
   unfolding risk
   risk_ends now trade marks log lists here =
@@ -56,11 +56,11 @@ module _ (image : List AppData) (analysed : AnalysisEnds image) (a : AppData) (a
       verification_ends now trade
       (mark.HasRestricted (restricted trade.card trade.deal.settings trade.row trade.deal.purchase) ∷ mark.HasRead trade.card ∷ []) log lists here
 
-pub read_ends : (image : List AppData) → All KeepsRules image → AnalysisEnds image → ReadEnds image
+pub read_ends : (image : ImageData) → All KeepsRules image.apps → AnalysisEnds image → ReadEnds image
 unfolding read
 read_ends image rules analysed a app now deal row whole log there here =
-    let kept : KeepsRules a = all_at KeepsRules image app a there rules in
+    let kept : KeepsRules a = all_at KeepsRules image.apps app a there rules in
     chain (cut_off []) step.Read [] (λ card. restrictions (record { deal = deal; row = row; card = card })) step.Read
     (reading whole.reads.start)
-    (reading_runs image a app kept.records there whole.reads.card whole.reads.start.left whole.reads.start.entries now whole.reads.read here)
+    (reading_runs image a app kept there whole.reads.card whole.reads.start.left whole.reads.start.entries now whole.reads.read here)
     (λ at card own later. restrictions_end image analysed a app there at (record { deal = deal; row = row; card = card }) later (own_lists a whole card own.0) own.1) log

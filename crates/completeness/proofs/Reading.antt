@@ -1,17 +1,18 @@
 -- READ RECORD of each record that a whole application's locator names.
-use Rattle.std.proofs.Common.{◌≡◌, ℕ, ◌+◌, ◌*◌, ◌/◌, ◌%◌, ◌≤◌, ◌==◌, ◌&&◌, Bool, true, false, not, IsTrue, if◌then◌else◌, nat_le, List, [], ◌∷◌, length, map, slice_get, Option, Some, None, option_and_then, Result, Ok, Err, refl, ap, sym, ◌∙◌, arith, leb-true, eq-eqb, le-leb, ne_eqb, eqb-true}
+use Rattle.std.proofs.Common.{◌≡◌, ℕ, ◌+◌, ◌*◌, ◌/◌, ◌%◌, ◌≤◌, ◌==◌, ◌&&◌, ◌||◌, Bool, true, false, not, IsTrue, if◌then◌else◌, nat_le, List, [], ◌∷◌, length, map, slice_get, Option, Some, None, option_and_then, Result, Ok, Err, refl, ap, sym, ◌∙◌, arith, leb-true, eq-eqb, le-leb, ne_eqb, eqb-true}
 use Rattle.std.specs.List.{list_all}
 use Rattle.std.proofs.lemmas.Bool.{and_parts, and_from, not_from_false}
 use Rattle.apdu_core.specs.Command.{record_command, CommandData}
 use Rattle.apdu_core.specs.Response.{response_of}
 use Rattle.card_app.specs.Answering.{row, instruction_row}
-use Rattle.card_app.specs.Files.{record_or, record_row}
+use Rattle.card_app.specs.Files.{is_log_of, row_at, row_or, app_record, record_or, record_row}
 use Rattle.card_app.specs.Session.{next_phase}
 use Rattle.card_cryptogram.specs.Asked.{is_record_named}
 use Rattle.card_cryptogram.specs.declared.phase.Phase.TheVariants.{Started}
-use Rattle.card_files.specs.AppRules.{is_within, has_size, is_record, has_twins, most_records, are_apart, are_records}
+use Rattle.card_files.specs.AppRules.{is_within, has_size, is_record, has_twins, most_records, are_apart, are_records, is_log_file}
 use Rattle.card_files.specs.Files.{record_in, has_record_of, record_of, has_file}
-use Rattle.card_files.specs.Views.{RecordData, AppData}
+use Rattle.card_files.specs.Kept.{KeepsRules}
+use Rattle.card_files.specs.Views.{AppData, RecordData, ImageData}
 use Rattle.card_pages.specs.Replies.{ReplyData, refused, shows, said}
 use Rattle.card_state.specs.declared.state.CardState.{CardState}
 use Rattle.emv_dict.specs.declared.ending.Cause.{Cause}
@@ -78,13 +79,13 @@ limits_for a sfi number bytes rule found =
     let apart = and_parts (list_all is_record a.records) (not (has_twins a.records)) parts.1 in
     limits_in sfi number a.records bytes apart.0 found
 
-abbrev file_byte : ℕ → ℕ
+abbrev pub file_byte : ℕ → ℕ
 file_byte sfi = sfi * 8 + 4
 
-file_named : (sfi : ℕ) → file_byte sfi / 8 ≡ sfi
+pub file_named : (sfi : ℕ) → file_byte sfi / 8 ≡ sfi
 file_named sfi = omega arith
 
-is_named : (sfi number : ℕ) → 1 ≤ sfi → sfi ≤ 30 → 1 ≤ number → is_record_named number (file_byte sfi) ≡ true
+pub is_named : (sfi number : ℕ) → 1 ≤ sfi → sfi ≤ 30 → 1 ≤ number → is_record_named number (file_byte sfi) ≡ true
 is_named sfi number file last first =
     let low : (file_byte sfi % 8 == 4) ≡ true = eq-eqb (file_byte sfi % 8) 4 (omega arith) in
     let high : file_byte sfi / 8 ≡ sfi = file_named sfi in
@@ -96,15 +97,40 @@ is_named sfi number file last first =
 abbrev command_for : RecordPlace → CommandData
 command_for place = record { class = 0; ins = 0xB2; p1 = place.number; p2 = file_byte place.sfi; body = []; expects = Some 0 }
 
-row_is : (image : List AppData) (state : CardState) (app : ℕ) (a : AppData) (place : RecordPlace) (bytes : List ℕ) → slice_get image app ≡ Some a
-    → record_in place.sfi place.number a.records ≡ Some bytes → Limits place.sfi place.number bytes
+-- a file with a record isn't that of the log
+has_file_of : (sfi number : ℕ) (rs : List RecordData) (bytes : List ℕ) → record_in sfi number rs ≡ Some bytes → has_record_of sfi rs ≡ true
+has_file_of sfi number [] bytes found = absurd (cc found)
+has_file_of sfi number (r ∷ rs) bytes found = by (r.sfi == sfi) (r.number == number) found (λ behind. has_file_of sfi number rs bytes behind)
+  where
+    by : (file here : Bool) → (if file && here then Some r.bytes else record_in sfi number rs) ≡ Some bytes → (record_in sfi number rs ≡ Some bytes → has_record_of sfi rs ≡ true)
+        → (file || has_record_of sfi rs) ≡ true
+    by true here found later = refl
+    by false here found later = later found
+
+no_row : (a : AppData) (sfi number : ℕ) (bytes : List ℕ) → IsTrue (is_log_file a.log a.log_sfi a.records) → record_in sfi number a.records ≡ Some bytes
+    → is_log_of sfi (Some a) ≡ false
+no_row a sfi number bytes rule found =
+    by (a.log == 0) (a.log_sfi == sfi) refl (and_parts (is_within 11 30 a.log_sfi) (a.log == 0 || not (has_record_of a.log_sfi a.records)) rule).1
+  where
+    by : (none same : Bool) → (a.log_sfi == sfi) ≡ same → (none || not (has_record_of a.log_sfi a.records)) ≡ true → (not none && same) ≡ false
+    by true same is apart = refl
+    by false false is apart = refl
+    by false true is apart =
+        let there : has_record_of a.log_sfi a.records ≡ true =
+        ap (λ (n : ℕ). has_record_of n a.records) (eqb-true a.log_sfi sfi is) ∙ has_file_of sfi number a.records bytes found in
+        absurd (cc (sym apart ∙ ap not there))
+
+row_is : (image : ImageData) (state : CardState) (app : ℕ) (a : AppData) (place : RecordPlace) (bytes : List ℕ) → slice_get image.apps app ≡ Some a
+    → record_in place.sfi place.number a.records ≡ Some bytes → IsTrue (is_log_file a.log a.log_sfi a.records) → Limits place.sfi place.number bytes
     → row image state (Started app) (command_for place) ≡ shows bytes 0x9000
 unfolding instruction_row record_row
-row_is image state app a place bytes there found within =
-    ap (λ (named : Bool). let r : ReplyData = if not named then refused 0x6A86 else record_or (has_file image app (file_byte place.sfi / 8)) (record_of image app (file_byte place.sfi / 8) place.number) in r)
+row_is image state app a place bytes there found rule within =
+    ap (λ (named : Bool). let r : ReplyData = if not named then refused 0x6A86 else app_record image state app (file_byte place.sfi / 8) place.number in r)
     (is_named place.sfi place.number within.file within.last within.first)
-    ∙ ap (λ (sfi : ℕ). record_or (has_file image app sfi) (record_of image app sfi place.number)) (file_named place.sfi)
-    ∙ ap (record_or (has_file image app place.sfi)) (ap (option_and_then (λ b. record_in place.sfi place.number b.records)) there ∙ found)
+    ∙ ap (λ (sfi : ℕ). app_record image state app sfi place.number) (file_named place.sfi)
+    ∙ ap (λ (log : Bool). let r : ReplyData = if log then row_or (row_at state app place.number) else record_or (has_file image.apps app place.sfi) (record_of image.apps app place.sfi place.number) in r)
+    (ap (is_log_of place.sfi) there ∙ no_row a place.sfi place.number bytes rule found)
+    ∙ ap (record_or (has_file image.apps app place.sfi)) (ap (option_and_then (λ b. record_in place.sfi place.number b.records)) there ∙ found)
 
 -- a record that reads without a fault is there
 not_there : (sfi : ℕ) (entries more : Entries) (in_file : Bool) → gathered_all entries (held_in sfi (said (record_or in_file None)).answer) ≡ Ok more → ⊥
@@ -123,23 +149,23 @@ there_by a place entries more None is read =
     (ap (λ (o : Option (List ℕ)). gathered_all entries (held_in place.sfi (said (record_or (has_record_of place.sfi a.records) o)).answer)) (sym is) ∙ read))
 
 -- the card's answer is the application's own record
-record OwnAnswer (image : List AppData) (a : AppData) (app : ℕ) (now : Now) (place : RecordPlace) : Type 0 where
+record OwnAnswer (image : ImageData) (a : AppData) (app : ℕ) (now : Now) (place : RecordPlace) : Type 0 where
   same : says image now (record_command place.sfi place.number) ≡ own_record a place
   phase : phase_at image (goes image now (record_command place.sfi place.number)) ≡ Started app
 
-own_answer : (image : List AppData) (a : AppData) (app : ℕ) (now : Now) (place : RecordPlace) → IsTrue (are_records a.records) → slice_get image app ≡ Some a
+own_answer : (image : ImageData) (a : AppData) (app : ℕ) (now : Now) (place : RecordPlace) → KeepsRules a → slice_get image.apps app ≡ Some a
     → phase_at image now ≡ Started app → IsThere a place → OwnAnswer image a app now place
 unfolding next_phase
-own_answer image a app now place rule there here (bytes, found) =
-    let within = limits_for a place.sfi place.number bytes rule found in
+own_answer image a app now place rules there here (bytes, found) =
+    let within = limits_for a place.sfi place.number bytes rules.records found in
     let ans : Answers image now (record_command place.sfi place.number) (shows bytes 0x9000) (Started app) =
-    answers (command_for place) (Started app) (command_again (command_for place)) here (row_is image (state_at image now) app a place bytes there found within) within.room in
+    answers (command_for place) (Started app) (command_again (command_for place)) here (row_is image (state_at image now) app a place bytes there found rules.log_sfi within) within.room in
     record {
       same = ans.says_so ∙ ap (λ (o : Option (List ℕ)). (said (record_or (has_record_of place.sfi a.records) o)).answer) (sym found);
       phase = ans.phase;
     }
 
-module _ (image : List AppData) (a : AppData) (app : ℕ) (rule : IsTrue (are_records a.records)) (there : slice_get image app ≡ Some a) (card : ReadCard) where
+module _ (image : ImageData) (a : AppData) (app : ℕ) (rules : KeepsRules a) (there : slice_get image.apps app ≡ Some a) (card : ReadCard) where
   -- the data of the card were read, and the application stays started
   abbrev pub IsOwn : Now → ReadCard → Type 0
   IsOwn at read = (read ≡ card) × (phase_at image at ≡ Started app)
@@ -162,7 +188,7 @@ module _ (image : List AppData) (a : AppData) (app : ℕ) (rule : IsTrue (are_re
       → Runs image IsOwn now (reading (opened_with entries (place ∷ left)))
   unfolding reading card_read then_read
   read_one place left entries now (Ok more) others is read here =
-      let own = own_answer image a app now place rule there here (there_by a place entries more (record_in place.sfi place.number a.records) refl is) in
+      let own = own_answer image a app now place rules there here (there_by a place entries more (record_in place.sfi place.number a.records) refl is) in
       let put : gathered_all entries (held_in place.sfi (says image now (record_command place.sfi place.number))) ≡ Ok more =
       ap (λ (answer : List ℕ). gathered_all entries (held_in place.sfi answer)) own.same ∙ is in
       asks (record_command place.sfi place.number) refl

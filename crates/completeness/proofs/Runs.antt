@@ -1,6 +1,6 @@
 -- A step over the answers of a card comes to what it finds, and the dialogue goes on behind it.
 use Rattle.std.proofs.Common.{◌≡◌, ℕ, List, [], ◌∷◌, ap, sym, ◌∙◌}
-use Rattle.card_files.specs.Views.{AppData}
+use Rattle.card_files.specs.Views.{ImageData}
 use Rattle.completeness.proofs.Ends.{Ends, asks as ends_asks, ends_as}
 use Rattle.completeness.specs.Cards.{Now, says, goes}
 use Rattle.emv_dict.specs.Progress.{Progress, Wants, Done}
@@ -11,26 +11,26 @@ use Rattle.kernel.specs.Course.{Standing, Rest, card_step}
 use Rattle.terminal_state.specs.Marks.{Mark}
 
 -- whatever the card answers, the step is done, and this holds of the card and of what was found
-pub data Runs (image : List AppData) {A : Type 0} (Post : Now → A → Type 0) : Now → (List (List ℕ) → Progress A) → Type 0 where
+pub data Runs (image : ImageData) {A : Type 0} (Post : Now → A → Type 0) : Now → (List (List ℕ) → Progress A) → Type 0 where
   done : {now : Now} {course : List (List ℕ) → Progress A} (value : A) → ((later : List (List ℕ)) → course later ≡ Done value later) → Post now value →
       Runs image Post now course
   asks : {now : Now} {course : List (List ℕ) → Progress A} (command : List ℕ) → course [] ≡ Wants command →
       Runs image Post (goes image now command) (λ later. course (says image now command ∷ later)) → Runs image Post now course
 
 -- so does any other that makes the same of all answers
-pub runs_as : {image : List AppData} {A : Type 0} {Post : Now → A → Type 0} {now : Now} {course other : List (List ℕ) → Progress A}
+pub runs_as : {image : ImageData} {A : Type 0} {Post : Now → A → Type 0} {now : Now} {course other : List (List ℕ) → Progress A}
     → ((later : List (List ℕ)) → course later ≡ other later) → Runs image Post now course → Runs image Post now other
 runs_as same (done value is post) = done value (λ later. sym (same later) ∙ is later) post
 runs_as {image} {A} {Post} {now} same (asks command is runs) =
     asks command (sym (same []) ∙ is) (runs_as (λ later. same (says image now command ∷ later)) runs)
 
 -- what holds of the outcome may be said in other words
-pub runs_to : {image : List AppData} {A : Type 0} {Post Other : Now → A → Type 0} {now : Now} {course : List (List ℕ) → Progress A}
+pub runs_to : {image : ImageData} {A : Type 0} {Post Other : Now → A → Type 0} {now : Now} {course : List (List ℕ) → Progress A}
     → ((at : Now) (value : A) → Post at value → Other at value) → Runs image Post now course → Runs image Other now course
 runs_to {image} {A} {Post} {Other} {now} so (done value is post) = done value is (so now value post)
 runs_to so (asks command is runs) = asks command is (runs_to so runs)
 
-module _ {image : List AppData} {A : Type 0} {Post : Now → A → Type 0} (left : Step → (List (List ℕ) → Progress A) → Standing Mark) (step : Step)
+module _ {image : ImageData} {A : Type 0} {Post : Now → A → Type 0} (left : Step → (List (List ℕ) → Progress A) → Standing Mark) (step : Step)
     (marks : List Mark) (next : A → Rest Mark) where
   -- where what follows the step ends with a decision, so does the dialogue from the step on
   pub chain : (cut : Step) (course : List (List ℕ) → Progress A) {now : Now} → Runs image Post now course

@@ -5,16 +5,15 @@ use Rattle.std.specs.List.{All}
 use Rattle.std.proofs.lemmas.List.Elements.{All-head, All-tail, All-weaker}
 use Rattle.apdu_core.specs.Command.{CommandData, command_of, command_bytes}
 use Rattle.card_app.specs.Answering.{row, instruction_row}
-use Rattle.card_app.specs.Cryptograms.{authenticate_row, authenticate_in, authenticate_for}
+use Rattle.card_app.specs.Cryptograms.{authenticate_row, authenticate_in, authenticate_for, judged}
 use Rattle.card_app.specs.Replies.{with_both}
 use Rattle.card_cryptogram.specs.Asked.{has_issuer_auth}
-use Rattle.card_cryptogram.specs.Scripts.{authenticates, is_authentication_size}
+use Rattle.card_cryptogram.specs.Authentication.{authentication, is_authenticated, is_authentication_size}
 use Rattle.card_cryptogram.specs.declared.phase.First.{First}
 use Rattle.card_cryptogram.specs.declared.phase.Phase.{Phase}
-use Rattle.card_cryptogram.specs.declared.phase.Phase.TheVariants.{Idle, Selected, Started, Online, Closed, Done as IsDone}
-use Rattle.card_files.specs.Views.{AppData}
-use Rattle.card_pages.specs.Replies.{ReplyData, refused, decides}
-use Rattle.card_state.specs.declared.decision.Decision.TheVariants.{Authenticated}
+use Rattle.card_cryptogram.specs.declared.phase.Phase.TheVariants.{Idle, Directory, Selected, Started, Online, Closed, Done as IsDone}
+use Rattle.card_files.specs.Views.{AppData, ImageData}
+use Rattle.card_pages.specs.Replies.{ReplyData, refused}
 use Rattle.card_state.specs.declared.state.AppState.{AppState}
 use Rattle.card_state.specs.declared.state.CardState.{CardState}
 use Rattle.emv_dict.specs.Progress.{Progress, Done}
@@ -28,10 +27,10 @@ use Rattle.completeness.proofs.Runs.{Runs, done, asks}
 use Rattle.completeness.proofs.Standing.{IsOnline, stays_online}
 
 -- a command keeps this of the card
-abbrev Stays : List AppData → (Now → Type 0) → List ℕ → Type 0
+abbrev Stays : ImageData → (Now → Type 0) → List ℕ → Type 0
 Stays image Keeps command = (at : Now) → Keeps at → Keeps (goes image at command)
 
-module _ {image : List AppData} {Keeps : Now → Type 0} where
+module _ {image : ImageData} {Keeps : Now → Type 0} where
   command_runs : (command failed : List ℕ) (next : List (List ℕ) → Progress (List ℕ)) (now : Now) → Stays image Keeps command → Keeps now
       → ((at : Now) → Keeps at → Runs image (λ at result. Keeps at) at next) → (sent : Bool)
       → Runs image (λ at result. Keeps at) now (λ answers. if sent then exchanged command failed next answers else Done failed answers)
@@ -59,18 +58,18 @@ some_weaker None P Q so all = tt
 some_weaker (Some script) P Q so all = All-weaker P Q so script.commands all
 
 -- a plain script leaves the second cryptogram to come
-pub plain_runs : (image : List AppData) (app : ℕ) (now : Now) (template : List ℕ) → IsPlainScript template → IsOnline image app now
+pub plain_runs : (image : ImageData) (app : ℕ) (now : Now) (template : List ℕ) → IsPlainScript template → IsOnline image app now
     → Runs image (λ at result. IsOnline image app at) now (template_ran template)
 plain_runs image app now template plain online =
     script_runs {image = image} {Keeps = IsOnline image app} (script_of template) now
     (some_weaker (script_of template) IsPlain (Stays image (IsOnline image app)) (λ command is. λ at kept. stays_online image app at command is kept) plain) online
 
-any_stay : (image : List AppData) (script : Option ScriptData) → IfSome script (λ s. All (Stays image (λ at. ⊤)) s.commands)
+any_stay : (image : ImageData) (script : Option ScriptData) → IfSome script (λ s. All (Stays image (λ at. ⊤)) s.commands)
 any_stay image None = tt
 any_stay image (Some script) = λ k d within. λ at kept. tt
 
 -- any script comes to a result
-pub any_runs : (image : List AppData) (now : Now) (template : List ℕ) → Runs image (λ at result. ⊤) now (template_ran template)
+pub any_runs : (image : ImageData) (now : Now) (template : List ℕ) → Runs image (λ at result. ⊤) now (template_ran template)
 any_runs image now template = script_runs {image = image} {Keeps = λ at. ⊤} (script_of template) now (any_stay image (script_of template)) tt
 
 abbrev authenticating : List ℕ → CommandData
@@ -78,36 +77,36 @@ authenticating value = record { class = 0; ins = 0x82; p1 = 0; p2 = 0; body = va
 
 alone_for : (app : ℕ) (first : First) (value : List ℕ) (a : AppData) (s : AppState) → (authenticate_for app first value a s).body ≡ []
 unfolding authenticate_for
-alone_for app first value a s = by (not (has_issuer_auth a.aip)) (not (is_authentication_size (length value))) (authenticates a.ac_key s.counter first.cryptogram value)
+alone_for app first value a s = by (not (has_issuer_auth a.aip)) (not (is_authentication_size (length value)))
   where
-    by : (without wrong right : Bool)
-        → (if without then refused 0x6985 else if wrong then refused 0x6700 else if right then decides app (Authenticated true) [] 0x9000 else decides app (Authenticated false) [] 0x6300).body ≡ []
-    by true wrong right = refl
-    by false true right = refl
-    by false false true = refl
-    by false false false = refl
+    by : (without wrong : Bool)
+        → (if without then refused 0x6985 else if wrong then refused 0x6700 else judged app a (authentication a.ac_key s.counter first.cryptogram value)).body ≡ []
+    by true wrong = refl
+    by false true = refl
+    by false false = refl
 
 alone_both : (app : ℕ) (first : First) (value : List ℕ) (own : Option AppData) (state : Option AppState) → (with_both own state (authenticate_for app first value)).body ≡ []
 alone_both app first value None state = refl
 alone_both app first value (Some a) None = refl
 alone_both app first value (Some a) (Some s) = alone_for app first value a s
 
-alone_in : (image : List AppData) (state : CardState) (phase : Phase) (value : List ℕ) → (authenticate_in image state phase value).body ≡ []
+alone_in : (image : ImageData) (state : CardState) (phase : Phase) (value : List ℕ) → (authenticate_in image state phase value).body ≡ []
 alone_in image state Idle value = refl
+alone_in image state Directory value = refl
 alone_in image state (Selected app) value = refl
 alone_in image state (Started app) value = refl
-alone_in image state (Online app first None) value = alone_both app first value (slice_get image app) (slice_get state.apps.items app)
-alone_in image state (Online app first (Some right)) value = refl
+alone_in image state (Online app first None) value = alone_both app first value (slice_get image.apps app) (slice_get state.apps.items app)
+alone_in image state (Online app first (Some auth)) value = refl
 alone_in image state (Closed app) value = refl
 alone_in image state (IsDone app first) value = refl
 
 -- the answer is a status alone
-status_alone : (image : List AppData) (state : CardState) (phase : Phase) (value : List ℕ) → (row image state phase (authenticating value)).body ≡ []
+status_alone : (image : ImageData) (state : CardState) (phase : Phase) (value : List ℕ) → (row image state phase (authenticating value)).body ≡ []
 unfolding instruction_row authenticate_row
 status_alone image state phase value = alone_in image state phase value
 
 -- EXTERNAL AUTHENTICATE is answered, and the second cryptogram is to come
-pub authenticate_runs : (image : List AppData) (app : ℕ) (now : Now) (value : List ℕ) → IsOnline image app now → Runs image (λ at good. IsOnline image app at) now (authenticated value)
+pub authenticate_runs : (image : ImageData) (app : ℕ) (now : Now) (value : List ℕ) → IsOnline image app now → Runs image (λ at good. IsOnline image app at) now (authenticated value)
 unfolding authenticate_command verdict_of
 authenticate_runs image app now value at =
     let c = authenticating value in

@@ -3,7 +3,7 @@ use Rattle.std.proofs.Common.{◌≡◌, ℕ, ◌≤◌, false, List, slice_get,
 use Rattle.card_app.specs.OwnLists.{cdol_of}
 use Rattle.card_cryptogram.specs.declared.phase.Phase.TheVariants.{Selected, Started}
 use Rattle.card_files.specs.Kept.{KeepsRules}
-use Rattle.card_files.specs.Views.{AppData}
+use Rattle.card_files.specs.Views.{AppData, ImageData}
 use Rattle.card_state.specs.declared.state.AppState.{AppState}
 use Rattle.completeness.proofs.Answers.{state_at, phase_at}
 use Rattle.completeness.proofs.Ends.{Ends}
@@ -26,28 +26,28 @@ pub record HasLists (a : AppData) (card : ReadCard) : Type 0 where
   pub second : list_total (value_of 0x8D card.entries) ≡ Some (total_of (cdol_of a.cdol2))
 
 -- from action analysis on
-abbrev pub AnalysisEnds : List AppData → Type 0
+abbrev pub AnalysisEnds : ImageData → Type 0
 AnalysisEnds image =
     (a : AppData) (app : ℕ) (now : Now) (trade : Trade) (marks : List Mark) (log : List Logged)
-    → slice_get image app ≡ Some a → HasLists a trade.card → phase_at image now ≡ Started app
+    → slice_get image.apps app ≡ Some a → HasLists a trade.card → phase_at image now ≡ Started app
     → Ends image now (analysis trade marks log)
 
 -- from reading on
-abbrev pub ReadEnds : List AppData → Type 0
+abbrev pub ReadEnds : ImageData → Type 0
 ReadEnds image =
     (a : AppData) (app : ℕ) (now : Now) (deal : Deal) (row : AidRow) (whole : IsWhole a) (log : List Logged)
-    → slice_get image app ≡ Some a → phase_at image now ≡ Started app
+    → slice_get image.apps app ≡ Some a → phase_at image now ≡ Started app
     → Ends image now (read deal row whole.reads.start log)
 
 -- GET PROCESSING OPTIONS was answered: the application is refused where it has no counter left, and nothing is decided;
 -- else it is started, and reading begins with what its own profile and locator give
-abbrev pub Initiated : List AppData → (a : AppData) → IsWhole a → ℕ → AppState → Now → Now → Option Opened → Type 0
+abbrev pub Initiated : ImageData → (a : AppData) → IsWhole a → ℕ → AppState → Now → Now → Option Opened → Type 0
 Initiated image a whole app s before at None = (65535 ≤ s.counter) × (phase_at image at ≡ Selected app) × (at.kept ≡ before.kept)
 Initiated image a whole app s before at (Some opened) = (opened ≡ whole.reads.start) × (phase_at image at ≡ Started app)
 
-abbrev pub InitiationRuns : List AppData → Type 0
+abbrev pub InitiationRuns : ImageData → Type 0
 InitiationRuns image =
     (a : AppData) (app : ℕ) (now : Now) (s : AppState) (terminal : Entries) (whole : IsWhole a)
-    → KeepsRules a → slice_get image app ≡ Some a → slice_get (state_at image now).apps.items app ≡ Some s
+    → KeepsRules a → slice_get image.apps app ≡ Some a → slice_get (state_at image now).apps.items app ≡ Some s
     → (state_at image now).blocked ≡ false → s.blocked ≡ false → phase_at image now ≡ Selected app
     → Runs image (Initiated image a whole app s now) now (initiating a.pdol terminal)

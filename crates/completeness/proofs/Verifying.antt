@@ -6,7 +6,7 @@ use Rattle.card_app.specs.Answering.{instruction_row, verify_row}
 use Rattle.card_app.specs.Pin.{verify_of}
 use Rattle.card_app.specs.Session.{next_phase}
 use Rattle.card_cryptogram.specs.declared.phase.Phase.TheVariants.{Started}
-use Rattle.card_files.specs.Views.{AppData}
+use Rattle.card_files.specs.Views.{AppData, ImageData}
 use Rattle.card_pages.specs.Comparing.{compared, has_pin}
 use Rattle.card_state.specs.declared.state.AppState.{AppState}
 use Rattle.completeness.proofs.Answers.{state_at, phase_at}
@@ -51,12 +51,12 @@ verify_room app block a s =
     (if_room (not (has_pin s)) _ _ none
     (if_room (s.tries == 0) _ _ none (compared_room app a.tries s.tries (bytes_eq block s.pin))))
 
-module _ (image : List AppData) (app : ℕ) where
+module _ (image : ImageData) (app : ℕ) where
   verify_heard : (now : Now) (pin : List ℕ) → phase_at image now ≡ Started app → Heard image app now (verify_command pin)
   unfolding verify_command instruction_row verify_row next_phase
   verify_heard now pin here =
       heard image app now (command_for pin) here
-      (app_room (slice_get image app) (slice_get (state_at image now).apps.items app) (verify_of app (block_of 2 pin)) (verify_room app (block_of 2 pin)))
+      (app_room (slice_get image.apps app) (slice_get (state_at image now).apps.items app) (verify_of app (block_of 2 pin)) (verify_room app (block_of 2 pin)))
       (λ body status. refl)
 
   -- whatever is found, the application stays started

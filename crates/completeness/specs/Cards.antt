@@ -2,7 +2,7 @@
 use Rattle.std.specs.Prelude.{ℕ, List, [], ◌∷◌, ◌++◌}
 use Rattle.card_app.specs.Answering.{card_answer}
 use Rattle.card_app.specs.Session.{Exchange}
-use Rattle.card_files.specs.Views.{AppData}
+use Rattle.card_files.specs.Views.{ImageData}
 use Rattle.card_pages.specs.Replies.{CardAnswer}
 use Rattle.card_state.specs.Decisions.{Decided}
 
@@ -16,14 +16,14 @@ abbrev pub powered : List Decided → Now
 powered found = record { kept = found; session = [] }
 
 -- what it decides and answers
-abbrev pub answer_of : List AppData → Now → List ℕ → CardAnswer
+abbrev pub answer_of : ImageData → Now → List ℕ → CardAnswer
 answer_of image now command = card_answer image now.kept now.session command
 
-abbrev pub says : List AppData → Now → List ℕ → List ℕ
+abbrev pub says : ImageData → Now → List ℕ → List ℕ
 says image now command = (answer_of image now command).answer
 
 -- the card behind the command
-abbrev pub goes : List AppData → Now → List ℕ → Now
+abbrev pub goes : ImageData → Now → List ℕ → Now
 goes image now command = record {
   kept = now.kept ++ (answer_of image now command).new;
   session = now.session ++ record { command = command; answer = says image now command } ∷ [];

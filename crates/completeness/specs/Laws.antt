@@ -1,7 +1,7 @@
 -- A purchase with a well-formed card that stays in the terminal is approved or declined (EMV 4.3 Book 4 section 6.3).
 use Rattle.std.specs.Prelude.{◌≡◌, ℕ, List, Some}
 use Rattle.card_files.specs.Kept.{IsImage}
-use Rattle.card_files.specs.Views.{AppData}
+use Rattle.card_files.specs.Views.{ImageData}
 use Rattle.card_state.specs.Decisions.{Decided}
 use Rattle.completeness.specs.Cards.{Now}
 use Rattle.completeness.specs.Told.{Told, IsDecided, IsLinked}
@@ -17,7 +17,7 @@ use Rattle.terminal_state.specs.Terminal.{Deal}
 
 abbrev pub PurchasesAreDecided : Type 0
 PurchasesAreDecided =
-    (image : List AppData) (deal : Deal) (found : List Decided) (now : Now) (replies : List Reply) (ending : Ending)
+    (image : ImageData) (deal : Deal) (found : List Decided) (now : Now) (replies : List Reply) (ending : Ending)
     → IsImage image → IsSettings deal.settings → WellFormed image deal found → Told image deal found now replies
     → (dialogue deal replies).deed ≡ Over ending → IsDecided ending
 

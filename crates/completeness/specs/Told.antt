@@ -5,7 +5,7 @@ use Rattle.std.specs.List.{All}
 use Rattle.apdu_core.specs.Command.{command_of}
 use Rattle.auth_message.specs.Reply.{ReplyData, reply_of}
 use Rattle.auth_message.specs.declared.fault.MessageFault.{MessageFault}
-use Rattle.card_files.specs.Views.{AppData}
+use Rattle.card_files.specs.Views.{ImageData}
 use Rattle.card_state.specs.Decisions.{Decided}
 use Rattle.completeness.specs.Cards.{Now, powered, says, goes}
 use Rattle.emv_dict.specs.declared.ending.Ending.{Ending}
@@ -40,7 +40,7 @@ IsLinked None = ⊤
 IsLinked (Some reply) = IsPlainReply (reply_of reply)
 
 -- behind these replies the card stands so; the terminal's log may have changed with each answer
-pub data Told (image : List AppData) (deal : Deal) (found : List Decided) : Now → List Reply → Type 0 where
+pub data Told (image : ImageData) (deal : Deal) (found : List Decided) : Now → List Reply → Type 0 where
   begins : Told image deal found (powered found) []
   card : {now : Now} {replies : List Reply} {command : List ℕ} (log : List Logged) →
       Told image deal found now replies → (dialogue deal replies).deed ≡ ToCard command →

@@ -6,7 +6,7 @@ use Rattle.app_select.specs.Said.{is_supported}
 use Rattle.card_app.specs.Files.{record_or}
 use Rattle.card_app.specs.OwnLists.{cdol_of}
 use Rattle.card_files.specs.Files.{opening_of, record_in, has_record_of}
-use Rattle.card_files.specs.Views.{AppData}
+use Rattle.card_files.specs.Views.{AppData, ImageData}
 use Rattle.card_pages.specs.Replies.{said}
 use Rattle.card_state.specs.Decisions.{Decided}
 use Rattle.card_state.specs.Totals.{totals}
@@ -24,8 +24,8 @@ use Rattle.terminal_state.specs.Terminal.{Deal}
 
 -- no application's name begins another's
 abbrev pub AreApart : List AppData → Type 0
-AreApart image =
-    (i j : ℕ) (a b : AppData) → slice_get image i ≡ Some a → slice_get image j ≡ Some b → i ≢ j
+AreApart apps =
+    (i j : ℕ) (a b : AppData) → slice_get apps i ≡ Some a → slice_get apps j ≡ Some b → i ≢ j
     → starts_with nat_eq b.name a.name ≡ false
 
 -- how the terminal would list an application that it finds by a row
@@ -34,12 +34,12 @@ listed_by row a = record { row = row; name = a.name; priority = a.priority }
 
 -- an application that can be chosen and can start a transaction: it isn't blocked, has a counter left, and a row of the
 -- terminal supports it, with the cardholder's confirmation where it asks for that
-pub record CanServe (image : List AppData) (state : CardState) (deal : Deal) : Type 0 where
+pub record CanServe (image : ImageData) (state : CardState) (deal : Deal) : Type 0 where
   pub app : ℕ
   pub own : AppData
   pub now : AppState
   pub row : AidRow
-  pub is : slice_get image app ≡ Some own
+  pub is : slice_get image.apps app ≡ Some own
   pub state_is : slice_get state.apps.items app ≡ Some now
   pub unblocked : now.blocked ≡ false
   pub counter : now.counter < 65535
@@ -76,8 +76,8 @@ pub record IsWhole (a : AppData) : Type 0 where
   pub short : a.gpo_format ≡ 2 → length a.afl ≤ 244
 
 -- with these decisions found, the card isn't blocked, one of its applications can serve the purchase, and each is whole
-pub record WellFormed (image : List AppData) (deal : Deal) (found : List Decided) : Type 0 where
+pub record WellFormed (image : ImageData) (deal : Deal) (found : List Decided) : Type 0 where
   pub unblocked : (totals (opening_of image) found).blocked ≡ false
-  pub apart : AreApart image
+  pub apart : AreApart image.apps
   pub serves : CanServe image (totals (opening_of image) found) deal
-  pub whole : All IsWhole image
+  pub whole : All IsWhole image.apps

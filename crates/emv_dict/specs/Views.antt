@@ -11,6 +11,7 @@ pub record SettingsData : Type 0 where
   pub pin_key : List ℕ
   pub exceptions : List (List ℕ)
   pub aids : List AidRow
+  pub pse : Bool
 
 pub record PurchaseData : Type 0 where
   pub amount : ℕ

@@ -45,6 +45,8 @@ pub struct Settings {
     pub exceptions: Vec<Digits>,
     /// The applications that the terminal supports, the preferred one first.
     pub aids: Vec<AidRow>,
+    /// Whether the terminal begins with the payment system directory (EMV 4.3 Book 1 section 12.3.2).
+    pub pse: bool,
 }
 
 impl Model for Settings {
@@ -60,6 +62,7 @@ impl Model for Settings {
       pin_key = s.pin_key;
       exceptions = s.exceptions.items;
       aids = s.aids.items;
+      pse = s.pse;
     } };
 }
 

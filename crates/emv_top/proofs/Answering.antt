@@ -9,6 +9,7 @@ use Rattle.emv_top.specs.Courses.{Replays, Reads, Stopped, all_lines, shown_line
 use Rattle.emv_top.specs.Decided.{DecidedRun, RunsAreDecided}
 use Rattle.emv_top.specs.Input.{IsInput}
 use Rattle.emv_top.specs.StatusCode.{code_of}
+use Rattle.emv_top.specs.Words.{usage_line}
 use Rattle.emv_top.specs.declared.status.Status.{Status}
 use Rattle.emv_top.specs.declared.status.Status.TheVariants.{Done, Refused, Usage, ReadFault, WriteFault, OutOfMemory}
 use Rattle.emv_top.specs.declared.words.Order.{Order}
@@ -18,7 +19,6 @@ use Rattle.emv_top.proofs.ReadRuns.{read_fair}
 use Rattle.emv_top.proofs.ReadSettled.{read_settled}
 use Rattle.emv_top.proofs.Settled.{run_settled}
 use Rattle.kernel.specs.Tally.{Counts}
-use Rattle.report_text.specs.CommandLine.{usage_line}
 use Rattle.scenario.specs.Plan.{ScenarioData, IsScenario}
 use Rattle.scenario_fields.specs.Line.{refused_line}
 use Rattle.scenario_fields.specs.declared.fault.ScenarioFault.{ScenarioFault}

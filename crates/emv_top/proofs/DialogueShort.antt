@@ -3,7 +3,7 @@ use Rattle.std.proofs.Common.{◌≡◌, ℕ, Bool, true, false, if◌then◌els
 use Rattle.std.specs.Prelude.{⊤, IfSome}
 use Rattle.std.specs.List.{AllByRecursion}
 use Rattle.app_select.specs.Candidates.{CandidateData}
-use Rattle.app_select.specs.Selecting.{SelectedData, final, selecting}
+use Rattle.app_select.specs.Selecting.{SelectedData, final}
 use Rattle.auth_message.specs.Reply.{ReplyData, reply_of}
 use Rattle.auth_message.specs.declared.fault.MessageFault.{MessageFault}
 use Rattle.cvm_list.specs.Begun.{cvm}
@@ -24,6 +24,7 @@ use Rattle.kernel.specs.Reply.{Reply, CardSaid, CardGone, HostSaid, HostSilent, 
 use Rattle.online_step.specs.Authenticate.{authenticated}
 use Rattle.online_step.specs.Generate.{generated, list_data}
 use Rattle.online_step.specs.Request.{request_of}
+use Rattle.pse_directory.specs.Directory.{selecting_by}
 use Rattle.read_records.specs.DataRead.{reading}
 use Rattle.read_records.specs.Options.{Opened, initiating}
 use Rattle.restrictions.specs.Restricted.{restricted}
@@ -246,6 +247,6 @@ module _ (deal : Deal) where
   pub dialogue_short : (replies : List Reply) → AreShort (dialogue deal replies).marks
   unfolding dialogue
   dialogue_short replies =
-      step_short step.Power step.Select [] (selecting deal.settings.aids deal.purchase.confirm)
+      step_short step.Power step.Select [] (selecting_by deal.settings.pse deal.settings.aids deal.purchase.confirm)
       (λ selected. initiation deal selected (candidates_left deal selected.left)) tt
       (λ selected. initiation_short selected (candidates_left deal selected.left) (candidates_short selected.left)) [] replies

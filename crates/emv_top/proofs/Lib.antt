@@ -20,3 +20,5 @@ pub mod Deciding
 pub mod Accepting
 pub mod Booked
 pub mod Summing
+pub mod Checked
+pub mod Entries

@@ -10,12 +10,12 @@ use Rattle.emv_top.specs.Courses.{Ends, Replays, Reads, Stopped, all_lines, show
 use Rattle.emv_top.specs.Decided.{DecidedRun}
 use Rattle.emv_top.specs.Input.{IsInput}
 use Rattle.emv_top.specs.Texts.{text_of}
+use Rattle.emv_top.specs.Words.{usage_line}
 use Rattle.emv_top.specs.declared.status.Status.{Status}
 use Rattle.emv_top.specs.declared.status.Status.TheVariants.{Done, Refused, Usage, ReadFault, WriteFault, OutOfMemory}
 use Rattle.emv_top.specs.declared.words.Order.{Order}
 use Rattle.emv_top.specs.declared.words.Order.TheVariants.{Read, Replay}
 use Rattle.kernel.specs.Tally.{Counts}
-use Rattle.report_text.specs.CommandLine.{usage_line}
 use Rattle.report_text.specs.declared.line.Line.{Line}
 use Rattle.scenario.specs.Cards.{CardData}
 use Rattle.scenario.specs.Plan.{ScenarioData}

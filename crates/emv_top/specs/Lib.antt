@@ -4,6 +4,8 @@ pub mod Stops
 pub mod Texts
 pub mod Short
 pub mod Input
+pub mod Checking
+pub mod Traces
 pub mod Courses
 pub mod Decided
 pub mod Answers

@@ -2,14 +2,16 @@
 ghost use Rattle.std.specs.Prelude.{◌≡◌, map, length};
 ghost use Rattle.std.specs.List.{All};
 ghost use Rattle.emv_ports.specs.Memory.{IsBlank};
-ghost use Rattle.emv_top.specs.Answers.{AreSpare, Leaves, Unbegun};
+ghost use Rattle.emv_top.specs.Answers.{AreSpare, Leaves, Refuses, SinkCount, Unbegun};
 ghost use Rattle.txn_replay.specs.Laws.{IsFair};
 ghost use Rattle.txn_replay.specs.World.{World as Told};
 ghost use Rattle.txn_replay.specs.Seen.{WorldStands};
 
 use crate::status::Status;
-use emv_ports::Pages;
+use emv_ports::{Failed, Pages, Sink, write_all};
 use kernel::Tally;
+use scenario_fields::ScenarioFault;
+use std::alloc::Global;
 use txn_replay::World;
 
 /// How a run ended, the cards' pages, and what the terminals counted.
@@ -32,6 +34,28 @@ pub fn unbegun<P: Pages>(status: Status, bank: Vec<P>) -> Ended<P>
         status,
         bank,
         tally: Tally::new(),
+    }
+}
+
+/// The end with the line of a fault.
+pub fn refuse<P: Pages, K: Sink>(
+    alloc: Global,
+    fault: &ScenarioFault,
+    bank: Vec<P>,
+    sink: &mut K,
+) -> Ended<P>
+    requires pages { length bank.items ≡ 64 }
+    requires blank { All IsBlank (map P.memory bank.items) }
+    ensures refuses { Refuses fault.now (K.held sink.old) (K.held sink.new) (map P.memory result.bank.items) result.tally result.status }
+    ensures unbegun { Unbegun (map P.memory result.bank.items) result.tally }
+    ensures count { SinkCount (K.faults sink.old) (K.faults sink.new) result.status }
+{
+    match fault.line(alloc) {
+        Ok(line) => match write_all(sink, line.as_bytes()) {
+            Ok(()) => unbegun(Status::Refused, bank),
+            Err(Failed) => unbegun(Status::WriteFault, bank),
+        },
+        Err(_) => unbegun(Status::OutOfMemory, bank),
     }
 }
 

@@ -1,5 +1,6 @@
-//! The law that the purchases of a run come to a decision.
+//! The laws that the purchases of a run come to a decision, and that its lines are entries of traces.
 ghost use Rattle.emv_top.specs.Decided.{RunsAreDecided};
+ghost use Rattle.emv_top.specs.Traces.{LinesAreEntries};
 
 use completeness::{hosts_are_linked, purchases_are_decided};
 
@@ -11,3 +12,9 @@ pub fn runs_are_decided()
     purchases_are_decided();
     hosts_are_linked();
 }
+
+/// A line of a report that tells what was said in a purchase is the text of a trace's entry behind the lane, and the line
+/// of its end is the text that a trace's verdict compares, behind the purchase's number.
+pub fn lines_are_entries()
+    ensures { LinesAreEntries }
+{}

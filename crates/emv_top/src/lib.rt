@@ -3,12 +3,13 @@
 //! promises.
 #![tactic(auto)]
 
+mod checking;
 mod closing;
 mod ended;
 mod events;
 mod generating;
 mod input;
-mod laws;
+pub mod laws;
 mod lines;
 mod reading;
 mod replaying;

@@ -1,34 +1,35 @@
 //! The top call.
-ghost use Rattle.std.specs.Prelude.{◌≡◌, ◌≢◌, ◌≤◌, ◌⊎◌, ℕ, List, None, Some, Ok, map, length, string_bytes};
+ghost use Rattle.std.specs.Prelude.{◌≡◌, ◌≢◌, ◌≤◌, ◌⊎◌, ℕ, List, None, Some, Ok, map, true, false, length, string_bytes};
 ghost use Rattle.std.specs.List.{All};
 ghost use Rattle.std.specs.Io.KnownBytes.{Appends};
 ghost use Rattle.emv_ports.specs.Causes.{Rose};
 ghost use Rattle.emv_ports.specs.Growth.{AppendsFront};
 ghost use Rattle.emv_ports.specs.Memory.{IsBlank};
 ghost use Rattle.emv_ports.specs.Reading.{ReadsUpTo};
-ghost use Rattle.emv_top.specs.Answers.{Answers, AnswersRead, AnswersWords, IsAccepted, IsCutShort, IsRefused, IsStarved, IsWhole, Plays, Refuses, SinkCount, SourceCount, TellsUsage, Unbegun};
+ghost use Rattle.emv_top.specs.Answers.{Answers, AnswersRead, AnswersWords, IsAccepted, IsCutShort, IsRefused, IsStarved, IsWhole, Plays, SinkCount, SourceCount, TellsUsage, Unbegun};
+ghost use Rattle.emv_top.specs.Checking.{ChecksRead, HasFault, HasVerdict, TellsFront};
 ghost use Rattle.emv_top.specs.Generating.{AnswersAsked, IsSummed, IsSummedShort, IsUnsummed};
 ghost use Rattle.emv_top.specs.Input.{IsInput, first_purchases};
-ghost use Rattle.emv_top.specs.Words.{generate_of, order_of};
+ghost use Rattle.emv_top.specs.Words as spec;
+ghost use Rattle.emv_top.specs.Words.{generate_of, order_of, usage_line};
 ghost use Rattle.emv_top.specs.declared.status.Status.{Status};
 ghost use Rattle.emv_top.specs.declared.words.Order.{Order};
-ghost use Rattle.report_text.specs.CommandLine.{usage_line};
 ghost use Rattle.scenario.specs.Plan.{IsScenario, ScenarioData};
-ghost use Rattle.scenario_fields.specs.Line.{refused_line};
+ghost use Rattle.trace_check.specs.Document.{IsReading, TraceData};
 ghost use Rattle.txn_replay.specs.Reading.{to_read};
 
-use crate::ended::{Ended, end_world, unbegun};
+use crate::checking::check_source;
+use crate::ended::{Ended, end_world, refuse, unbegun};
 use crate::generating::generate;
 use crate::input::{read_input, take_tear};
 use crate::reading::read_through;
 use crate::replaying::replay_whole;
 use crate::status::Status;
 use crate::stop::Stop;
-use crate::words::{Order, read_count, read_words};
+use crate::words::{Order, asks_check, read_count, read_words, usage};
 use emv_ports::{Failed, Pages, ReadFault, Sink, Source, read_up_to, write_all};
 use kernel::Tally;
-use report_text::usage;
-use scenario::{MOST_BYTES, Scenario, ScenarioFault};
+use scenario::{MOST_BYTES, Scenario};
 use std::alloc::Global;
 use txn_replay::{NoWorld, World, runs_are_fair};
 
@@ -102,27 +103,6 @@ fn play<P: Pages, K: Sink>(
             take_tear(&mut scenario);
             read_card(alloc, &scenario, bank, sink)
         }
-    }
-}
-
-/// The line of a fault.
-fn refuse<P: Pages, K: Sink>(
-    alloc: Global,
-    fault: &ScenarioFault,
-    bank: Vec<P>,
-    sink: &mut K,
-) -> Ended<P>
-    requires pages { length bank.items ≡ 64 }
-    requires blank { All IsBlank (map P.memory bank.items) }
-    ensures refuses { Refuses fault.now (K.held sink.old) (K.held sink.new) (map P.memory result.bank.items) result.tally result.status }
-    ensures count { SinkCount (K.faults sink.old) (K.faults sink.new) result.status }
-{
-    match fault.line(alloc) {
-        Ok(line) => match write_all(sink, line.as_bytes()) {
-            Ok(()) => unbegun(Status::Refused, bank),
-            Err(Failed) => unbegun(Status::WriteFault, bank),
-        },
-        Err(_) => unbegun(Status::OutOfMemory, bank),
     }
 }
 
@@ -203,7 +183,7 @@ fn end_of<P: Pages, S: Source, K: Sink>(
     }
 }
 
-/// The answer to these words.
+/// The answer to words that ask for no trace to be checked.
 fn end_asked<P: Pages, S: Source, K: Sink>(
     alloc: Global,
     words: &[String],
@@ -227,6 +207,35 @@ fn end_asked<P: Pages, S: Source, K: Sink>(
     }
 }
 
+/// The answer to these words.
+fn answer_words<P: Pages, S: Source, K: Sink>(
+    alloc: Global,
+    words: &[String],
+    bank: Vec<P>,
+    source: &mut S,
+    sink: &mut K,
+) -> Ended<P>
+    requires pages { length bank.items ≡ 64 }
+    requires blank { All IsBlank (map P.memory bank.items) }
+    ensures checks { spec.asks_check (map string_bytes words.now) ≡ true
+        → ChecksRead (S.left source.old) (S.left source.new) (K.held sink.old) (K.held sink.new) result.status }
+    ensures unbegun { spec.asks_check (map string_bytes words.now) ≡ true → Unbegun (map P.memory result.bank.items) result.tally }
+    ensures answers { spec.asks_check (map string_bytes words.now) ≡ false
+        → AnswersAsked (generate_of (map string_bytes words.now)) (order_of (map string_bytes words.now)) (S.left source.old) (S.left source.new)
+        (K.held sink.old) (K.held sink.new) (map P.memory result.bank.items) result.tally result.status }
+    ensures unread { result.status ≡ Status.Usage → source.new ≡ source.old }
+    ensures generated { generate_of (map string_bytes words.now) ≢ None → source.new ≡ source.old }
+    ensures unwritten { result.status ≡ Status.ReadFault → sink.new ≡ sink.old }
+    ensures source { SourceCount (S.faults source.old) (S.faults source.new) result.status }
+    ensures sink { SinkCount (K.faults sink.old) (K.faults sink.new) result.status }
+{
+    if asks_check(words) {
+        check_source(alloc, bank, source, sink)
+    } else {
+        end_asked(alloc, words, bank, source, sink)
+    }
+}
+
 /// What the top call leaves.
 #[derive(Drop)]
 pub struct Finished<P: Drop> {
@@ -247,7 +256,9 @@ pub struct Finished<P: Drop> {
 /// reading, and reports the exchanges and the card's data objects. Each line is handed to the sink as soon
 /// as it is made. `generate N` reads nothing: it replays the generated scenario of N purchases, from 1 to
 /// 10,000, and in place of its report sums up how many were approved, declined or ended otherwise, and what
-/// the accounts paid. The bank has 64 blank pages that are off, for the cards in their order.
+/// the accounts paid. `check` reads a trace, a TOML document of the same length, and says whether it is what
+/// its terminal says to the same answers, or which entry is the first that isn't. The bank has 64 blank pages
+/// that are off, for the cards in their order.
 pub fn run<P: Pages, S: Source, K: Sink>(
     alloc: Global,
     words: &[String],
@@ -262,35 +273,38 @@ pub fn run<P: Pages, S: Source, K: Sink>(
     // stand for its cards' decisions, and the tally is its count. No counter serves two purchases, power-ups
     // find prefixes, and no transaction is booked twice. In a whole run each purchase without a tear whose card
     // has applications and was well-formed at its power-up is approved or declined.
-    ensures done { generate_of (map string_bytes words.now) ≡ None → result.status ≡ 0
+    ensures done { generate_of (map string_bytes words.now) ≡ None → spec.asks_check (map string_bytes words.now) ≡ false → result.status ≡ 0
         → (order : Order) × (order_of (map string_bytes words.now) ≡ Some order) × (bytes : List ℕ)
         × ReadsUpTo 4194305 (S.left source.old) (S.left source.new) bytes
         × IsAccepted order bytes (λ s. IsWhole order s (K.held sink.old) (K.held sink.new) (map P.memory result.bank.items) result.tally) }
 
     // 1: the bytes read are refused, and the sink got the line of that very fault; nothing was begun.
-    ensures refused { result.status ≡ 1 → (order : Order) × (order_of (map string_bytes words.now) ≡ Some order) × (bytes : List ℕ)
+    ensures refused { spec.asks_check (map string_bytes words.now) ≡ false → result.status ≡ 1
+        → (order : Order) × (order_of (map string_bytes words.now) ≡ Some order) × (bytes : List ℕ)
         × ReadsUpTo 4194305 (S.left source.old) (S.left source.new) bytes
         × (line : List ℕ) × IsRefused order bytes line × Appends (K.held sink.old) (K.held sink.new) line × Unbegun (map P.memory result.bank.items) result.tally }
 
     // 2: the words are not in the grammar, and the sink got the usage line; nothing was read or begun.
     ensures usage { result.status ≡ 2 → (order_of (map string_bytes words.now) ≡ None) × (generate_of (map string_bytes words.now) ≡ None)
+        × (spec.asks_check (map string_bytes words.now) ≡ false)
         × Appends (K.held sink.old) (K.held sink.new) usage_line × Unbegun (map P.memory result.bank.items) result.tally }
     ensures unread { result.status ≡ 2 → source.new ≡ source.old }
 
     // 3: the source failed, and nothing was written or begun.
-    ensures read_fault { result.status ≡ 3 → (order_of (map string_bytes words.now) ≢ None)
+    ensures read_fault { result.status ≡ 3
+        → ((order_of (map string_bytes words.now) ≢ None) ⊎ (spec.asks_check (map string_bytes words.now) ≡ true))
         × Rose (S.faults source.old) (S.faults source.new) × Unbegun (map P.memory result.bank.items) result.tally }
     ensures unwritten { result.status ≡ 3 → sink.new ≡ sink.old }
 
     // 4: the sink failed, and got a front of the usage line, of a refusal's line, or of the lines of a run up
     // to some event, which lacks at most those of that event and those behind all events.
     ensures write_fault { result.status ≡ 4 → Rose (K.faults sink.old) (K.faults sink.new) }
-    ensures front { generate_of (map string_bytes words.now) ≡ None → result.status ≡ 4
+    ensures front { generate_of (map string_bytes words.now) ≡ None → spec.asks_check (map string_bytes words.now) ≡ false → result.status ≡ 4
         → IsCutShort (order_of (map string_bytes words.now)) (S.left source.old) (S.left source.new)
         (K.held sink.old) (K.held sink.new) (map P.memory result.bank.items) result.tally }
 
     // 5: there was no memory: before anything began, or in a run, of whose lines a front was written as for 4.
-    ensures memory { generate_of (map string_bytes words.now) ≡ None → result.status ≡ 5
+    ensures memory { generate_of (map string_bytes words.now) ≡ None → spec.asks_check (map string_bytes words.now) ≡ false → result.status ≡ 5
         → (order : Order) × (order_of (map string_bytes words.now) ≡ Some order)
         × IsStarved order (S.left source.old) (S.left source.new) (K.held sink.old) (K.held sink.new) (map P.memory result.bank.items) result.tally }
 
@@ -307,18 +321,36 @@ pub fn run<P: Pages, S: Source, K: Sink>(
     ensures generated_known { generate_of (map string_bytes words.now) ≢ None → (result.status ≡ 0) ⊎ ((result.status ≡ 4) ⊎ (result.status ≡ 5)) }
     ensures generated_unread { generate_of (map string_bytes words.now) ≢ None → source.new ≡ source.old }
 
+    // `check`: nothing is begun. 0: the bytes read are a trace's, and the sink got the line of the verdict on it.
+    ensures checked { spec.asks_check (map string_bytes words.now) ≡ true → result.status ≡ 0 → (bytes : List ℕ)
+        × ReadsUpTo 4194305 (S.left source.old) (S.left source.new) bytes × HasVerdict bytes (Appends (K.held sink.old) (K.held sink.new)) }
+    // 1: they are refused, and the sink got the line of that very fault.
+    ensures check_refused { spec.asks_check (map string_bytes words.now) ≡ true → result.status ≡ 1 → (bytes : List ℕ)
+        × ReadsUpTo 4194305 (S.left source.old) (S.left source.new) bytes × HasFault bytes (Appends (K.held sink.old) (K.held sink.new)) }
+    // 4: the sink, which failed, got a front of the one line or the other.
+    ensures check_front { spec.asks_check (map string_bytes words.now) ≡ true → result.status ≡ 4 → (bytes : List ℕ)
+        × ReadsUpTo 4194305 (S.left source.old) (S.left source.new) bytes × TellsFront bytes (K.held sink.old) (K.held sink.new) }
+    // 5: there was no memory, and nothing was written.
+    ensures check_memory { spec.asks_check (map string_bytes words.now) ≡ true → result.status ≡ 5 → K.held sink.new ≡ K.held sink.old }
+    ensures check_unbegun { spec.asks_check (map string_bytes words.now) ≡ true → Unbegun (map P.memory result.bank.items) result.tally }
+
     // The source's count stays but for 3, and the sink's but for 4.
     ensures source_calm { result.status ≢ 3 → S.faults source.new ≡ S.faults source.old }
     ensures sink_calm { result.status ≢ 4 → K.faults sink.new ≡ K.faults sink.old }
     ensures known { result.status ≤ 5 }
 
-    // Where the words are in the grammar, the bytes read are a scenario's, and no count rose: 0, or 5.
+    // Where the words are in the grammar, the bytes read are a scenario's, for `check` a trace's, and no count
+    // rose: 0, or 5.
     ensures settled { (order : Order) (bytes : List ℕ) (scenario : ScenarioData) → order_of (map string_bytes words.now) ≡ Some order
         → S.left source.old ≢ None → ReadsUpTo 4194305 (S.left source.old) (S.left source.new) bytes → IsInput order bytes (Ok scenario)
         → (Rose (S.faults source.old) (S.faults source.new) → ⊥) → (Rose (K.faults sink.old) (K.faults sink.new) → ⊥)
         → (result.status ≡ 0) ⊎ (result.status ≡ 5) }
+    ensures check_settled { (bytes : List ℕ) (trace : TraceData) → spec.asks_check (map string_bytes words.now) ≡ true
+        → S.left source.old ≢ None → ReadsUpTo 4194305 (S.left source.old) (S.left source.new) bytes → IsReading bytes (Ok trace)
+        → (Rose (S.faults source.old) (S.faults source.new) → ⊥) → (Rose (K.faults sink.old) (K.faults sink.new) → ⊥)
+        → (result.status ≡ 0) ⊎ (result.status ≡ 5) }
 {
-    let ended = end_asked(alloc, words, bank, source, sink);
+    let ended = answer_words(alloc, words, bank, source, sink);
     Finished {
         status: ended.status.code(),
         bank: ended.bank,

@@ -1,8 +1,9 @@
 //! The words of the command line.
-ghost use Rattle.std.specs.Prelude.{◌≡◌, ◌≤◌, ◌==◌, ◌∷◌, [], ◌&&◌, not, slice_index, Some, None, if◌then◌else◌, codes, map, string_bytes, IfSome};
+ghost use Rattle.std.specs.Prelude.{◌≡◌, ◌≤◌, ◌==◌, ◌∷◌, [], ◌&&◌, not, slice_index, Some, None, option_map, if◌then◌else◌, codes, map, string_bytes, IfSome};
 ghost use Rattle.std.specs.Str.{bytes_eq};
 ghost use Rattle.std.specs.Str.Parse.{digits_value};
-ghost use Rattle.emv_top.specs.Words.{order_of, order_named, is_count, count_named, generate_of};
+ghost use Rattle.emv_top.specs.Words as spec;
+ghost use Rattle.emv_top.specs.Words.{order_of, order_named, is_count, count_named, generate_of, usage_line};
 
 /// What the program is asked to do.
 #[derive(Clone, Copy, PartialEq, Eq, Debug)]
@@ -13,26 +14,20 @@ pub enum Order {
     Replay,
 }
 
-/// The order that the words behind the program's name give, where they are in the grammar: the
-/// first word `--`, if any, is taken out, and `read` or `replay` is left.
-#[tactic(auto, unfolding(crate::specs::Words::order_of))]
-pub fn read_words(words: &[String]) -> Option<Order>
-    ensures { result ≡ order_of (map string_bytes words.now) }
+/// The one word that is left of the words behind the program's name, once the first word `--`, if any, is
+/// taken out.
+#[tactic(auto, unfolding(crate::specs::Words::sole_word))]
+fn sole_word(words: &[String]) -> Option<&String>
+    ensures { option_map (λ word. string_bytes word.now) result ≡ spec.sole_word (map string_bytes words.now) }
 {
     match words {
         [] => None,
-        [word] => {
-            if is_dashes(word) {
-                None
-            } else {
-                order_named(word)
-            }
-        }
+        [word] => { if is_dashes(word) { None } else { Some(word) } }
         [first, second] => {
             if is_dashes(first) {
-                order_named(second)
+                Some(second)
             } else if is_dashes(second) {
-                order_named(first)
+                Some(first)
             } else {
                 None
             }
@@ -48,12 +43,36 @@ fn is_dashes(word: &String) -> bool
 }
 
 fn order_named(word: &String) -> Option<Order>
-    ensures { result ≡ order_named (string_bytes word.now ∷ []) }
+    ensures { result ≡ order_named (string_bytes word.now) }
 {
     match word.as_str() {
         "read" => Some(Order::Read),
         "replay" => Some(Order::Replay),
         _ => None,
+    }
+}
+
+/// The order that the words behind the program's name give, where they are in the grammar: `read` or
+/// `replay`, once the first word `--`, if any, is taken out.
+#[tactic(auto, unfolding(crate::specs::Words::order_of))]
+pub fn read_words(words: &[String]) -> Option<Order>
+    ensures { result ≡ order_of (map string_bytes words.now) }
+{
+    match sole_word(words) {
+        Some(word) => order_named(word),
+        None => None,
+    }
+}
+
+/// Whether the words ask for a trace to be checked: `check` alone, once the first word `--`, if any, is
+/// taken out.
+#[tactic(auto, unfolding(crate::specs::Words::asks_check))]
+pub fn asks_check(words: &[String]) -> bool
+    ensures { result ≡ spec.asks_check (map string_bytes words.now) }
+{
+    match sole_word(words) {
+        Some(word) => word.as_str() == "check",
+        None => false,
     }
 }
 
@@ -130,4 +149,12 @@ fn count_in(word: &str) -> Option<u32>
         }
         Err(_) => None,
     }
+}
+
+/// The line that answers words that are not in the grammar, with its newline.
+#[tactic(auto, unfolding(crate::specs::Words::usage_line))]
+pub fn usage() -> &'static [u8]
+    ensures { result.now ≡ usage_line }
+{
+    b"usage: emvrun read|replay|generate N|check\n"
 }

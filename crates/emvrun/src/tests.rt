@@ -5,6 +5,7 @@ use memory_bank::blank_bank;
 use std::alloc::Global;
 use std::test::Fail;
 
+mod checking;
 mod documents;
 mod faults;
 mod generating;
@@ -110,12 +111,15 @@ fn other_words_give_the_usage_line(rt: HostRuntime) -> Result<(), Fail> {
         &["--help"],
         &["Read"],
         &["generate"],
+        &["Check"],
+        &["check", "x"],
+        &["check", "read"],
     ] {
         let ended = run_of(rt.alloc(), words, BASE.as_bytes(), (&[1], &[]))?;
         assert_eq!(rt; ended.status, 2);
         assert_eq!(rt;
             ended.text.as_slice(),
-            b"usage: emvrun read|replay|generate N\n".as_slice()
+            b"usage: emvrun read|replay|generate N|check\n".as_slice()
         );
         assert_eq!(rt; ended.marks, 0);
     }

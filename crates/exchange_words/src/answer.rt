@@ -1,8 +1,14 @@
 //! Answers in words (EMV 4.3 Book 3 section 6.5).
+ghost use Rattle.std.specs.Prelude.{◌≡◌, option_map};
+ghost use Rattle.exchange_words.specs.Lanes.{KeepsRest, torn_words, left_open, command_name as name_of_command};
+ghost use Rattle.exchange_words.specs.Statuses as spec;
+ghost use Rattle.word_lines.specs.Pieces.{Tells};
+
 use crate::command::{command_name, may_keep};
 use crate::cryptogram::tell_kind;
 use crate::lane::LaneState;
 use crate::learn::{counter_in, learn_record, learn_selected};
+use crate::phrases::{MAY_BE_KEPT, NO_ANSWER_YET, WRONG_PIN};
 use apdu_core::status::{NO_ERROR, counter_in as tries_in};
 use apdu_core::{ApduFault, read_response};
 use ber_tlv::{Tag, first_fault, sole_value};
@@ -13,23 +19,54 @@ use word_lines::WordLines;
 /// How deep objects within objects are told.
 pub(crate) const DEPTH: u8 = 8;
 
-/// Tells the words of a status behind a command of this instruction.
-pub fn tell_status(out: &mut WordLines, instruction: u8, status: u16) {
-    let code = u32::from(instruction) * 65536 + u32::from(status);
-    if let Some(word) = word_of(&ANSWERS, code) {
-        out.text(word);
-        return;
-    }
+/// The tries that a status of VERIFY leaves; `None` where it is another command's, or tells none.
+fn tries_left(instruction: u8, status: u16) -> Option<u8>
+    ensures { result ≡ spec.tries_in instruction status }
+{
     if instruction == 0x20 {
-        if let Some(left) = tries_in(status) {
-            out.text(b"wrong PIN, tries left ");
-            out.number(u64::from(left));
-            return;
-        }
+        tries_in(status)
+    } else {
+        None
     }
-    match word_of(&STATUSES, u32::from(status)) {
+}
+
+/// The words of a status of any command.
+fn status_word(status: u32) -> Option<&'static [u8]>
+    ensures { option_map (λ word. word.now) result ≡ spec.status_word status }
+{
+    word_of(&STATUSES, status)
+}
+
+/// The words of a status of one command: the instruction, then the status.
+fn answer_word(code: u32) -> Option<&'static [u8]>
+    ensures { option_map (λ word. word.now) result ≡ spec.answer_word code }
+{
+    word_of(&ANSWERS, code)
+}
+
+/// Tells a status that has no words of its own for its command.
+fn tell_other_status(out: &mut WordLines, instruction: u8, status: u16)
+    ensures { Tells out.old out.new (spec.other_words status (spec.tries_in instruction status)) }
+{
+    match tries_left(instruction, status) {
+        Some(left) => {
+            out.text(WRONG_PIN);
+            out.number(u64::from(left));
+        }
+        None => match status_word(u32::from(status)) {
+            Some(word) => out.text(word),
+            None => out.text(b"not known"),
+        },
+    }
+}
+
+/// Tells the words of a status behind a command of this instruction.
+pub fn tell_status(out: &mut WordLines, instruction: u8, status: u16)
+    ensures { Tells out.old out.new (spec.status_words instruction status) }
+{
+    match answer_word(u32::from(instruction) * 65536 + u32::from(status)) {
         Some(word) => out.text(word),
-        None => out.text(b"not known"),
+        None => tell_other_status(out, instruction, status),
     }
 }
 
@@ -139,7 +176,9 @@ fn tell_since(out: &mut WordLines, lane: &LaneState, last_online: u64, counter: 
 }
 
 /// Keeps a counter that GET DATA gave, and tells the distance of the two.
-fn tell_counter(out: &mut WordLines, lane: &mut LaneState, body: &[u8], brief: bool) {
+fn tell_counter(out: &mut WordLines, lane: &mut LaneState, body: &[u8], brief: bool)
+    ensures rest { KeepsRest lane.old lane.new }
+{
     if let Some(counter) = counter_in(body, 0x9f36) {
         lane.counter = Some(counter);
     }
@@ -161,7 +200,9 @@ fn tell_and_learn(
     answer: &[u8],
     body: &[u8],
     brief: bool,
-) {
+)
+    ensures rest { KeepsRest lane.old lane.new }
+{
     if let [_, 0xa4, ..] = command {
         if answer == lane.selected.as_slice() {
             out.line(1);
@@ -187,7 +228,9 @@ fn tell_response(
     command: &[u8],
     answer: &[u8],
     brief: bool,
-) {
+)
+    ensures rest { KeepsRest lane.old lane.new }
+{
     let Ok(response) = read_response(answer) else {
         return;
     };
@@ -213,7 +256,9 @@ pub fn tell_answer(
     command: &[u8],
     answer: &[u8],
     brief: bool,
-) {
+)
+    ensures rest { KeepsRest lane.old lane.new }
+{
     match read_response(answer) {
         Ok(_) => tell_response(out, lane, command, answer, brief),
         Err(ApduFault::Short) => {
@@ -227,15 +272,24 @@ pub fn tell_answer(
     }
 }
 
-/// Tells that the card was pulled out.
-pub fn tell_torn(out: &mut WordLines, command: &[u8]) {
-    out.line(1);
-    out.text(b"the card was pulled out before it had answered");
+/// Tells the command that was left without an answer, where it has a name.
+fn tell_left_open(out: &mut WordLines, command: &[u8])
+    ensures { Tells out.old out.new (left_open command.now (name_of_command command.now)) }
+{
     if let Some(name) = command_name(command) {
         out.text(b" ");
         out.text(name);
         if may_keep(command) {
-            out.text(b"; its next power line tells whether that was kept");
+            out.text(MAY_BE_KEPT);
         }
     }
+}
+
+/// Tells that the card was pulled out.
+pub fn tell_torn(out: &mut WordLines, command: &[u8])
+    ensures { Tells out.old out.new (torn_words command.now) }
+{
+    out.line(1);
+    out.text(NO_ANSWER_YET);
+    tell_left_open(out, command);
 }

@@ -1,4 +1,8 @@
 //! Commands in words (EMV 4.3 Book 3 section 6.5).
+ghost use Rattle.std.specs.Prelude.{◌≡◌, option_map};
+ghost use Rattle.exchange_words.specs.Lanes as spec;
+ghost use Rattle.exchange_words.specs.Lanes.{KeepsRest};
+
 use crate::cryptogram::tell_question;
 use crate::fields::tell_fields;
 use crate::lane::{LaneState, keep};
@@ -9,27 +13,60 @@ use explain_words::{Form, name_of};
 use object_words::{Fields, Style, digits_in, tell_digits, tell_script_command, tell_value};
 use word_lines::WordLines;
 
-/// The name of a command, as far as it may be left without an answer; `None` where it is not known.
-pub(crate) fn command_name(command: &[u8]) -> Option<&'static [u8]> {
+/// Whether a command has this class and this instruction.
+fn is_command(class: u8, instruction: u8, command: &[u8]) -> bool
+    ensures { result ≡ spec.is_command class instruction command.now }
+{
     match command {
-        [0x00, 0xa4, ..] => Some(b"SELECT"),
-        [0x80, 0xa8, ..] => Some(b"GET PROCESSING OPTIONS"),
-        [0x00, 0xb2, ..] => Some(b"READ RECORD"),
-        [0x00, 0x20, ..] => Some(b"VERIFY"),
-        [0x80, 0xca, ..] => Some(b"GET DATA"),
-        [0x80, 0xae, ..] => Some(b"GENERATE AC"),
-        [0x00, 0x82, ..] => Some(b"EXTERNAL AUTHENTICATE"),
-        [0x84, ..] | [0x04, ..] => Some(b"the script command"),
-        _ => None,
+        [first, second, ..] => *first == class && *second == instruction,
+        _ => false,
+    }
+}
+
+/// Whether a command is one of a script, by its class.
+fn is_of_script(command: &[u8]) -> bool
+    ensures { result ≡ spec.is_of_script command.now }
+{
+    match command {
+        [class, ..] => *class == 0x84 || *class == 0x04,
+        _ => false,
+    }
+}
+
+/// The name of a command, as far as it may be left without an answer; `None` where it is not known.
+#[tactic(auto, unfolding(crate::specs::Lanes::command_name))]
+pub(crate) fn command_name(command: &[u8]) -> Option<&'static [u8]>
+    ensures { option_map (λ name. name.now) result ≡ spec.command_name command.now }
+{
+    if is_command(0x00, 0xa4, command) {
+        Some(b"SELECT")
+    } else if is_command(0x80, 0xa8, command) {
+        Some(b"GET PROCESSING OPTIONS")
+    } else if is_command(0x00, 0xb2, command) {
+        Some(b"READ RECORD")
+    } else if is_command(0x00, 0x20, command) {
+        Some(b"VERIFY")
+    } else if is_command(0x80, 0xca, command) {
+        Some(b"GET DATA")
+    } else if is_command(0x80, 0xae, command) {
+        Some(b"GENERATE AC")
+    } else if is_command(0x00, 0x82, command) {
+        Some(b"EXTERNAL AUTHENTICATE")
+    } else if is_of_script(command) {
+        Some(b"the script command")
+    } else {
+        None
     }
 }
 
 /// Whether the card may keep something before it answers this command.
-pub(crate) fn may_keep(command: &[u8]) -> bool {
-    match command {
-        [0x00, 0xa4, ..] | [0x00, 0xb2, ..] | [0x80, 0xca, ..] => false,
-        _ => true,
-    }
+#[tactic(auto, unfolding(crate::specs::Lanes::may_keep))]
+pub(crate) fn may_keep(command: &[u8]) -> bool
+    ensures { result ≡ spec.may_keep command.now }
+{
+    !(is_command(0x00, 0xa4, command)
+        || is_command(0x00, 0xb2, command)
+        || is_command(0x80, 0xca, command))
 }
 
 /// Tells SELECT (EMV 4.3 Book 1 section 11.3).
@@ -134,7 +171,9 @@ fn tell_own(
     command: &Command<'_>,
     row: Option<Row>,
     brief: bool,
-) {
+)
+    ensures rest { KeepsRest lane.old lane.new }
+{
     match command.ins {
         0xa8 => tell_options(out, lane, command.body, brief),
         0xca => tell_get_data(out, command),
@@ -144,7 +183,9 @@ fn tell_own(
 }
 
 /// Tells a command of the class 00.
-fn tell_common(out: &mut WordLines, lane: &mut LaneState, command: &Command<'_>, brief: bool) {
+fn tell_common(out: &mut WordLines, lane: &mut LaneState, command: &Command<'_>, brief: bool)
+    ensures rest { KeepsRest lane.old lane.new }
+{
     match command.ins {
         0xa4 => {
             keep(&mut lane.name, command.body);
@@ -164,7 +205,11 @@ pub fn tell_command(
     bytes: &[u8],
     row: Option<Row>,
     brief: bool,
-) {
+)
+    ensures command { lane.new.command.items ≡ spec.kept 261 bytes.now }
+    ensures settled { lane.new.settled ≡ lane.old.settled }
+    ensures last_end { lane.new.last_end ≡ lane.old.last_end }
+{
     keep(&mut lane.command, bytes);
     match read_command(bytes) {
         Ok(command) => match command.class {

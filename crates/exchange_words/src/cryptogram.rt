@@ -1,5 +1,9 @@
 //! GENERATE AC in words: what is asked for and why, and what is answered (EMV 4.3 Book 3 sections 6.5.5 and
 //! 10.7 to 10.11).
+ghost use Rattle.std.specs.Prelude.{◌≡◌};
+ghost use Rattle.exchange_words.specs.Lanes.{KeepsRest};
+ghost use Rattle.exchange_words.specs.Statuses as spec;
+
 use crate::fields::{tell_fields, tell_fields_beside};
 use crate::lane::{LaneState, keep};
 use action_words::{Asking, Row, reason_of, tell_reason};
@@ -11,7 +15,9 @@ use object_words::{Fields, KnownCodes, ResultsStyle, Style, fits, number_in, val
 use word_lines::WordLines;
 
 /// The short name of a kind.
-pub fn kind_name(kind: Kind) -> &'static [u8] {
+pub fn kind_name(kind: Kind) -> &'static [u8]
+    ensures { result.now ≡ spec.kind_name kind }
+{
     match kind {
         Kind::Aac => b"AAC",
         Kind::Tc => b"TC",
@@ -73,7 +79,9 @@ fn asking(lane: &LaneState, kind: Kind, row: Option<Row>) -> Asking {
 }
 
 /// Keeps what was sent: the results, and of the first question the data.
-fn keep_question(lane: &mut LaneState, data: &[u8]) {
+fn keep_question(lane: &mut LaneState, data: &[u8])
+    ensures rest { KeepsRest lane.old lane.new }
+{
     let results = if lane.cryptograms == 0 {
         sent_results(lane.cdol1.as_slice(), data)
     } else {
@@ -88,7 +96,9 @@ fn keep_question(lane: &mut LaneState, data: &[u8]) {
 }
 
 /// Tells why this kind is asked for, and keeps it for the end line.
-fn tell_because(out: &mut WordLines, lane: &mut LaneState, kind: Kind, row: Option<Row>) {
+fn tell_because(out: &mut WordLines, lane: &mut LaneState, kind: Kind, row: Option<Row>)
+    ensures rest { KeepsRest lane.old lane.new }
+{
     let reason = reason_of(&asking(lane, kind, row));
     lane.reason = Some(reason);
     lane.second = lane.cryptograms > 0;
@@ -106,7 +116,9 @@ pub(crate) fn tell_question(
     command: &Command<'_>,
     row: Option<Row>,
     brief: bool,
-) {
+)
+    ensures rest { KeepsRest lane.old lane.new }
+{
     out.line(1);
     if lane.cryptograms == 0 {
         out.text(b"GENERATE AC, the first: asks for ");
@@ -198,7 +210,9 @@ fn tell_other_kind(out: &mut WordLines, lane: &LaneState, asked: Kind, kind: Kin
 }
 
 /// Tells the kind that is answered where it is not the one that was asked for, and keeps it.
-pub(crate) fn tell_kind(out: &mut WordLines, lane: &mut LaneState, body: &[u8]) {
+pub(crate) fn tell_kind(out: &mut WordLines, lane: &mut LaneState, body: &[u8])
+    ensures rest { KeepsRest lane.old lane.new }
+{
     lane.cryptograms = lane.cryptograms.saturating_add(1);
     let Some((information, data)) = cryptogram_parts(body) else {
         return;

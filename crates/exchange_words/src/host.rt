@@ -1,67 +1,17 @@
 //! Messages to the issuer and replies, in both dialects.
+ghost use Rattle.std.specs.Prelude.{◌≡◌};
+ghost use Rattle.exchange_words.specs.Lanes.{with_code};
+
 use crate::answer::DEPTH;
 use crate::iso::{message_type, reply_code, tell_message};
 use crate::lane::{LaneState, Settled};
-use ber_tlv::{Cursor, Tag, first_fault, first_value, sole_value, tag_bytes};
-use object_words::{Fields, Object, ResultsStyle, Style, has_field, tell_object, tell_objects};
+use crate::repeated::{known_fields, message_style, tell_fields_of};
+use ber_tlv::{Tag, first_fault, first_value, sole_value};
+use object_words::{Fields, Style, tell_objects};
 use word_lines::WordLines;
 
-/// Fields of a message at this level, with the bits of results in one line.
-fn message_style(level: u8, answer: Option<&'static [u8]>) -> Style {
-    Style {
-        level,
-        results: ResultsStyle::OneLine,
-        answer,
-    }
-}
-
-/// Tells the objects that the last GENERATE AC had as well, by their tags in one line.
-fn tell_known(out: &mut WordLines, fields: &[u8], known: Fields<'_>) {
-    let mut told = false;
-    let mut cursor = Cursor::new(fields);
-    while let Ok(Some(item)) = cursor.next() {
-        if has_field(known, item.tag, item.value) {
-            if !told {
-                out.line(2);
-                out.text(b"as in GENERATE AC:");
-                told = true;
-            }
-            out.text(b" ");
-            out.hex(&tag_bytes(item.tag));
-        }
-    }
-}
-
-/// Tells the objects of a message in lines of their own, but those that the last GENERATE AC had as well.
-fn tell_fields_of(out: &mut WordLines, fields: &[u8], known: Fields<'_>) {
-    let style = message_style(2, None);
-    let mut cursor = Cursor::new(fields);
-    while let Ok(Some(item)) = cursor.next() {
-        if !has_field(known, item.tag, item.value) {
-            let object = Object {
-                tag: item.tag,
-                value: item.value,
-            };
-            tell_object(out, &object, &style);
-        }
-    }
-    tell_known(out, fields, known);
-}
-
-/// What GENERATE AC had that a message may repeat: a request repeats the first, others nothing.
-fn known_fields(lane: &LaneState, is_request: bool) -> Fields<'_> {
-    if is_request {
-        Fields {
-            list: lane.cdol1.as_slice(),
-            data: lane.first.as_slice(),
-        }
-    } else {
-        Fields {
-            list: &[],
-            data: &[],
-        }
-    }
-}
+/// The message type of a request (ISO 8583:1987).
+const REQUEST: u32 = 0x0100;
 
 /// Tells a message of this name and its fields.
 fn tell_named(out: &mut WordLines, lane: &LaneState, name: &[u8], fields: &[u8], brief: bool) {
@@ -92,10 +42,22 @@ fn tell_objects_call(out: &mut WordLines, lane: &LaneState, message: &[u8], brie
     }
 }
 
+/// What GENERATE AC had that the field 55 of a message of this type may repeat: that of a request.
+fn known_items(lane: &LaneState, kind: u32) -> Option<Fields<'_>> {
+    if kind == REQUEST {
+        Some(known_fields(lane, true))
+    } else {
+        None
+    }
+}
+
 /// Tells a message to the issuer.
 pub fn tell_call(out: &mut WordLines, lane: &LaneState, message: &[u8], brief: bool) {
     match message_type(message) {
-        Some(_) => tell_message(out, message, &message_style(2, None), brief),
+        Some((kind, _)) => {
+            let known = known_items(lane, kind);
+            tell_message(out, message, &message_style(2, None), known, brief);
+        }
         None => tell_objects_call(out, lane, message, brief),
     }
 }
@@ -139,7 +101,7 @@ fn tell_objects_reply(out: &mut WordLines, reply: &[u8], style: &Style, brief: b
 /// Tells a reply of the issuer.
 pub fn tell_reply(out: &mut WordLines, settled: Settled, reply: &[u8], brief: bool) {
     match message_type(reply) {
-        Some(_) => tell_message(out, reply, &message_style(2, meaning(settled)), brief),
+        Some(_) => tell_message(out, reply, &message_style(2, meaning(settled)), None, brief),
         None => tell_objects_reply(out, reply, &message_style(1, meaning(settled)), brief),
     }
 }
@@ -154,7 +116,9 @@ fn code_of_objects(reply: &[u8]) -> Option<[u8; 2]> {
 }
 
 /// Keeps the response code of a reply.
-pub fn learn_reply(lane: &mut LaneState, reply: &[u8]) {
+pub fn learn_reply(lane: &mut LaneState, reply: &[u8])
+    ensures rest { lane.new ≡ with_code lane.old lane.new.code }
+{
     lane.code = match message_type(reply) {
         Some(_) => reply_code(reply),
         None => code_of_objects(reply),

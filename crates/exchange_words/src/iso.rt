@@ -2,8 +2,10 @@
 //! that it names, in rising order.
 ghost use Rattle.std.specs.Prelude.{◌≡◌, ◌<◌, ◌≤◌, length, IfSome};
 
+use crate::answer::DEPTH;
+use crate::repeated::tell_fields_of;
 use explain_words::{FIELDS, Form, MESSAGE_TYPES, word_of};
-use object_words::{Style, tell_hex, tell_objects, tell_value};
+use object_words::{Fields, Style, tell_hex, tell_objects, tell_value};
 use word_lines::WordLines;
 
 /// The value of a decimal digit.
@@ -79,12 +81,16 @@ fn is_named(bitmap: &[u8], number: u32) -> bool
     }
 }
 
-/// Tells a field.
-fn tell_field(out: &mut WordLines, number: u32, content: &[u8], style: &Style) {
-    if number == 55 {
-        tell_objects(out, content, style, 8);
-        return;
+/// Tells the objects of field 55. Of a request those that GENERATE AC had as well stand last, by their tags.
+fn tell_items(out: &mut WordLines, content: &[u8], style: &Style, known: Option<Fields<'_>>) {
+    match known {
+        Some(known) => tell_fields_of(out, content, known),
+        None => tell_objects(out, content, style, DEPTH),
     }
+}
+
+/// Tells a field of characters or of the enciphered PIN.
+fn tell_field(out: &mut WordLines, number: u32, content: &[u8], style: &Style) {
     out.line(style.level);
     out.text(b"field ");
     out.number(u64::from(number));
@@ -101,21 +107,38 @@ fn tell_field(out: &mut WordLines, number: u32, content: &[u8], style: &Style) {
 }
 
 /// Tells the fields that the bitmap names, up to the first one that can't be taken apart.
-fn tell_message_fields(out: &mut WordLines, bitmap: &[u8], fields: &[u8], style: &Style) {
+fn tell_message_fields(
+    out: &mut WordLines,
+    bitmap: &[u8],
+    fields: &[u8],
+    style: &Style,
+    known: Option<Fields<'_>>,
+) {
     let mut rest = fields;
     for number in 1..=64u32 {
         if is_named(bitmap, number) {
             let Some((content, behind)) = split_field(number, rest) else {
                 return;
             };
-            tell_field(out, number, content, style);
+            if number == 55 {
+                tell_items(out, content, style, known);
+            } else {
+                tell_field(out, number, content, style);
+            }
             rest = behind;
         }
     }
 }
 
-/// Tells a message: its type, and its fields.
-pub(crate) fn tell_message(out: &mut WordLines, message: &[u8], style: &Style, brief: bool) {
+/// Tells a message: its type, and its fields. `known` is what GENERATE AC had, where the message may
+/// repeat it.
+pub(crate) fn tell_message(
+    out: &mut WordLines,
+    message: &[u8],
+    style: &Style,
+    known: Option<Fields<'_>>,
+    brief: bool,
+) {
     let Some((kind, rest)) = message_type(message) else {
         return;
     };
@@ -131,7 +154,7 @@ pub(crate) fn tell_message(out: &mut WordLines, message: &[u8], style: &Style, b
         return;
     }
     if let Some((bitmap, fields)) = rest.split_at_checked(8) {
-        tell_message_fields(out, bitmap, fields, style);
+        tell_message_fields(out, bitmap, fields, style, known);
     }
 }
 

@@ -1,5 +1,6 @@
 //! What the lines of a lane leave, since its card was powered up.
 ghost use Rattle.std.specs.Prelude.{◌≡◌, [], length, nat_le, if◌then◌else◌};
+ghost use Rattle.exchange_words.specs.Lanes as spec;
 
 use action_words::{CardCodes, Reason};
 use arrayvec::ArrayVec;
@@ -62,7 +63,9 @@ const NO_CODES: CardCodes = CardCodes {
 
 impl LaneState {
     /// Before any line.
-    pub fn new() -> LaneState {
+    pub fn new() -> LaneState
+        ensures { result ≡ spec.fresh }
+    {
         LaneState {
             command: ArrayVec::new(),
             name: ArrayVec::new(),
@@ -88,7 +91,9 @@ impl LaneState {
     }
 
     /// Forgets what a card gave and was sent, as it is powered up.
-    pub fn begin(&mut self) {
+    pub fn begin(&mut self)
+        ensures { self.new ≡ spec.begun self.old }
+    {
         self.command.clear();
         self.name.clear();
         self.selected.clear();
@@ -105,7 +110,9 @@ impl LaneState {
     }
 
     /// Forgets what the records gave.
-    fn forget_lists(&mut self) {
+    fn forget_lists(&mut self)
+        ensures { self.new ≡ spec.without_lists self.old }
+    {
         self.cdol1.clear();
         self.cdol2.clear();
         self.first.clear();

@@ -1,4 +1,6 @@
 //! What an answer leaves for the lines behind it.
+ghost use Rattle.exchange_words.specs.Lanes.{KeepsRest};
+
 use crate::lane::{LaneState, keep};
 use ber_tlv::{Cursor, Tag, is_constructed, sole_value};
 use object_words::number_in;
@@ -37,7 +39,9 @@ fn number_or(record: &[u8], tag: u32, count: usize, known: Option<u64>) -> Optio
 }
 
 /// Keeps the lists, the action codes and the limits of a record.
-pub(crate) fn learn_record(lane: &mut LaneState, body: &[u8]) {
+pub(crate) fn learn_record(lane: &mut LaneState, body: &[u8])
+    ensures rest { KeepsRest lane.old lane.new }
+{
     let Some(record) = sole_value(body, Tag(0x70)) else {
         return;
     };
@@ -55,7 +59,9 @@ pub(crate) fn learn_record(lane: &mut LaneState, body: &[u8]) {
 }
 
 /// Keeps an answer to SELECT, and its list 9F38.
-pub(crate) fn learn_selected(lane: &mut LaneState, answer: &[u8], body: &[u8]) {
+pub(crate) fn learn_selected(lane: &mut LaneState, answer: &[u8], body: &[u8])
+    ensures rest { KeepsRest lane.old lane.new }
+{
     keep(&mut lane.selected, answer);
     match find_deep(body, Tag(0x9f38), DEPTH) {
         Some(list) => keep(&mut lane.pdol, list),

@@ -1,6 +1,6 @@
 //! What a terminal, a card and an issuer say to each other, in words: commands and answers, messages in
 //! both dialects, and what they leave for the lines behind them.
-#![tactic(auto)]
+#![tactic(auto, using(word_lines::proofs::Telling::telling))]
 
 pub mod answer;
 pub mod command;
@@ -10,6 +10,8 @@ pub mod host;
 pub mod iso;
 pub mod lane;
 pub mod learn;
+pub mod phrases;
+pub mod repeated;
 pub mod terminal;
 
 pub use answer::{tell_answer, tell_status, tell_torn};

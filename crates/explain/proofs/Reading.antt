@@ -3,10 +3,11 @@ use Rattle.std.proofs.Common.{◌≡◌, ℕ, ◌+◌, ◌-◌, ◌≤◌, Bool,
 use Rattle.std.proofs.lemmas.List.{append-nil, take-append-drop, length-append}
 use Rattle.std.specs.declared.option.Option.{Option}
 use Rattle.std.specs.Io.KnownBytes.{Consumes, Keeps, IsAtEnd}
-use Rattle.explain.specs.Course.{SoFar, Stopped, Ended}
+use Rattle.narrator.specs.State.{StateData, start}
+use Rattle.explain.specs.Course.{Stand, SoFar, Stopped, Ended}
 use Rattle.explain.specs.Reading.{ReadAll, ReadSome}
-use Rattle.explain.specs.Told.{Explained, BrokenOff, most_read}
-use Rattle.explain.proofs.Coming.{stopped_still, so_far_start}
+use Rattle.explain.specs.Told.{Way, Explained, BrokenOff, most_read}
+use Rattle.explain.proofs.Coming.{beginning, stopped_still, so_far_start}
 
 pub Consumes-none : (known : Option (List ℕ)) → Consumes known known []
 Consumes-none None = tt
@@ -25,18 +26,18 @@ Consumes-keeps (Some xs) (Some ys) None a p q = absurd q
 Consumes-keeps (Some xs) (Some ys) (Some zs) a p q = p ∙ ap (λ (t : List ℕ). a ++ t) (sym q)
 
 -- so much was read and has come; so much may still be read
-pub record IsReading (all : Bool) (pending : List ℕ) (long : Bool) (left left_after first held : Option (List ℕ)) (room : ℕ) : Type 0 where
+pub record IsReading (all : Way) (pending : List ℕ) (long : Stand) (left left_after first held : Option (List ℕ)) (room : ℕ) : Type 0 where
   pub input : List ℕ
   pub read : Consumes left left_after input
   pub many : most_read ≤ length input + room
   pub so_far : SoFar all pending long input first held
 
-pub reading_start : (all long : Bool) (p : List ℕ) (left first held : Option (List ℕ)) → SoFar all p long [] first held
+pub reading_start : (all : Way) (long : Stand) (p : List ℕ) (left first held : Option (List ℕ)) → SoFar all p long [] first held
     → IsReading all p long left left first held most_read
 reading_start all long p left first held s = record { input = []; read = Consumes-none left; many = omega arith; so_far = s }
 
 -- a chunk has come
-pub reading_more : (all long all' long' : Bool) (p p' chunk : List ℕ) (count room : ℕ) (left mid new first held held' : Option (List ℕ)) → length chunk ≡ count
+pub reading_more : (all : Way) (long : Stand) (all' : Way) (long' : Stand) (p p' chunk : List ℕ) (count room : ℕ) (left mid new first held held' : Option (List ℕ)) → length chunk ≡ count
     → IsReading all p long left mid first held room → Consumes mid new chunk
     → ((seen : List ℕ) (f : Option (List ℕ)) → SoFar all p long seen f held → SoFar all' p' long' (seen ++ chunk) f held')
     → IsReading all' p' long' left new first held' (room - count)
@@ -48,7 +49,7 @@ reading_more all long all' long' p p' chunk count room left mid new first held h
 }
 
 -- the end
-pub reading_end : (all long : Bool) (p : List ℕ) (room : ℕ) (left mid new first held : Option (List ℕ)) → IsReading all p long left mid first held room
+pub reading_end : (all : Way) (long : Stand) (p : List ℕ) (room : ℕ) (left mid new first held : Option (List ℕ)) → IsReading all p long left mid first held room
     → Consumes mid new [] → IsAtEnd new → ReadAll all p long left new first held
 reading_end all long p room left mid new first held r none end = record {
   input = r.input;
@@ -58,7 +59,7 @@ reading_end all long p room left mid new first held r none end = record {
 }
 
 -- or the most was read
-pub reading_full : (all long : Bool) (p : List ℕ) (room : ℕ) (left new first held : Option (List ℕ)) → IsReading all p long left new first held room → room ≤ 0
+pub reading_full : (all : Way) (long : Stand) (p : List ℕ) (room : ℕ) (left new first held : Option (List ℕ)) → IsReading all p long left new first held room → room ≤ 0
     → ReadAll all p long left new first held
 reading_full all long p room left new first held r none = record {
   input = r.input;
@@ -68,7 +69,7 @@ reading_full all long p room left new first held r none = record {
 }
 
 -- the source failed
-pub reading_broken : (all long : Bool) (p : List ℕ) (room : ℕ) (left mid new first held : Option (List ℕ)) → IsReading all p long left mid first held room → Keeps mid new
+pub reading_broken : (all : Way) (long : Stand) (p : List ℕ) (room : ℕ) (left mid new first held : Option (List ℕ)) → IsReading all p long left mid first held room → Keeps mid new
     → ReadSome all left new first held
 reading_broken all long p room left mid new first held r kept = record {
   input = r.input;
@@ -78,7 +79,7 @@ reading_broken all long p room left mid new first held r kept = record {
 }
 
 -- the lines stopped within a chunk
-pub reading_stopped : (all long : Bool) (p chunk : List ℕ) (room : ℕ) (left mid new first held held' : Option (List ℕ)) → IsReading all p long left mid first held room
+pub reading_stopped : (all : Way) (long : Stand) (p chunk : List ℕ) (room : ℕ) (left mid new first held held' : Option (List ℕ)) → IsReading all p long left mid first held room
     → Consumes mid new chunk
     → ((seen : List ℕ) (f : Option (List ℕ)) → SoFar all p long seen f held → (taken : ℕ) × Stopped all (seen ++ take taken chunk) f held')
     → ReadSome all left new first held'
@@ -93,7 +94,7 @@ reading_stopped all long p chunk room left mid new first held held' r more stops
     }
 
 -- all was read, and what stands behind the last newline was handed on, or a front of it
-pub explained : (all long : Bool) (p : List ℕ) (left new first held held' : Option (List ℕ)) → ReadAll all p long left new first held
+pub explained : (all : Way) (long : Stand) (p : List ℕ) (left new first held held' : Option (List ℕ)) → ReadAll all p long left new first held
     → ((seen : List ℕ) (f : Option (List ℕ)) → SoFar all p long seen f held → Ended all seen f held') → Explained all left new first held'
 explained all long p left new first held held' r on =
     let e = on r.input first r.so_far in record {
@@ -105,7 +106,7 @@ explained all long p left new first held held' r on =
       written = e.written;
     }
 
-pub explained_front : (all long : Bool) (p : List ℕ) (left new first held held' : Option (List ℕ)) → ReadAll all p long left new first held
+pub explained_front : (all : Way) (long : Stand) (p : List ℕ) (left new first held held' : Option (List ℕ)) → ReadAll all p long left new first held
     → ((seen : List ℕ) (f : Option (List ℕ)) → SoFar all p long seen f held → Stopped all seen f held') → BrokenOff all left new first held'
 explained_front all long p left new first held held' r on =
     let e = on r.input first r.so_far in record {
@@ -117,7 +118,7 @@ explained_front all long p left new first held held' r on =
       written = e.written;
     }
 
-pub broken_some : (all : Bool) (left new first held : Option (List ℕ)) → ReadSome all left new first held → BrokenOff all left new first held
+pub broken_some : (all : Way) (left new first held : Option (List ℕ)) → ReadSome all left new first held → BrokenOff all left new first held
 broken_some all left new first held r = record {
   input = r.input;
   later = r.later;
@@ -128,8 +129,8 @@ broken_some all left new first held r = record {
 }
 
 -- nothing was read
-pub broken_start : (all : Bool) (left first : Option (List ℕ)) → BrokenOff all left left first first
-broken_start all left first = let s = stopped_still all false [] [] first first (so_far_start all first) in record {
+pub broken_start : (all : Way) (left first : Option (List ℕ)) → BrokenOff all left left first first
+broken_start all left first = let s = stopped_still all beginning [] [] first first (so_far_start all first) in record {
   input = [];
   later = [];
   output = s.output;
@@ -139,6 +140,9 @@ broken_start all left first = let s = stopped_still all false [] [] first first 
 }
 
 -- a teller before the first byte
-pub so_far_begin : (all long : Bool) (p : List ℕ) (first : Option (List ℕ)) → p ≡ [] → long ≡ false → SoFar all p long [] first first
-so_far_begin all long p first none short =
-    subst (λ (t : List ℕ). SoFar all t long [] first first) (sym none) (subst (λ (l : Bool). SoFar all [] l [] first first) (sym short) (so_far_start all first))
+pub so_far_begin : (all : Way) (long : Bool) (state : StateData) (p : List ℕ) (first : Option (List ℕ)) → p ≡ [] → long ≡ false → state ≡ start
+    → SoFar all p (record { long = long; state = state }) [] first first
+so_far_begin all long state p first none short from =
+    subst (λ (t : List ℕ). SoFar all t (record { long = long; state = state }) [] first first) (sym none)
+    (subst (λ (l : Bool). SoFar all [] (record { long = l; state = state }) [] first first) (sym short)
+    (subst (λ (s : StateData). SoFar all [] (record { long = false; state = s }) [] first first) (sym from) (so_far_start all first)))

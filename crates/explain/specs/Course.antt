@@ -1,36 +1,51 @@
 -- How far a report has come, and what of it was handed on.
-use Rattle.std.specs.Prelude.{ℕ, ◌≡◌, Bool, true, false, List, [], ◌++◌, Result, Ok, Err}
+use Rattle.std.specs.Prelude.{ℕ, ◌≡◌, ◌≤◌, Bool, true, false, List, [], ◌++◌, length, Result, Ok, Err}
 use Rattle.std.specs.List.{All, flat_map}
 use Rattle.std.specs.declared.option.Option.{Option}
 use Rattle.std.specs.Io.KnownBytes.{Appends}
 use Rattle.emv_ports.specs.Causes.{Rose}
 use Rattle.emv_ports.specs.Growth.{AppendsFront}
-use Rattle.explain.specs.Told.{Told, IsTold, HasNoNewline, line_of, told_of, rest_of, Explains}
+use Rattle.narrator.specs.State.{StateData, start, seen_state}
+use Rattle.explain.specs.Told.{Told, Way, way_of, Course, HasNoNewline, line_of, told_of, rest_of, most_told, Explains}
 use Rattle.explain.specs.declared.told.Stop.{Stop}
 use Rattle.explain.specs.declared.told.Stop.TheVariants.{Sink, OutOfMemory}
+use Rattle.explain.specs.declared.told.Teller.{Teller}
+
+-- the way of a teller
+abbrev pub way_in : Teller → Way
+way_in teller = record { all = teller.all; brief = teller.narrator.filter.brief }
+
+-- whether the line that is coming is too long to be told, and what the lines before it left
+pub record Stand : Type 0 where
+  pub long : Bool
+  pub state : StateData
+
+abbrev pub stand_of : Teller → Stand
+stand_of teller = record { long = teller.long; state = seen_state teller.narrator }
 
 -- these bytes have come: lines, and a line without its end yet. What was handed on are the lines with their words, and
 -- of the last one a head, where it is too long to be told
-pub record SoFar (all : Bool) (pending : List ℕ) (long : Bool) (seen : List ℕ) (first held : Option (List ℕ)) : Type 0 where
+pub record SoFar (way : Way) (pending : List ℕ) (stand : Stand) (seen : List ℕ) (first held : Option (List ℕ)) : Type 0 where
   pub told : List Told
   pub head : List ℕ
-  pub lines : All IsTold told
-  pub shown : all ≡ true → All (λ t. t.shown ≡ true) told
+  pub lines : Course way start told stand.state
+  pub shown : way.all ≡ true → All (λ t. t.shown ≡ true) told
   pub no_line : HasNoNewline (head ++ pending)
-  pub short : long ≡ false → head ≡ []
+  pub short : stand.long ≡ false → head ≡ []
+  pub many : stand.long ≡ true → most_told ≤ length head
   pub seen_is : seen ≡ flat_map line_of told ++ (head ++ pending)
-  pub written : Appends first held (flat_map told_of told ++ rest_of all head)
+  pub written : Appends first held (flat_map told_of told ++ rest_of way.all head)
 
 -- these bytes have come, and a front of what they are explained as was handed on
-pub record Stopped (all : Bool) (seen : List ℕ) (first held : Option (List ℕ)) : Type 0 where
+pub record Stopped (way : Way) (seen : List ℕ) (first held : Option (List ℕ)) : Type 0 where
   pub output : List ℕ
-  pub explains : Explains all seen output
+  pub explains : Explains way seen output
   pub written : AppendsFront first held output
 
 -- these bytes have come, and what they are explained as was handed on
-pub record Ended (all : Bool) (seen : List ℕ) (first held : Option (List ℕ)) : Type 0 where
+pub record Ended (way : Way) (seen : List ℕ) (first held : Option (List ℕ)) : Type 0 where
   pub output : List ℕ
-  pub explains : Explains all seen output
+  pub explains : Explains way seen output
   pub written : Appends first held output
 
 -- the count of the sink's faults over one call

@@ -1,26 +1,26 @@
 -- A source that is read to its end while its bytes are explained.
-use Rattle.std.specs.Prelude.{ℕ, ◌≡◌, ◌<◌, ◌++◌, Bool, List, codes, length, Result, Ok, Err}
+use Rattle.std.specs.Prelude.{ℕ, ◌≡◌, ◌<◌, ◌++◌, List, codes, length, Result, Ok, Err}
 use Rattle.std.specs.declared.option.Option.{Option}
 use Rattle.std.specs.Io.KnownBytes.{Consumes, IsAtEnd}
 use Rattle.emv_ports.specs.Causes.{Rose}
-use Rattle.explain.specs.Course.{SoFar, Stopped}
-use Rattle.explain.specs.Told.{most_read}
+use Rattle.explain.specs.Course.{Stand, SoFar, Stopped}
+use Rattle.explain.specs.Told.{Way, most_read}
 use Rattle.explain.specs.declared.top.Broken.{Broken}
 use Rattle.explain.specs.declared.top.Broken.TheVariants.{Source, Sink, OutOfMemory}
 
 -- all was read, up to the most, and has come
-pub record ReadAll (all : Bool) (pending : List ℕ) (long : Bool) (left left_after first held : Option (List ℕ)) : Type 0 where
+pub record ReadAll (way : Way) (pending : List ℕ) (stand : Stand) (left left_after first held : Option (List ℕ)) : Type 0 where
   pub input : List ℕ
   pub read : Consumes left left_after input
   pub end : length input < most_read → IsAtEnd left_after
-  pub so_far : SoFar all pending long input first held
+  pub so_far : SoFar way pending stand input first held
 
 -- some was read, and a front of what its first bytes are explained as was handed on
-pub record ReadSome (all : Bool) (left left_after first held : Option (List ℕ)) : Type 0 where
+pub record ReadSome (way : Way) (left left_after first held : Option (List ℕ)) : Type 0 where
   pub input : List ℕ
   pub later : List ℕ
   pub read : Consumes left left_after (input ++ later)
-  pub stopped : Stopped all input first held
+  pub stopped : Stopped way input first held
 
 -- the count of the source's faults over one call
 abbrev pub SourceCount : {T : Type 0} → ℕ → ℕ → Result T Broken → Type 0

@@ -1,25 +1,60 @@
 -- What the program makes of a report.
-use Rattle.std.specs.Prelude.{ℕ, ◌≡◌, ◌==◌, ◌<◌, Bool, true, false, if◌then◌else◌, List, [], ◌∷◌, ◌++◌, length}
+use Rattle.std.specs.Prelude.{ℕ, ◌≡◌, ◌==◌, ◌<◌, ◌≤◌, ◌⊎◌, Bool, true, false, if◌then◌else◌, List, [], ◌∷◌, ◌++◌, length}
 use Rattle.std.specs.List.{All, list_any, flat_map}
 use Rattle.std.specs.declared.option.Option.{Option}
 use Rattle.std.specs.Io.KnownBytes.{Appends, Consumes, IsAtEnd}
 use Rattle.emv_ports.specs.Growth.{AppendsFront}
 use Rattle.word_lines.specs.Lines.{AreWordLines}
+use Rattle.narrator.specs.Shown.{shows_all}
+use Rattle.narrator.specs.State.{StateData, start}
+use Rattle.narrator.specs.Words.{Narrates}
+use Rattle.narrator.specs.declared.filter.Filter.{Filter}
 
 -- a text within a line
 unfoldable pub HasNoNewline : List ℕ → Type 0
 HasNoNewline text = list_any (λ b. b == 10) text ≡ false
 
--- a line of the input without its newline, the words behind it, and whether it is left by the filters
+-- how lines are told: whether none is left out, since no filter is given; and whether words are left out
+pub record Way : Type 0 where
+  pub all : Bool
+  pub brief : Bool
+
+-- the way of a filter
+abbrev pub way_of : Filter → Way
+way_of filter = record { all = shows_all filter; brief = filter.brief }
+
+-- each line, with all words
+abbrev pub whole : Way
+whole = record { all = true; brief = false }
+
+-- the most bytes of a line that is told in words
+abbrev pub most_told : ℕ
+most_told = 8192
+
+-- a line of the input without its newline, the words behind it, whether it is left by the filters, and what it leaves for
+-- the lines behind it
 pub record Told : Type 0 where
   pub text : List ℕ
   pub words : List ℕ
   pub shown : Bool
+  pub after : StateData
 
--- a line, with lines of words that begin with two blanks, or none
-pub record IsTold (told : Told) : Type 0 where
+-- a line that is too long to be told has no words, and leaves what was
+pub record IsUntold (told : Told) (before : StateData) : Type 0 where
+  pub many : most_told ≤ length told.text
+  pub no_words : told.words ≡ []
+  pub same : told.after ≡ before
+
+-- a line behind this state: its words are lines that begin with two blanks, or none, made from the line and the state
+pub record IsTold (way : Way) (before : StateData) (told : Told) : Type 0 where
   pub one_line : HasNoNewline told.text
   pub word_lines : AreWordLines told.words
+  pub made : Narrates way.brief told.text before told.words told.after ⊎ IsUntold told before
+
+-- lines one behind the other, each told behind the state that those before it left
+abbrev pub Course : Way → StateData → List Told → StateData → Type 0
+Course way before [] after = after ≡ before
+Course way before (told ∷ others) after = IsTold way before told × Course way told.after others after
 
 -- the line as it came
 abbrev pub line_of : Told → List ℕ
@@ -33,35 +68,36 @@ told_of told = (if told.shown then line_of told ++ told.words else [])
 abbrev pub rest_of : Bool → List ℕ → List ℕ
 rest_of all rest = (if all then rest else [])
 
--- the output is the input's lines in order and unchanged, each with its words or left out; where no filter is given
--- (`all`), none is left out
-pub record Explains (all : Bool) (input output : List ℕ) : Type 0 where
+-- the output is the input's lines in order and unchanged, each with its words or left out; where no filter is given, none
+-- is left out
+pub record Explains (way : Way) (input output : List ℕ) : Type 0 where
   pub told : List Told
+  pub after : StateData
   pub rest : List ℕ
-  pub lines : All IsTold told
-  pub shown : all ≡ true → All (λ t. t.shown ≡ true) told
+  pub lines : Course way start told after
+  pub shown : way.all ≡ true → All (λ t. t.shown ≡ true) told
   pub no_line : HasNoNewline rest
   pub input_is : input ≡ flat_map line_of told ++ rest
-  pub output_is : output ≡ flat_map told_of told ++ rest_of all rest
+  pub output_is : output ≡ flat_map told_of told ++ rest_of way.all rest
 
 -- the most bytes that are read
 abbrev pub most_read : ℕ
 most_read = 4611686018427387904
 
 -- all that the source had left, up to the most, was read, and explained to the sink
-pub record Explained (all : Bool) (left left_after held held_after : Option (List ℕ)) : Type 0 where
+pub record Explained (way : Way) (left left_after held held_after : Option (List ℕ)) : Type 0 where
   pub input : List ℕ
   pub output : List ℕ
-  pub explains : Explains all input output
+  pub explains : Explains way input output
   pub read : Consumes left left_after input
   pub end : length input < most_read → IsAtEnd left_after
   pub written : Appends held held_after output
 
 -- some bytes were read, and what some of them, the first ones, are explained as was written, or a front of it
-pub record BrokenOff (all : Bool) (left left_after held held_after : Option (List ℕ)) : Type 0 where
+pub record BrokenOff (way : Way) (left left_after held held_after : Option (List ℕ)) : Type 0 where
   pub input : List ℕ
   pub later : List ℕ
   pub output : List ℕ
-  pub explains : Explains all input output
+  pub explains : Explains way input output
   pub read : Consumes left left_after (input ++ later)
   pub written : AppendsFront held held_after output

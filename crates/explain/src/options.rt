@@ -1,6 +1,6 @@
 //! The words of the command line.
 ghost use Rattle.std.specs.Prelude.{◌≡◌, ◌<◌, ◌≤◌, [], length, true, IfSome, IfOk};
-ghost use Rattle.narrator.specs.Shown.{shows_all};
+ghost use Rattle.explain.specs.Told.{way_of, whole};
 
 use action_words::{Row, reach_of};
 use arrayvec::ArrayVec;
@@ -215,8 +215,8 @@ fn take_options(options: Options, words: &[String]) -> Result<Options, NoOptions
 
 /// Reads `[--brief] [--ends] [--lane N] [--purchase N] [--terminal T]...`, in any order.
 pub fn read_options(alloc: Global, words: &[String]) -> Result<Options, NoOptions>
-    // Without words every line is left.
-    ensures { words.now ≡ [] → IfOk result (λ options. shows_all options.filter ≡ true) }
+    // Without words every line is left, with all its words.
+    ensures { words.now ≡ [] → IfOk result (λ options. way_of options.filter ≡ whole) }
 {
     let options = Options {
         filter: Filter {

@@ -1,11 +1,13 @@
 //! The lines of a report as they come, each handed on with its words.
-ghost use Rattle.std.specs.Prelude.{◌≡◌, ◌≢◌, ◌∷◌, ◌++◌, ◌≤◌, ℕ, List, [], false, OnOk, OnErr, IfOk, take, if◌then◌else◌};
+ghost use Rattle.std.specs.Prelude.{◌≡◌, ◌≢◌, ◌∷◌, ◌++◌, ◌≤◌, ℕ, List, [], true, false, OnOk, OnErr, IfOk, take, if◌then◌else◌};
 ghost use Rattle.std.specs.declared.option.Option.{Option};
 ghost use Rattle.std.specs.Io.KnownBytes.{Appends};
 ghost use Rattle.arrayvec.specs.ArrayVec.{array_vec_len};
 ghost use Rattle.emv_ports.specs.Growth.{AppendsFront};
+ghost use Rattle.narrator.specs.State.{seen_state};
+ghost use Rattle.narrator.specs.Words.{Narrates};
 ghost use Rattle.word_lines.specs.Lines.{AreWordLines};
-ghost use Rattle.explain.specs.Course.{SoFar, Stopped, Ended, HasStop};
+ghost use Rattle.explain.specs.Course.{SoFar, Stopped, Ended, HasStop, way_in, stand_of};
 ghost use Rattle.explain.specs.Told.{rest_of};
 
 use arrayvec::ArrayVec;
@@ -108,11 +110,12 @@ fn put_shown<K: Sink>(sink: &mut K, shown: bool, text: &[u8], words: &[u8]) -> R
 
 /// Hands on what came of a line that is too long to be told.
 fn flush<K: Sink>(teller: &mut Teller, sink: &mut K) -> Result<(), Stop>
-    ensures ok { OnOk result ((seen : List ℕ) (first : Option (List ℕ)) → SoFar teller.old.all teller.old.line.items teller.old.long seen first (K.held sink.old)
-        → SoFar teller.new.all teller.new.line.items teller.new.long seen first (K.held sink.new)) }
+    requires { 8192 ≤ array_vec_len teller.old.line }
+    ensures ok { OnOk result ((seen : List ℕ) (first : Option (List ℕ)) → SoFar (way_in teller.old) teller.old.line.items (stand_of teller.old) seen first (K.held sink.old)
+        → SoFar (way_in teller.new) teller.new.line.items (stand_of teller.new) seen first (K.held sink.new)) }
     ensures front { OnErr result (AppendsFront (K.held sink.old) (K.held sink.new) (rest_of teller.old.all teller.old.line.items)) }
     ensures empty { OnOk result (array_vec_len teller.new.line ≡ 0) }
-    ensures all { teller.new.all ≡ teller.old.all }
+    ensures way { way_in teller.new ≡ way_in teller.old }
     ensures stop { HasStop (K.faults sink.old) (K.faults sink.new) result }
 {
     match put_rest(sink, teller.all, teller.line.as_slice()) {
@@ -127,11 +130,11 @@ fn flush<K: Sink>(teller: &mut Teller, sink: &mut K) -> Result<(), Stop>
 
 /// Makes room for a byte of the line.
 fn make_room<K: Sink>(teller: &mut Teller, sink: &mut K) -> Result<(), Stop>
-    ensures ok { OnOk result ((seen : List ℕ) (first : Option (List ℕ)) → SoFar teller.old.all teller.old.line.items teller.old.long seen first (K.held sink.old)
-        → SoFar teller.new.all teller.new.line.items teller.new.long seen first (K.held sink.new)) }
+    ensures ok { OnOk result ((seen : List ℕ) (first : Option (List ℕ)) → SoFar (way_in teller.old) teller.old.line.items (stand_of teller.old) seen first (K.held sink.old)
+        → SoFar (way_in teller.new) teller.new.line.items (stand_of teller.new) seen first (K.held sink.new)) }
     ensures front { OnErr result (AppendsFront (K.held sink.old) (K.held sink.new) (rest_of teller.old.all teller.old.line.items)) }
     ensures room { OnOk result (array_vec_len teller.new.line ≤ 8191) }
-    ensures all { teller.new.all ≡ teller.old.all }
+    ensures way { way_in teller.new ≡ way_in teller.old }
     ensures stop { HasStop (K.faults sink.old) (K.faults sink.new) result }
 {
     if teller.line.len() < MOST {
@@ -143,11 +146,11 @@ fn make_room<K: Sink>(teller: &mut Teller, sink: &mut K) -> Result<(), Stop>
 /// Takes a byte of the line.
 fn take_inner<K: Sink>(teller: &mut Teller, byte: u8, sink: &mut K) -> Result<(), Stop>
     requires { byte ≢ 10 }
-    ensures ok { OnOk result ((seen : List ℕ) (first : Option (List ℕ)) → SoFar teller.old.all teller.old.line.items teller.old.long seen first (K.held sink.old)
-        → SoFar teller.new.all teller.new.line.items teller.new.long (seen ++ byte ∷ []) first (K.held sink.new)) }
-    ensures err { OnErr result ((seen : List ℕ) (first : Option (List ℕ)) → SoFar teller.old.all teller.old.line.items teller.old.long seen first (K.held sink.old)
-        → Stopped teller.old.all (seen ++ byte ∷ []) first (K.held sink.new)) }
-    ensures all { teller.new.all ≡ teller.old.all }
+    ensures ok { OnOk result ((seen : List ℕ) (first : Option (List ℕ)) → SoFar (way_in teller.old) teller.old.line.items (stand_of teller.old) seen first (K.held sink.old)
+        → SoFar (way_in teller.new) teller.new.line.items (stand_of teller.new) (seen ++ byte ∷ []) first (K.held sink.new)) }
+    ensures err { OnErr result ((seen : List ℕ) (first : Option (List ℕ)) → SoFar (way_in teller.old) teller.old.line.items (stand_of teller.old) seen first (K.held sink.old)
+        → Stopped (way_in teller.old) (seen ++ byte ∷ []) first (K.held sink.new)) }
+    ensures way { way_in teller.new ≡ way_in teller.old }
     ensures stop { HasStop (K.faults sink.old) (K.faults sink.new) result }
 {
     match make_room(teller, sink) {
@@ -161,11 +164,12 @@ fn take_inner<K: Sink>(teller: &mut Teller, byte: u8, sink: &mut K) -> Result<()
 
 /// Ends a line that is too long to be told.
 fn end_long<K: Sink>(teller: &mut Teller, sink: &mut K) -> Result<(), Stop>
-    ensures ok { OnOk result ((seen : List ℕ) (first : Option (List ℕ)) → SoFar teller.old.all teller.old.line.items teller.old.long seen first (K.held sink.old)
-        → SoFar teller.new.all teller.new.line.items teller.new.long (seen ++ 10 ∷ []) first (K.held sink.new)) }
-    ensures err { OnErr result ((seen : List ℕ) (first : Option (List ℕ)) → SoFar teller.old.all teller.old.line.items teller.old.long seen first (K.held sink.old)
-        → Stopped teller.old.all (seen ++ 10 ∷ []) first (K.held sink.new)) }
-    ensures all { teller.new.all ≡ teller.old.all }
+    requires { teller.old.long ≡ true }
+    ensures ok { OnOk result ((seen : List ℕ) (first : Option (List ℕ)) → SoFar (way_in teller.old) teller.old.line.items (stand_of teller.old) seen first (K.held sink.old)
+        → SoFar (way_in teller.new) teller.new.line.items (stand_of teller.new) (seen ++ 10 ∷ []) first (K.held sink.new)) }
+    ensures err { OnErr result ((seen : List ℕ) (first : Option (List ℕ)) → SoFar (way_in teller.old) teller.old.line.items (stand_of teller.old) seen first (K.held sink.old)
+        → Stopped (way_in teller.old) (seen ++ 10 ∷ []) first (K.held sink.new)) }
+    ensures way { way_in teller.new ≡ way_in teller.old }
     ensures stop { HasStop (K.faults sink.old) (K.faults sink.new) result }
 {
     match put_end(sink, teller.all, teller.line.as_slice()) {
@@ -181,10 +185,11 @@ fn end_long<K: Sink>(teller: &mut Teller, sink: &mut K) -> Result<(), Stop>
 /// The words of the line that has come, and whether it is left by the filters.
 fn tell(teller: &mut Teller) -> Result<bool, AllocError>
     ensures words { OnOk result (AreWordLines teller.new.words.bytes) }
+    ensures made { OnOk result (Narrates (way_in teller.old).brief teller.old.line.items (seen_state teller.old.narrator) teller.new.words.bytes (seen_state teller.new.narrator)) }
     ensures kept { IfOk result (λ shown. shown ≡ false → teller.old.all ≡ false) }
     ensures line { teller.new.line.items ≡ teller.old.line.items }
     ensures long { teller.new.long ≡ teller.old.long }
-    ensures all { teller.new.all ≡ teller.old.all }
+    ensures way { way_in teller.new ≡ way_in teller.old }
 {
     match teller
         .narrator
@@ -198,11 +203,11 @@ fn tell(teller: &mut Teller) -> Result<bool, AllocError>
 /// Ends a line, and hands it on with its words.
 fn end_short<K: Sink>(teller: &mut Teller, sink: &mut K) -> Result<(), Stop>
     requires { teller.old.long ≡ false }
-    ensures ok { OnOk result ((seen : List ℕ) (first : Option (List ℕ)) → SoFar teller.old.all teller.old.line.items teller.old.long seen first (K.held sink.old)
-        → SoFar teller.new.all teller.new.line.items teller.new.long (seen ++ 10 ∷ []) first (K.held sink.new)) }
-    ensures err { OnErr result ((seen : List ℕ) (first : Option (List ℕ)) → SoFar teller.old.all teller.old.line.items teller.old.long seen first (K.held sink.old)
-        → Stopped teller.old.all (seen ++ 10 ∷ []) first (K.held sink.new)) }
-    ensures all { teller.new.all ≡ teller.old.all }
+    ensures ok { OnOk result ((seen : List ℕ) (first : Option (List ℕ)) → SoFar (way_in teller.old) teller.old.line.items (stand_of teller.old) seen first (K.held sink.old)
+        → SoFar (way_in teller.new) teller.new.line.items (stand_of teller.new) (seen ++ 10 ∷ []) first (K.held sink.new)) }
+    ensures err { OnErr result ((seen : List ℕ) (first : Option (List ℕ)) → SoFar (way_in teller.old) teller.old.line.items (stand_of teller.old) seen first (K.held sink.old)
+        → (taken : ℕ) × Stopped (way_in teller.old) (seen ++ take taken (10 ∷ [])) first (K.held sink.new)) }
+    ensures way { way_in teller.new ≡ way_in teller.old }
     ensures stop { HasStop (K.faults sink.old) (K.faults sink.new) result }
 {
     let shown = match tell(teller) {
@@ -220,11 +225,11 @@ fn end_short<K: Sink>(teller: &mut Teller, sink: &mut K) -> Result<(), Stop>
 
 /// Takes a byte of the report.
 fn take_byte<K: Sink>(teller: &mut Teller, byte: u8, sink: &mut K) -> Result<(), Stop>
-    ensures ok { OnOk result ((seen : List ℕ) (first : Option (List ℕ)) → SoFar teller.old.all teller.old.line.items teller.old.long seen first (K.held sink.old)
-        → SoFar teller.new.all teller.new.line.items teller.new.long (seen ++ byte ∷ []) first (K.held sink.new)) }
-    ensures err { OnErr result ((seen : List ℕ) (first : Option (List ℕ)) → SoFar teller.old.all teller.old.line.items teller.old.long seen first (K.held sink.old)
-        → Stopped teller.old.all (seen ++ byte ∷ []) first (K.held sink.new)) }
-    ensures all { teller.new.all ≡ teller.old.all }
+    ensures ok { OnOk result ((seen : List ℕ) (first : Option (List ℕ)) → SoFar (way_in teller.old) teller.old.line.items (stand_of teller.old) seen first (K.held sink.old)
+        → SoFar (way_in teller.new) teller.new.line.items (stand_of teller.new) (seen ++ byte ∷ []) first (K.held sink.new)) }
+    ensures err { OnErr result ((seen : List ℕ) (first : Option (List ℕ)) → SoFar (way_in teller.old) teller.old.line.items (stand_of teller.old) seen first (K.held sink.old)
+        → (taken : ℕ) × Stopped (way_in teller.old) (seen ++ take taken (byte ∷ [])) first (K.held sink.new)) }
+    ensures way { way_in teller.new ≡ way_in teller.old }
     ensures stop { HasStop (K.faults sink.old) (K.faults sink.new) result }
 {
     if byte != b'\n' {
@@ -238,11 +243,11 @@ fn take_byte<K: Sink>(teller: &mut Teller, byte: u8, sink: &mut K) -> Result<(),
 
 /// Takes bytes of the report.
 pub fn take_bytes<K: Sink>(teller: &mut Teller, bytes: &[u8], sink: &mut K) -> Result<(), Stop>
-    ensures ok { OnOk result ((seen : List ℕ) (first : Option (List ℕ)) → SoFar teller.old.all teller.old.line.items teller.old.long seen first (K.held sink.old)
-        → SoFar teller.new.all teller.new.line.items teller.new.long (seen ++ bytes.now) first (K.held sink.new)) }
-    ensures err { OnErr result ((seen : List ℕ) (first : Option (List ℕ)) → SoFar teller.old.all teller.old.line.items teller.old.long seen first (K.held sink.old)
-        → (taken : ℕ) × Stopped teller.old.all (seen ++ take taken bytes.now) first (K.held sink.new)) }
-    ensures all { teller.new.all ≡ teller.old.all }
+    ensures ok { OnOk result ((seen : List ℕ) (first : Option (List ℕ)) → SoFar (way_in teller.old) teller.old.line.items (stand_of teller.old) seen first (K.held sink.old)
+        → SoFar (way_in teller.new) teller.new.line.items (stand_of teller.new) (seen ++ bytes.now) first (K.held sink.new)) }
+    ensures err { OnErr result ((seen : List ℕ) (first : Option (List ℕ)) → SoFar (way_in teller.old) teller.old.line.items (stand_of teller.old) seen first (K.held sink.old)
+        → (taken : ℕ) × Stopped (way_in teller.old) (seen ++ take taken bytes.now) first (K.held sink.new)) }
+    ensures way { way_in teller.new ≡ way_in teller.old }
     ensures stop { HasStop (K.faults sink.old) (K.faults sink.new) result }
 {
     for byte in bytes {
@@ -256,10 +261,10 @@ pub fn take_bytes<K: Sink>(teller: &mut Teller, bytes: &[u8], sink: &mut K) -> R
 
 /// Hands on what stands behind the last newline.
 pub fn end<K: Sink>(teller: &mut Teller, sink: &mut K) -> Result<(), Stop>
-    ensures ok { OnOk result ((seen : List ℕ) (first : Option (List ℕ)) → SoFar teller.old.all teller.old.line.items teller.old.long seen first (K.held sink.old)
-        → Ended teller.old.all seen first (K.held sink.new)) }
-    ensures err { OnErr result ((seen : List ℕ) (first : Option (List ℕ)) → SoFar teller.old.all teller.old.line.items teller.old.long seen first (K.held sink.old)
-        → Stopped teller.old.all seen first (K.held sink.new)) }
+    ensures ok { OnOk result ((seen : List ℕ) (first : Option (List ℕ)) → SoFar (way_in teller.old) teller.old.line.items (stand_of teller.old) seen first (K.held sink.old)
+        → Ended (way_in teller.old) seen first (K.held sink.new)) }
+    ensures err { OnErr result ((seen : List ℕ) (first : Option (List ℕ)) → SoFar (way_in teller.old) teller.old.line.items (stand_of teller.old) seen first (K.held sink.old)
+        → Stopped (way_in teller.old) seen first (K.held sink.new)) }
     ensures stop { HasStop (K.faults sink.old) (K.faults sink.new) result }
 {
     put_rest(sink, teller.all, teller.line.as_slice())

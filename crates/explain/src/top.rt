@@ -1,13 +1,13 @@
 //! The top call.
-ghost use Rattle.std.specs.Prelude.{◌≡◌, ◌≢◌, ◌≤◌, ◌⊎◌, ℕ, Bool, List, [], true, false, OnOk, OnErr, IfOk};
+ghost use Rattle.std.specs.Prelude.{◌≡◌, ◌≢◌, ◌≤◌, ◌⊎◌, ℕ, List, [], false, OnOk, OnErr, IfOk};
 ghost use Rattle.std.specs.declared.option.Option.{Option};
 ghost use Rattle.std.specs.Io.KnownBytes.{Appends};
 ghost use Rattle.emv_ports.specs.Causes.{Rose};
 ghost use Rattle.emv_ports.specs.Growth.{AppendsFront};
-ghost use Rattle.explain.specs.Course.{SoFar};
+ghost use Rattle.explain.specs.Course.{SoFar, way_in, stand_of};
 ghost use Rattle.explain.specs.Reading.{ReadAll, ReadSome, SourceCount, SinkCount, usage_line};
-ghost use Rattle.explain.specs.Told.{Explained, BrokenOff};
-ghost use Rattle.narrator.specs.Shown.{shows_all};
+ghost use Rattle.explain.specs.Told.{Explained, BrokenOff, Way, way_of, whole};
+ghost use Rattle.narrator.specs.State.{seen_state, start};
 
 use crate::options::{NoOptions, Options, read_options};
 use crate::told::{Stop, Teller, end, take_bytes};
@@ -41,11 +41,11 @@ fn read_through<S: Source, K: Sink>(
     source: &mut S,
     sink: &mut K,
 ) -> Result<(), Broken>
-    ensures ok { OnOk result ((first : Option (List ℕ)) → SoFar teller.old.all teller.old.line.items teller.old.long [] first (K.held sink.old)
-        → ReadAll teller.new.all teller.new.line.items teller.new.long (S.left source.old) (S.left source.new) first (K.held sink.new)) }
-    ensures err { OnErr result ((first : Option (List ℕ)) → SoFar teller.old.all teller.old.line.items teller.old.long [] first (K.held sink.old)
-        → ReadSome teller.old.all (S.left source.old) (S.left source.new) first (K.held sink.new)) }
-    ensures all { teller.new.all ≡ teller.old.all }
+    ensures ok { OnOk result ((first : Option (List ℕ)) → SoFar (way_in teller.old) teller.old.line.items (stand_of teller.old) [] first (K.held sink.old)
+        → ReadAll (way_in teller.new) teller.new.line.items (stand_of teller.new) (S.left source.old) (S.left source.new) first (K.held sink.new)) }
+    ensures err { OnErr result ((first : Option (List ℕ)) → SoFar (way_in teller.old) teller.old.line.items (stand_of teller.old) [] first (K.held sink.old)
+        → ReadSome (way_in teller.old) (S.left source.old) (S.left source.new) first (K.held sink.new)) }
+    ensures way { way_in teller.new ≡ way_in teller.old }
     ensures source { SourceCount (S.faults source.old) (S.faults source.new) result }
     ensures sink { SinkCount (K.faults sink.old) (K.faults sink.new) result }
 {
@@ -73,8 +73,9 @@ fn explain<S: Source, K: Sink>(
 ) -> Result<(), Broken>
     requires line { teller.old.line.items ≡ [] }
     requires short { teller.old.long ≡ false }
-    ensures ok { OnOk result (Explained teller.old.all (S.left source.old) (S.left source.new) (K.held sink.old) (K.held sink.new)) }
-    ensures err { OnErr result (BrokenOff teller.old.all (S.left source.old) (S.left source.new) (K.held sink.old) (K.held sink.new)) }
+    requires state { seen_state teller.old.narrator ≡ start }
+    ensures ok { OnOk result (Explained (way_in teller.old) (S.left source.old) (S.left source.new) (K.held sink.old) (K.held sink.new)) }
+    ensures err { OnErr result (BrokenOff (way_in teller.old) (S.left source.old) (S.left source.new) (K.held sink.old) (K.held sink.new)) }
     ensures source { SourceCount (S.faults source.old) (S.faults source.new) result }
     ensures sink { SinkCount (K.faults sink.old) (K.faults sink.new) result }
 {
@@ -92,7 +93,8 @@ fn explain<S: Source, K: Sink>(
 fn begin(alloc: Global, options: Options) -> Result<Teller, AllocError>
     ensures line { IfOk result (λ teller. teller.line.items ≡ []) }
     ensures short { IfOk result (λ teller. teller.long ≡ false) }
-    ensures all { IfOk result (λ teller. teller.all ≡ shows_all options.filter) }
+    ensures state { IfOk result (λ teller. seen_state teller.narrator ≡ start) }
+    ensures way { IfOk result (λ teller. way_in teller ≡ way_of options.filter) }
 {
     let all = options.filter.shows_all();
     let narrator = Narrator::new(alloc, options.filter, options.terminals)?;
@@ -112,8 +114,8 @@ fn explain_by<S: Source, K: Sink>(
     source: &mut S,
     sink: &mut K,
 ) -> Result<(), Broken>
-    ensures ok { OnOk result (Explained (shows_all options.filter) (S.left source.old) (S.left source.new) (K.held sink.old) (K.held sink.new)) }
-    ensures err { OnErr result (BrokenOff (shows_all options.filter) (S.left source.old) (S.left source.new) (K.held sink.old) (K.held sink.new)) }
+    ensures ok { OnOk result (Explained (way_of options.filter) (S.left source.old) (S.left source.new) (K.held sink.old) (K.held sink.new)) }
+    ensures err { OnErr result (BrokenOff (way_of options.filter) (S.left source.old) (S.left source.new) (K.held sink.old) (K.held sink.new)) }
     ensures source { SourceCount (S.faults source.old) (S.faults source.new) result }
     ensures sink { SinkCount (K.faults sink.old) (K.faults sink.new) result }
 {
@@ -148,8 +150,8 @@ pub fn run<S: Source, K: Sink>(alloc: Global, words: &[String], source: &mut S, 
     // 0: all that the source had left was read, and the sink got its lines in order and unchanged, each with
     // none or some lines of words that begin with two blanks, or left out by a filter. Without words none is
     // left out.
-    ensures done { result ≡ 0 → (all : Bool) × (words.now ≡ [] → all ≡ true)
-        × Explained all (S.left source.old) (S.left source.new) (K.held sink.old) (K.held sink.new) }
+    ensures done { result ≡ 0 → (way : Way) × (words.now ≡ [] → way ≡ whole)
+        × Explained way (S.left source.old) (S.left source.new) (K.held sink.old) (K.held sink.new) }
     // 2: the words are not in the grammar; the sink got the usage line, and nothing was read.
     ensures usage { result ≡ 2 → Appends (K.held sink.old) (K.held sink.new) usage_line }
     ensures unread { result ≡ 2 → source.new ≡ source.old }
@@ -157,11 +159,11 @@ pub fn run<S: Source, K: Sink>(alloc: Global, words: &[String], source: &mut S, 
     // are explained as was written, or a front of it; where the sink failed, it may be a front of the usage
     // line.
     ensures read_fault { result ≡ 3 → Rose (S.faults source.old) (S.faults source.new) }
-    ensures read_front { result ≡ 3 → (all : Bool) × BrokenOff all (S.left source.old) (S.left source.new) (K.held sink.old) (K.held sink.new) }
+    ensures read_front { result ≡ 3 → (way : Way) × BrokenOff way (S.left source.old) (S.left source.new) (K.held sink.old) (K.held sink.new) }
     ensures write_fault { result ≡ 4 → Rose (K.faults sink.old) (K.faults sink.new) }
     ensures write_front { result ≡ 4 → AppendsFront (K.held sink.old) (K.held sink.new) usage_line
-        ⊎ ((all : Bool) × BrokenOff all (S.left source.old) (S.left source.new) (K.held sink.old) (K.held sink.new)) }
-    ensures memory { result ≡ 5 → (all : Bool) × BrokenOff all (S.left source.old) (S.left source.new) (K.held sink.old) (K.held sink.new) }
+        ⊎ ((way : Way) × BrokenOff way (S.left source.old) (S.left source.new) (K.held sink.old) (K.held sink.new)) }
+    ensures memory { result ≡ 5 → (way : Way) × BrokenOff way (S.left source.old) (S.left source.new) (K.held sink.old) (K.held sink.new) }
     // The source's count stays but for 3, the sink's but for 4.
     ensures source_calm { result ≢ 3 → S.faults source.new ≡ S.faults source.old }
     ensures sink_calm { result ≢ 4 → K.faults sink.new ≡ K.faults sink.old }

@@ -1,11 +1,11 @@
 -- The cards and accounts of a generated scenario keep to their rules.
 use Rattle.std.proofs.Common.{◌≡◌, ◌≢◌, ◌<◌, ◌+◌, ℕ, List, [], ◌∷◌, ◌++◌, refl, arith, ap}
-use Rattle.std.specs.Prelude.{IsTrue, Some}
+use Rattle.std.specs.Prelude.{IsTrue, Some, None}
 use Rattle.std.specs.List.{slice_index}
 use Rattle.std.proofs.lemmas.List.Elements.{All-cons, All-nil}
 use Rattle.ber_tlv.specs.Item.{byte_at, third_tag_byte, second_tag_byte, tag_at}
 use Rattle.card_files.specs.AppRules.{is_reference_pin, reference_pin}
-use Rattle.card_files.specs.Kept.{KeepsRules, IsImage}
+use Rattle.card_files.specs.Kept.{KeepsRules, AreApps, AreInSight, IsImage}
 use Rattle.card_files.specs.Lists.{entries_within, is_cdol1, is_cdol2}
 use Rattle.card_files.specs.Views.{AppData}
 use Rattle.emv_dict.specs.Nibbles.{nibbles, packed}
@@ -19,7 +19,7 @@ use Rattle.scenario.specs.Plan.{HasPlainName}
 use Rattle.scenario_fields.specs.Value.{is_one_of}
 use Rattle.scenario_fields.specs.declared.spot.Characters.TheVariants.{LowercaseOrDigit}
 use Rattle.generated.proofs.Numbered.{digit_character}
-use Rattle.generated.specs.Card.{cdol1, cdol2, app_of, card_of, files_of, holder_record}
+use Rattle.generated.specs.Card.{cdol1, cdol2, app_of, image_of, card_of, files_of, holder_record}
 use Rattle.generated.specs.Issuer.{account_of, pin}
 
 pub account_rules : (card : ℕ) → IsAccount (account_of card)
@@ -32,6 +32,7 @@ account_rules card = record {
   few_scripts = omega arith;
   whole_scripts = λ k d within. absurd (omega (arith, within));
   short_scripts = omega arith;
+  status_bits = refl;
 }
 
 first_list : IsTrue (is_cdol1 cdol1)
@@ -65,19 +66,31 @@ app_rules card = record {
   sum_limit = refl;
   pin = reference_block;
   tries = refl;
+  currency_two = refl;
+  limit_two = refl;
+  log = refl;
+  room = refl;
+  log_sfi = refl;
   opening = refl;
 }
 
-image_rules : (card : ℕ) → IsImage (app_of card ∷ [])
-image_rules card = record {
+one_app : (card : ℕ) → AreApps (app_of card ∷ [])
+one_app card = record {
   some = omega arith;
   few = omega arith;
   rules = All-cons KeepsRules (app_of card) [] (app_rules card) (All-nil KeepsRules);
   names = λ i j d order within. absurd (omega (arith, order, within));
 }
 
-pub pushed_image : (card : ℕ) (old new : List AppData) (app : AppData) → old ≡ [] → new ≡ old ++ app ∷ [] → app ≡ app_of card → IsImage new
-pushed_image card old new app none pushed is = rw (pushed, none, is) (image_rules card)
+-- a card without a directory hides none
+pub none_hidden : (apps : List AppData) → AreInSight None apps
+none_hidden apps = tt
+
+image_rules : (card : ℕ) → IsImage (image_of card)
+image_rules card = record { apps = one_app card; version = (omega arith, omega arith); directory = tt; sight = none_hidden (app_of card ∷ []) }
+
+pub pushed_app : (card : ℕ) (old new : List AppData) (app : AppData) → old ≡ [] → new ≡ old ++ app ∷ [] → app ≡ app_of card → AreApps new
+pushed_app card old new app none pushed is = rw (pushed, none, is) (one_app card)
 
 pub card_rules : (card : ℕ) → IsCard (card_of card)
 unfolding card_of

@@ -1,10 +1,11 @@
 -- The cards of a generated scenario.
 use Rattle.std.specs.Prelude.{ℕ, ◌+◌, List, [], ◌∷◌, ◌++◌, codes, false, Some, None}
 use Rattle.card_files.specs.AppRules.{reference_pin}
-use Rattle.card_files.specs.Views.{RecordData, AppData}
+use Rattle.card_files.specs.Views.{RecordData, AppData, ImageData}
 use Rattle.emv_dict.specs.Bcd.{two_digits}
 use Rattle.emv_dict.specs.Pan.{pan_field}
 use Rattle.scenario.specs.Cards.{FilesData, HolderData, CountersData, AccessData, CardData, app_with}
+use Rattle.scenario.specs.declared.extras.Extras.{Extras}
 use Rattle.generated.specs.Issuer.{issuer_keys, pan_of, code, pin}
 
 -- the name of the application
@@ -69,10 +70,18 @@ counters = record { counter = 10; last_online = 9; count_limit = 5; sum_limit = 
 abbrev pub access : AccessData
 access = record { pin = reference_pin (Some pin); tries = 3; blocked = false; ac_key = None }
 
+-- no second currency and no log
+abbrev pub extras : Extras
+extras = record { currency_two = None; limit_two = 0; log = 0; log_sfi = 11 }
+
 -- the one application of a card
 unfoldable pub app_of : ℕ → AppData
-app_of card = app_with issuer_keys (files_of card) (holder_of card) counters access
+app_of card = app_with issuer_keys (files_of card) (holder_of card) counters access extras
+
+-- the card has its state in today's form and no directory
+abbrev pub image_of : ℕ → ImageData
+image_of card = record { apps = app_of card ∷ []; version = 2; directory = None }
 
 -- `c0` and on
 unfoldable pub card_of : ℕ → CardData
-card_of card = record { name = codes "c" ++ (48 + card) ∷ []; image = app_of card ∷ []; canned = None }
+card_of card = record { name = codes "c" ++ (48 + card) ∷ []; image = image_of card; canned = None }

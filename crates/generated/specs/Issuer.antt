@@ -1,6 +1,7 @@
 -- The issuer of a generated scenario: its keys and its accounts.
 use Rattle.std.specs.Prelude.{ℕ, List, [], ◌∷◌, false, Some}
 use Rattle.issuer_host.specs.Account.{AccountData}
+use Rattle.issuer_host.specs.declared.account.Method.TheVariants.{One}
 use Rattle.issuer_host.specs.declared.keys.HostKeys.{HostKeys}
 
 unfoldable pub issuer_keys : HostKeys
@@ -23,4 +24,4 @@ abbrev pub pin : List ℕ
 pin = 1 ∷ 2 ∷ 3 ∷ 4 ∷ []
 
 unfoldable pub account_of : ℕ → AccountData
-account_of card = record { pan = pan_of card; currency = code; balance = 1000000; blocked = false; pin = Some pin; scripts = [] }
+account_of card = record { pan = pan_of card; currency = code; balance = 1000000; blocked = false; pin = Some pin; scripts = []; arpc = One; status = 0 }

@@ -36,6 +36,7 @@ settings_of lane = record {
   pin_key = issuer_keys.pin;
   exceptions = [];
   aids = aid_row ∷ [];
+  pse = false;
 }
 
 -- the lanes take turns

@@ -1,9 +1,9 @@
 //! The cards, each with one application.
-ghost use Rattle.std.specs.Prelude.{◌≡◌, ◌<◌, [], ◌∷◌, IfOk, map};
+ghost use Rattle.std.specs.Prelude.{◌≡◌, ◌<◌, IfOk, map};
 ghost use Rattle.std.specs.List.{range_with_len};
 ghost use Rattle.scenario.specs.Cards.{opening_of};
 ghost use Rattle.scenario.specs.Seen.{seen_card, seen_cards};
-ghost use Rattle.generated.specs.Card.{application, holder_record, files_of, app_of, card_of};
+ghost use Rattle.generated.specs.Card.{application, holder_record, files_of, app_of, image_of, card_of};
 ghost use Rattle.generated.specs.Card as spec;
 ghost use Rattle.generated.specs.Issuer.{issuer_keys, pan_of, pin as pin_digits};
 ghost use Rattle.generated.specs.Purchases.{cards};
@@ -15,6 +15,7 @@ use card_keys::master_key;
 use card_state::AppState;
 use emv_dict::{Digits, Name, pan_field, two_digits};
 use issuer_host::HostKeys;
+use scenario::extras::no_log;
 use scenario::{CardKind, NamedCard};
 use std::alloc::{AllocError, Global};
 
@@ -72,6 +73,12 @@ const RULES_RECORD: [u8; 50] = [
 /// The PIN try limit.
 const TRIES: u8 = 3;
 
+/// The file of the log that the application doesn't keep.
+const LOG_FILE: u8 = 11;
+
+/// The form of the cards' state.
+const VERSION: u8 = 2;
+
 /// The name of the application that cards have and terminals support.
 pub(crate) fn application() -> Name
     ensures { result ≡ application }
@@ -121,7 +128,7 @@ fn records(alloc: Global, card: u8) -> Result<Vec<RecordImage>, AllocError>
 /// The state of the application before its first decision.
 #[tactic(auto, unfolding(scenario::specs::Cards::opening_of))]
 fn opening() -> AppState
-    ensures { result ≡ opening_of spec.counters spec.access }
+    ensures { result ≡ opening_of spec.counters spec.access spec.extras }
 {
     let pin = reference_pin(&Some(pin()));
     AppState {
@@ -135,6 +142,10 @@ fn opening() -> AppState
         blocked: false,
         auth_failed: false,
         pin,
+        sum_two: 0,
+        limit_two: 0,
+        log_max: 0,
+        log: no_log(),
     }
 }
 
@@ -173,20 +184,24 @@ fn app(alloc: Global, issuer: &HostKeys, card: u8) -> Result<AppImage, AllocErro
         opening: opening(),
         tries: TRIES,
         ac_key,
+        currency_two: None,
+        limit_two: 0,
+        log: 0,
+        log_sfi: LOG_FILE,
         mac_key,
         enc_key,
     })
 }
 
-/// The image of a card: its one application.
+/// The image of a card: its one application, with its state in today's form and no directory.
 fn image(alloc: Global, issuer: &HostKeys, card: u8) -> Result<Image, AllocError>
     requires issuer { issuer.now ≡ issuer_keys }
     requires card { card < 8 }
-    ensures { IfOk result (λ image. image ≡ app_of card ∷ []) }
+    ensures { IfOk result (λ image. image ≡ image_of card) }
 {
     let mut apps = Vec::with_capacity(alloc, 1)?;
     apps.push(app(alloc, issuer, card)?)?;
-    match Image::new(apps) {
+    match Image::new(apps, VERSION, None) {
         Ok(image) => Ok(image),
         Err(_) => unreachable!(),
     }

@@ -6,7 +6,7 @@ ghost use Rattle.generated.specs.Issuer.{issuer_keys, pan_of, pin as pin_digits,
 ghost use Rattle.generated.specs.Purchases.{cards};
 
 use emv_dict::Digits;
-use issuer_host::{Account, HostKeys};
+use issuer_host::{Account, HostKeys, Method};
 use std::alloc::{AllocError, Global};
 use triple_des::Key16;
 
@@ -98,6 +98,8 @@ fn account(alloc: Global, card: u8) -> Account
         blocked: false,
         pin: Some(pin()),
         scripts: Vec::new(alloc),
+        arpc: Method::One,
+        status: 0,
     }
 }
 

@@ -52,6 +52,7 @@ fn settings(alloc: Global, issuer: &HostKeys, lane: u32) -> Result<Settings, All
         pin_key: issuer.pin.bytes(),
         exceptions: Vec::new(alloc),
         aids,
+        pse: false,
     })
 }
 

@@ -9,7 +9,7 @@ use auth_message::{Message, RequestFields, write_request};
 use ber_tlv::append;
 use card_keys::{master_key, session_ac};
 use emv_dict::Digits;
-use issuer_host::{Account, Host, HostKeys};
+use issuer_host::{Account, Host, HostKeys, Method};
 use std::alloc::{AllocError, Global};
 use triple_des::Key16;
 
@@ -61,6 +61,8 @@ fn accounts(alloc: Global, count: u16) -> Result<Vec<Account>, AllocError>
             blocked: false,
             pin: None,
             scripts: Vec::new(alloc),
+            arpc: Method::One,
+            status: 0,
         })?;
     }
     Ok(accounts)

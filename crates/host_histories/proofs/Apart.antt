@@ -203,19 +203,25 @@ module _ (own : List ℕ → Bool) where
     again_own : (key : Key) → own key.pan ≡ true → (messages : List Kept) (message reply new : List ℕ) → new ≡ reply → again_or (kept_at key (own_kept messages)) message new ≡ again_or (kept_at key messages) message reply
     again_own key is messages message reply new made = ap (λ (k : Option Kept). again_or k message new) (kept_own key is messages) ∙ ap (again_or (kept_at key messages) message) made
 
-    reply_own : (books : Books) (message : List ℕ) (read : Result Incoming MessageFault) → is_one_of own (pan_in read) ≡ true
+    reply_own : (books : Books) (message : List ℕ) (read : Result Incoming MessageFault) → ((pan : List ℕ) → pan_in read ≡ Some pan → own pan ≡ true)
         → reply_in keys (own_accounts own accounts) (own_books books) message read ≡ reply_in keys accounts books message read
-    reply_own books message (Err fault) is = cc
-    reply_own books message (Ok (Request f)) is = again_own (request_key f) is books.requests message _ _ (ap said_bytes (request_own keys accounts books f is))
-    reply_own books message (Ok (Present f)) is = again_own (present_key f) is books.presentments message _ _ (ap said_bytes (present_own keys accounts books f is))
-    reply_own books message (Ok (Reverse f)) is = again_own (reversal_key f) is books.reversals message _ _ (ap said_bytes (reversal_own accounts books f is))
+    reply_own books message (Err fault) are = refl
+    reply_own books message (Ok (Request f)) are =
+        let is : own f.pan ≡ true = are f.pan refl in
+        again_own (request_key f) is books.requests message _ _ (ap said_bytes (request_own keys accounts books f is))
+    reply_own books message (Ok (Present f)) are =
+        let is : own f.pan ≡ true = are f.pan refl in
+        again_own (present_key f) is books.presentments message _ _ (ap said_bytes (present_own keys accounts books f is))
+    reply_own books message (Ok (Reverse f)) are =
+        let is : own f.pan ≡ true = are f.pan refl in
+        again_own (reversal_key f) is books.reversals message _ _ (ap said_bytes (reversal_own accounts books f is))
 
 pub stand_apart : StandApart
 unfolding reply_to pan_of
 stand_apart = record {
-  replies = λ own keys accounts messages message is.
+  replies = λ own keys accounts messages message are.
       ap (λ (b : Books). reply_in keys (own_accounts own accounts) b message (message_of message)) (books_own own keys accounts no_books messages)
-      ∙ reply_own own keys accounts (books_of keys accounts messages) message (message_of message) is;
+      ∙ reply_own own keys accounts (books_of keys accounts messages) message (message_of message) are;
   balances = λ own keys accounts messages pan is.
       let books = books_of keys accounts messages in
       ap (λ (b : Books). option_map (λ account. pos account.balance -ℤ pos (taken pan b)) (account_of pan (own_accounts own accounts))) (books_own own keys accounts no_books messages)

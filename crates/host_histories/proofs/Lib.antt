@@ -1,3 +1,4 @@
 mod AddUp
 mod Apart
 mod Once
+mod Responses

@@ -30,10 +30,11 @@ own_messages own messages = filter (λ message. is_one_of own (pan_of message)) 
 abbrev pub own_accounts : (List ℕ → Bool) → List AccountData → List AccountData
 own_accounts own accounts = filter (λ account. own account.pan) accounts
 
--- of whatever messages, those of some account numbers are answered, and their balances are, as if no other
--- message had come and no other account were there
+-- of whatever messages, those of some account numbers and those that can't be read are answered, and the balances
+-- of these numbers are, as if no other message had come and no other account were there
 pub record StandApart : Type 0 where
-  pub replies : (own : List ℕ → Bool) (keys : HostKeys) (accounts : List AccountData) (messages : List (List ℕ)) (message : List ℕ) → is_one_of own (pan_of message) ≡ true
+  pub replies : (own : List ℕ → Bool) (keys : HostKeys) (accounts : List AccountData) (messages : List (List ℕ)) (message : List ℕ)
+      → ((pan : List ℕ) → pan_of message ≡ Some pan → own pan ≡ true)
       → host_reply keys (own_accounts own accounts) (own_messages own messages) message ≡ host_reply keys accounts messages message
   pub balances : (own : List ℕ → Bool) (keys : HostKeys) (accounts : List AccountData) (messages : List (List ℕ)) (pan : List ℕ) → own pan ≡ true
       → balance_after keys (own_accounts own accounts) (own_messages own messages) pan ≡ balance_after keys accounts messages pan

@@ -1,9 +1,11 @@
 mod fixture;
+mod method_two;
 mod table;
 
 use auth_message::Message;
 use fixture::{account_number, accounts_of, bytes_of, issuer_keys};
-use issuer_host::Host;
+use issuer_host::{Host, Method};
+use method_two::{ByStatus, HISTORIES_BY_METHOD_TWO};
 use std::alloc::Global;
 use std::process::Abort;
 use std::test::Fail;
@@ -57,9 +59,15 @@ fn compare(rt: &impl Abort, host: &Host, balances: &[(&str, i128)]) {
     }
 }
 
-/// A host that has had no message, with these accounts, gets a history.
-fn hold(rt: &impl Abort, alloc: Global, history: &History) -> Result<(), Fail> {
-    let accounts = accounts_of(rt, alloc, history.accounts)?;
+/// A host that has had no message, whose accounts have a method and a status, gets a history.
+fn hold(
+    rt: &impl Abort,
+    alloc: Global,
+    history: &History,
+    arpc: Method,
+    status: u8,
+) -> Result<(), Fail> {
+    let accounts = accounts_of(rt, alloc, history.accounts, arpc, status)?;
     let mut host = Host::new(alloc, issuer_keys(), &accounts)
         .ok()
         .ok_or("a host")?;
@@ -71,7 +79,17 @@ fn hold(rt: &impl Abort, alloc: Global, history: &History) -> Result<(), Fail> {
 #[test]
 fn replies_are_those_of_independent_implementations(rt: HostRuntime) -> Result<(), Fail> {
     for history in HISTORIES {
-        hold(&rt, rt.alloc(), &history)?;
+        hold(&rt, rt.alloc(), &history, Method::One, 0)?;
+    }
+    Ok(())
+}
+
+#[test]
+fn replies_by_method_two_are_those_of_an_independent_implementation(
+    rt: HostRuntime,
+) -> Result<(), Fail> {
+    for ByStatus { status, history } in HISTORIES_BY_METHOD_TWO {
+        hold(&rt, rt.alloc(), &history, Method::Two, status)?;
     }
     Ok(())
 }

@@ -1,5 +1,5 @@
 -- The scripts of an account are scripts of a reply.
-use Rattle.std.proofs.Common.{◌≡◌, ℕ, Bool, true, false, ◌≤◌, List, [], ◌∷◌, ◌++◌, length, refl, sym, ap, subst, ◌∙◌, arith, suc}
+use Rattle.std.proofs.Common.{◌≡◌, ℕ, Bool, true, false, ◌≤◌, List, [], ◌∷◌, ◌++◌, length, refl, sym, ap, subst, arith, suc}
 use Rattle.std.specs.Prelude.{flat_map}
 use Rattle.ber_tlv.specs.Written.{written}
 use Rattle.auth_message.specs.Reply.{AreScripts}

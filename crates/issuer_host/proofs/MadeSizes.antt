@@ -1,17 +1,17 @@
 -- How many bytes an account's scripts get.
-use Rattle.std.proofs.Common.{◌≡◌, ℕ, zero, suc, Bool, true, false, ◌+◌, ◌/◌, ◌%◌, IfSome, List, [], ◌∷◌, ◌++◌, length, Option, Some, None, refl, sym, ap, ◌∙◌, arith, length-append}
+use Rattle.std.proofs.Common.{◌≡◌, ℕ, zero, suc, Bool, true, false, ◌+◌, ◌/◌, ◌%◌, IfSome, List, [], ◌∷◌, ◌++◌, length, Option, Some, None, refl, sym, ap, ◌∙◌, arith, length-append, length-take}
 use Rattle.std.specs.Prelude.{flat_map, sum_by}
 use Rattle.std.specs.List.{All}
 use Rattle.std.proofs.lemmas.List.Elements.{All-head, All-tail}
 use Rattle.std.proofs.lemmas.List.Sums.{sum_by-cons}
-use Rattle.ber_tlv.specs.Written.{written, written_length}
+use Rattle.ber_tlv.specs.Written.{written_length}
 use Rattle.emv_dict.specs.Bcd.{numeric, two_digits}
 use Rattle.triple_des.specs.Bits.{xor_bytes}
-use Rattle.triple_des.specs.Des.{enciphered, deciphered}
+use Rattle.triple_des.specs.Des.{enciphered}
 use Rattle.triple_des.specs.Mac.{mac}
 use Rattle.triple_des.specs.TripleDes.{tdes}
 use Rattle.triple_des.proofs.ByteLists.{length-bytes_of}
-use Rattle.app_cryptogram.specs.Cryptograms.{arpc_of, script_mac_of}
+use Rattle.app_cryptogram.specs.Cryptograms.{arpc_of, arpc_two_of, script_mac_of}
 use Rattle.pin_block.specs.Block.{block_of}
 use Rattle.script_words.specs.MadeLength.{template_tag, data_length, command_length, order_length, identifier_length, content_length, made_length, all_made_length}
 use Rattle.script_words.specs.Script.{ScriptData, IsScript}
@@ -34,10 +34,14 @@ length-mac : (key text : List ℕ) → length (mac key text) ≡ 8
 unfolding mac
 length-mac key text = length-enciphered _ _
 
--- the response cryptogram
+-- the response cryptograms
 pub length-arpc : (session arqc code : List ℕ) → length (arpc_of session arqc code) ≡ 8
 unfolding arpc_of
 length-arpc session arqc code = length-tdes session _
+
+pub length-arpc_two : (session arqc status further : List ℕ) → length (arpc_two_of session arqc status further) ≡ 4
+unfolding arpc_two_of
+length-arpc_two session arqc status further = omega (arith, length-take 4 (mac session (arqc ++ status ++ further)), length-mac session (arqc ++ status ++ further))
 
 length-xor_bytes : (xs ys : List ℕ) → length xs ≡ length ys → length (xor_bytes xs ys) ≡ length xs
 unfolding xor_bytes

@@ -1,10 +1,9 @@
 -- What holds of each reply that a host makes holds of every reply that it gives: those that it kept are given
 -- again. So every reply is written as a reply is.
-use Rattle.std.proofs.Common.{◌≡◌, ℕ, Bool, true, false, if◌then◌else◌, IfSome, List, [], ◌∷◌, length, Option, Some, None, Result, Ok, Err, refl, sym, subst, arith, length-append}
+use Rattle.std.proofs.Common.{◌≡◌, ℕ, Bool, true, false, if◌then◌else◌, IfSome, List, [], ◌∷◌, Option, Some, None, Result, Ok, Err, refl, subst, arith}
 use Rattle.std.specs.List.{All}
 use Rattle.std.specs.Str.{bytes_eq}
 use Rattle.std.proofs.lemmas.List.Elements.{All-nil, All-head, All-tail, All-push}
-use Rattle.app_cryptogram.specs.Cryptograms.{arpc_of}
 use Rattle.auth_message.specs.Data.{RequestData, PresentData}
 use Rattle.auth_message.specs.Message.{message_of}
 use Rattle.auth_message.specs.Whole.{AreSpelledScripts, IsReply}
@@ -24,10 +23,11 @@ use Rattle.issuer_host.specs.History.{with_first, kept_in, books_with, books_fro
 use Rattle.issuer_host.specs.Reply.{request_key, present_key, reversal_key, session_of, request_is_genuine, request_code, present_code, reversal_code, plain, said_bytes, is_served, script_keys, scripts_for, response_of, online_reply, request_reply, present_reply, reversal_reply, new_request, new_present, new_reversal, again_or, reply_in, reply_to}
 use Rattle.issuer_host.specs.Scripts.{all_script_bytes}
 use Rattle.issuer_host.specs.declared.code.Code.{Code}
-use Rattle.issuer_host.specs.declared.code.Code.TheVariants.{Approved, Declined, UnknownAccount, NoFunds, Expired, WrongPin}
+use Rattle.issuer_host.specs.declared.code.Code.TheVariants.{Declined, UnknownAccount}
 use Rattle.issuer_host.specs.declared.keys.HostKeys.{HostKeys}
 use Rattle.issuer_host.proofs.MadeScripts.{made_spelled}
-use Rattle.issuer_host.proofs.MadeSizes.{length-arpc, scripts_size}
+use Rattle.issuer_host.proofs.MadeSizes.{scripts_size}
+use Rattle.issuer_host.proofs.Responses.{two_bytes, response_least, response_most}
 
 -- the replies that a host makes have a property
 pub record Made (P : List ℕ → Type 0) (keys : HostKeys) (accounts : List AccountData) : Type 0 where
@@ -127,14 +127,6 @@ unfolding reply_to
 every_reply P keys accounts made messages message =
     reply_has P keys accounts made (books_from keys accounts no_books messages) message (message_of message) (books_have P keys accounts made no_books messages (none_has P))
 
-two_bytes : (code : Code) → length (code_bytes code) ≡ 2
-two_bytes Approved = refl
-two_bytes Declined = refl
-two_bytes UnknownAccount = refl
-two_bytes NoFunds = refl
-two_bytes Expired = refl
-two_bytes WrongPin = refl
-
 -- a reply with the code alone
 pub plain_written : (code : Code) → IsReply (said_bytes (plain code))
 plain_written code = reply_written (code_bytes code) None [] (two_bytes code) tt none_spelled
@@ -146,10 +138,6 @@ known_account pan (first ∷ others) account all known = by (λ known. known_acc
     by : (account_of pan others ≡ Some account → IsAccount account) → (same : Bool) → (let found : Option AccountData = (if same then Some first else account_of pan others) in found) ≡ Some account → IsAccount account
     by later true known = let same : first ≡ account = cc in subst IsAccount same (All-head IsAccount first others all)
     by later false known = later known
-
-response_size : (keys : HostKeys) (f : RequestData) (code : Code) → length (response_of keys f code) ≡ 10
-response_size keys f code =
-    omega (arith, length-append (arpc_of (session_of keys.ac (request_key f)) f.t9f26 (code_bytes code)) (code_bytes code), length-arpc (session_of keys.ac (request_key f)) f.t9f26 (code_bytes code), two_bytes code)
 
 scripts_spelled : (keys : HostKeys) (account : AccountData) (books : Books) (f : RequestData) → IsAccount account → AreSpelledScripts (scripts_for keys account books f)
 scripts_spelled keys account books f is = by (is_served account.pan books)
@@ -166,7 +154,9 @@ replies_written keys accounts messages message all = every_reply IsReply keys ac
     made = record {
       plain = plain_written;
       online = λ pan account known books f code.
-          let ten = response_size keys f code in
-          reply_written (code_bytes code) (Some (response_of keys f code)) (scripts_for keys account books f) (two_bytes code) (omega arith, omega arith)
+          let session = session_of keys.ac (request_key f) in
+          let least = response_least account.arpc account.status session f.t9f26 code in
+          let most = response_most account.arpc account.status session f.t9f26 code in
+          reply_written (code_bytes code) (Some (response_of keys account f code)) (scripts_for keys account books f) (two_bytes code) (least, most)
           (scripts_spelled keys account books f (known_account pan accounts account all known));
     }

@@ -1,7 +1,7 @@
 -- The host from the whole list of messages (own): what was kept, the reply to the next message, and the
 -- balances.
 use Rattle.std.specs.Option.{is_none}
-use Rattle.std.specs.Prelude.{◌≡◌, ℕ, ℤ, Bool, true, false, List, [], ◌∷◌, ◌++◌, Option, Some, None, Result, Ok, Err}
+use Rattle.std.specs.Prelude.{◌≡◌, ℕ, ℤ, Bool, false, List, [], ◌∷◌, ◌++◌, Option, Some, None, Result, Ok, Err}
 use Rattle.auth_message.specs.Message.{message_of}
 use Rattle.auth_message.specs.declared.fault.MessageFault.{MessageFault}
 use Rattle.auth_message.specs.declared.message.Incoming.{Incoming}

@@ -7,4 +7,5 @@ pub mod Holds
 pub mod Keeping
 pub mod Records
 pub mod Reply
+pub mod Response
 pub mod Scripts

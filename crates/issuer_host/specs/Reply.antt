@@ -1,5 +1,5 @@
 -- The host's reply to a message, from the messages that it has kept (own).
-use Rattle.std.specs.Prelude.{ℕ, pos, int_lt, ◌-ℤ◌, Bool, true, false, not, ◌&&◌, ◌||◌, if◌then◌else◌, List, [], ◌++◌, slice_index, Option, Some, None, Result, Ok, Err}
+use Rattle.std.specs.Prelude.{ℕ, pos, int_lt, ◌-ℤ◌, Bool, true, false, not, ◌&&◌, ◌||◌, if◌then◌else◌, List, [], slice_index, Option, Some, None, Result, Ok, Err}
 use Rattle.std.specs.Int.{from_be_bytes, w16}
 use Rattle.std.specs.List.{list_any}
 use Rattle.std.specs.Option.{is_some}
@@ -10,7 +10,7 @@ use Rattle.emv_dict.specs.declared.date.Date.{Date}
 use Rattle.pin_block.specs.Online.{online_of}
 use Rattle.card_keys.specs.Master.{master_key_of}
 use Rattle.card_keys.specs.Session.{session_ac_of, session_script_of}
-use Rattle.app_cryptogram.specs.Cryptograms.{ac_of, arpc_of}
+use Rattle.app_cryptogram.specs.Cryptograms.{ac_of}
 use Rattle.app_cryptogram.specs.declared.fields.AcFields.{AcFields}
 use Rattle.auth_message.specs.Data.{RequestData, PresentData}
 use Rattle.auth_message.specs.Message.{message_of}
@@ -28,6 +28,7 @@ use Rattle.issuer_host.specs.Account.{AccountData}
 use Rattle.issuer_host.specs.Balance.{is_booked, is_released, taken, account_of}
 use Rattle.issuer_host.specs.Books.{Kept, Books, kept_at}
 use Rattle.issuer_host.specs.Code.{code_bytes}
+use Rattle.issuer_host.specs.Response.{response_by}
 use Rattle.issuer_host.specs.Scripts.{all_script_bytes}
 
 -- the sequence number of the account number, 0 where there is none
@@ -155,17 +156,17 @@ script_keys keys f = record {
 abbrev pub scripts_for : HostKeys → AccountData → Books → RequestData → List ℕ
 scripts_for keys account books f = (if is_served account.pan books then [] else all_script_bytes (script_keys keys f) account.scripts)
 
--- the response cryptogram of the request's with this code, and the code (EMV 4.3 Book 2 section 8.2.1)
-abbrev pub response_under : List ℕ → RequestData → Code → List ℕ
-response_under session f code = arpc_of session f.t9f26 (code_bytes code) ++ code_bytes code
+-- the issuer authentication data by the account's method, under a session key
+abbrev pub response_under : List ℕ → AccountData → RequestData → Code → List ℕ
+response_under session account f code = response_by account.arpc account.status session f.t9f26 code
 
 -- the same under the card's key
-abbrev pub response_of : HostKeys → RequestData → Code → List ℕ
-response_of keys f code = response_under (session_of keys.ac (request_key f)) f code
+abbrev pub response_of : HostKeys → AccountData → RequestData → Code → List ℕ
+response_of keys account f code = response_under (session_of keys.ac (request_key f)) account f code
 
 -- the reply to a genuine request with this decision
 abbrev pub online_reply : HostKeys → AccountData → Books → RequestData → Code → Said
-online_reply keys account books f code = record { code = code; auth = Some (response_of keys f code); scripts = scripts_for keys account books f }
+online_reply keys account books f code = record { code = code; auth = Some (response_of keys account f code); scripts = scripts_for keys account books f }
 
 -- the reply to the first message of its kind and transaction
 abbrev pub request_reply : HostKeys → Option AccountData → Books → RequestData → Said

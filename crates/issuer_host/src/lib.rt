@@ -12,9 +12,10 @@ mod keeping;
 pub mod keys;
 mod records;
 mod reply;
+mod response;
 mod script;
 
-pub use account::Account;
+pub use account::{Account, Method, is_status};
 pub use code::Code;
 pub use host::Host;
 pub use keys::HostKeys;

@@ -1,5 +1,5 @@
 //! The host's replies to messages of which none of their kind and transaction was kept.
-ghost use Rattle.std.specs.Prelude.{◌≡◌, ◌++◌, ◌≤◌, ◌-ℤ◌, pos, length, Some, [], if◌then◌else◌, option_map, IfSome, false};
+ghost use Rattle.std.specs.Prelude.{◌≡◌, ◌≤◌, ◌-ℤ◌, pos, length, Some, [], if◌then◌else◌, option_map, IfSome, false};
 ghost use Rattle.std.specs.Option.{is_some};
 ghost use Rattle.auth_message.specs.Reply.{AreScripts};
 ghost use Rattle.issuer_host.specs.Account.{IsAccount};
@@ -13,11 +13,9 @@ use crate::code::Code;
 use crate::decision::{is_made_under, present_code, request_code, reversal_code, session};
 use crate::keys::HostKeys;
 use crate::records::Records;
+use crate::response::issuer_data;
 use crate::script::{ScriptBytes, ScriptKeys, write_scripts};
-use app_cryptogram::arpc_one;
-use arrayvec::ArrayVec;
 use auth_message::{Message, PresentFields, RequestFields, ReversalFields, write_reply};
-use ber_tlv::append;
 use card_keys::{master_key, session_script};
 use host_ledger::Key;
 use triple_des::Key16;
@@ -71,35 +69,25 @@ pub fn request_reply(
     }
     let code = request_code(keys, account, records, key, fields);
     let scripts = scripts(keys, account, served, records, key, fields);
-    online_reply(&session, fields, code, &scripts, out);
+    online_reply(&session, account, fields, code, &scripts, out);
     Answered { code, online: true }
 }
 
 /// Writes the reply to a genuine request, with its session key and the account's scripts.
 fn online_reply(
     session: &Key16,
+    account: &Account,
     fields: &RequestFields,
     code: Code,
     scripts: &[u8],
     out: &mut Message,
 )
-    requires { AreScripts scripts.now }
-    ensures { out.new.items ≡ said_bytes (record { code = code; auth = Some (response_under session.now fields.now code); scripts = scripts.now }) }
+    requires account { IsAccount account.now }
+    requires scripts { AreScripts scripts.now }
+    ensures { out.new.items ≡ said_bytes (record { code = code; auth = Some (response_under session.now account.now fields.now code); scripts = scripts.now }) }
 {
-    let cryptogram = fields.t9f26;
-    let response = joined(arpc_one(session, cryptogram, code.bytes()), code.bytes());
+    let response = issuer_data(session, account, fields.t9f26, code);
     write_reply(code.bytes(), Some(&response), scripts, out);
-}
-
-/// The issuer authentication data: the response cryptogram and the code.
-fn joined(cryptogram: [u8; 8], code: [u8; 2]) -> ArrayVec<u8, 10>
-    ensures bytes { result.items ≡ cryptogram ++ code }
-    ensures sized { length result.items ≡ 10 }
-{
-    let mut bytes = ArrayVec::new();
-    append(&mut bytes, &cryptogram);
-    append(&mut bytes, &code);
-    bytes
 }
 
 /// The account's scripts, where no reply carried them yet.
@@ -120,6 +108,10 @@ fn scripts(
 {
     let mut bytes = ScriptBytes::new();
     if served {
+        return bytes;
+    }
+    // Without scripts no key is made for them.
+    if account.scripts.is_empty() {
         return bytes;
     }
     let cryptogram = fields.t9f26;

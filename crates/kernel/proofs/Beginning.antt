@@ -17,7 +17,7 @@ use Rattle.terminal_state.specs.declared.table.Table.{Table}
 
 pub has_begun : (deal : Deal) (t : Table) (objects : Entries) (held : Option ReadCard) (s : Opening) → held ≡ None → deal_of t ≡ deal → objects ≡ []
     → OpeningStands t [] s [] (dialogue (deal_of t)) → opening_next s ≡ next.ToCard
-    → t.candidates ≡ [] → ((t : Table) → t.candidates ≡ [] → opening_rank t s ≤ 2 * 512 + (most_records + rank_behind t))
+    → t.candidates ≡ [] → ((t : Table) → t.candidates ≡ [] → opening_rank t s ≤ 2 * 768 + (most_records + rank_behind t))
     → HasBegun deal (record { table = t; objects = objects; card = held; stage = stage.Opening s; taken = 0; is_spent = false })
 has_begun deal t objects held s unread is none stands waits empty few =
     let pins : length t.purchase.now.pins ≡ length deal.purchase.pins = ap (λ (d : Deal). length d.purchase.pins) is in

@@ -82,6 +82,7 @@ refused_falls (search.Ended cause) old new leads few = omega arith
 
 -- a stage that waits has a reply to take
 pub opening_waits : (t : Table) (s : Opening) → opening_next s ≡ next.ToCard → 0 < opening_rank t s
+opening_waits t (at.Directory s) waits = omega arith
 opening_waits t (at.Select s) waits = omega arith
 opening_waits t (at.Initiate s) waits = omega arith
 opening_waits t (at.Read s) waits = omega arith

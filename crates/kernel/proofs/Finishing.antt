@@ -30,6 +30,7 @@ use Rattle.terminal_state.specs.declared.table.Table.{Table}
 
 -- a stage that is over does nothing else
 opening_ends : (t : Table) → (s : Opening) → (ending : Ending) → opening_over s ≡ Some ending → opening_deed t s ≡ Over ending
+opening_ends t (opening.Directory s) ending is = cc
 opening_ends t (opening.Select s) ending is = cc
 opening_ends t (opening.Initiate s) ending is = cc
 opening_ends t (opening.Read s) ending is = cc
@@ -80,6 +81,7 @@ kernel_ends k replies ending fits is over =
 
 -- a stage that is over takes nothing from further replies
 opening_stays : (t : Table) → (objects : Entries) → (s : Opening) → (log : List Logged) → (rest : List Reply → Standing Mark) → (ending : Ending) → OpeningStands t objects s log rest → opening_over s ≡ Some ending → (later : List Reply) → rest later ≡ rest []
+opening_stays t objects (opening.Directory s) log rest ending stands over later = cc
 opening_stays t objects (opening.Select s) log rest ending stands over later = cc
 opening_stays t objects (opening.Initiate s) log rest ending stands over later = cc
 opening_stays t objects (opening.Read s) log rest ending stands over later = cc

@@ -2,7 +2,7 @@
 use Rattle.std.proofs.Common.{◌≡◌, refl, sym, ap, ◌∙◌, ℕ, Bool, true, false, List, [], ◌∷◌, ◌++◌, Option, Some, None, Result, Ok, Err, if◌then◌else◌}
 use Rattle.std.proofs.lemmas.List.{append_assoc}
 use Rattle.app_select.specs.Candidates.{CandidateData}
-use Rattle.app_select.specs.Selecting.{SelectedData, selecting}
+use Rattle.app_select.specs.Selecting.{SelectedData}
 use Rattle.auth_message.specs.Reply.{ReplyData, reply_of}
 use Rattle.auth_message.specs.declared.fault.MessageFault.{MessageFault}
 use Rattle.emv_dict.specs.Progress.{Progress, Wants, Stopped, Done}
@@ -16,10 +16,11 @@ use Rattle.emv_dict.specs.declared.judged.Judged.{Judged}
 use Rattle.emv_dict.specs.declared.purchase.AidRow.{AidRow}
 use Rattle.emv_dict.specs.declared.purchase.Logged.{Logged}
 use Rattle.kernel.specs.Course.{Standing, Rest, stands, over, by_progress, settled, card_step, cut_off, host_step}
-use Rattle.kernel.specs.Dialogue.{Trade, all_failed, left_script, scripts_behind, second, scripts_before, authentication, authentication_by, has_authentication, unable_online, kind_unable, reply_read, replied, is_offline_only, first_answered, first, analysis, risk, verification, restrictions, read, granted, initiation, opened, candidates_left, dialogue, decision, kind_for, kind_wanted}
+use Rattle.kernel.specs.Dialogue.{Trade, all_failed, left_script, scripts_behind, second, scripts_before, authentication, authentication_by, has_authentication, unable_online, kind_unable, reply_read, replied, is_offline_only, first_answered, first, analysis, risk, verification, restrictions, read, granted, initiation, opened, candidates_left, selected_then, dialogue, decision, kind_for, kind_wanted}
 use Rattle.kernel.specs.Laws.{deeds, deeds_behind}
 use Rattle.kernel.specs.Reply.{Reply, CardSaid, CardGone, HostSaid, HostSilent, Deed, Over}
 use Rattle.online_step.specs.Authenticate.{authenticated}
+use Rattle.pse_directory.specs.Directory.{selecting_by}
 use Rattle.read_records.specs.Options.{Opened}
 use Rattle.script_run.specs.Ran.{template_ran, no_script}
 use Rattle.terminal_state.specs.Marks.{Mark, HasRead, HasRestricted, HasVerified, HasJudged, HasAnalysed, HasFirst, HasReply, WasUnable, HasAuthenticated, HasRunBefore, HasSecond, HasRunBehind}
@@ -299,9 +300,9 @@ candidates_keep deal (candidate ∷ left) =
     (opened_keeps deal (candidates_left deal left) (candidates_keep deal left))
     step.Select _
 
-dialogue_keeps : (deal : Deal) → Keeps [] (card_step (cut_off []) step.Power step.Select [] (selecting deal.settings.aids deal.purchase.confirm) (λ selected. initiation deal selected (candidates_left deal selected.left)))
+dialogue_keeps : (deal : Deal) → Keeps [] (card_step (cut_off []) step.Power step.Select [] (selecting_by deal.settings.pse deal.settings.aids deal.purchase.confirm) (selected_then deal))
 dialogue_keeps deal =
-    card_keeps (cut_off []) step.Select [] (λ selected. initiation deal selected (candidates_left deal selected.left)) (λ cut course. same_marks [])
+    card_keeps (cut_off []) step.Select [] (selected_then deal) (λ cut course. same_marks [])
     (λ selected. initiation_keeps deal selected (candidates_left deal selected.left) (candidates_keep deal selected.left))
     step.Power _
 

@@ -8,27 +8,22 @@ use Rattle.emv_dict.specs.declared.ending.Cause.TheVariants.{Answer}
 use Rattle.emv_dict.specs.declared.ending.Step.TheVariants as step
 use Rattle.emv_dict.specs.declared.purchase.Logged.{Logged}
 use Rattle.kernel.proofs.Courses.{done, stopped}
-use Rattle.kernel.specs.Course.{Rest, card_step, cut_off}
-use Rattle.kernel.specs.Dialogue.{initiation, opened, candidates_left}
+use Rattle.kernel.specs.Course.{card_step, cut_off}
+use Rattle.kernel.specs.Dialogue.{opened, candidates_left, selected_then}
 use Rattle.kernel.specs.Reply.{Reply, CardSaid, CardGone, HostSaid, HostSilent}
-use Rattle.terminal_state.specs.Marks.{Mark}
 use Rattle.terminal_state.specs.Terminal.{Deal}
 
--- what follows the application that is selected
-abbrev pub behind : Deal → SelectedData → Rest Mark
-behind deal selected = initiation deal selected (candidates_left deal selected.left)
-
 -- the answer to the final SELECT of the first one
-answered : (deal : Deal) → (candidate : CandidateData) → (left : List CandidateData) → ((log : List Logged) → (replies : List Reply) → card_step (cut_off []) step.Select step.Select [] (opening left) (behind deal) log replies ≡ candidates_left deal left log replies) → (said : SaidData) → (log : List Logged) → (replies : List Reply) → card_step (cut_off []) step.Select step.Select [] (λ later. or_else (final_by candidate left said later) (opening left)) (behind deal) log replies ≡ card_step (cut_off []) step.Select step.Select [] (λ later. final_by candidate left said later) (opened deal (candidates_left deal left)) log replies
+answered : (deal : Deal) → (candidate : CandidateData) → (left : List CandidateData) → ((log : List Logged) → (replies : List Reply) → card_step (cut_off []) step.Select step.Select [] (opening left) (selected_then deal) log replies ≡ candidates_left deal left log replies) → (said : SaidData) → (log : List Logged) → (replies : List Reply) → card_step (cut_off []) step.Select step.Select [] (λ later. or_else (final_by candidate left said later) (opening left)) (selected_then deal) log replies ≡ card_step (cut_off []) step.Select step.Select [] (λ later. final_by candidate left said later) (opened deal (candidates_left deal left)) log replies
 answered deal candidate left others Unreadable log replies =
-    stopped (cut_off []) step.Select step.Select [] (λ later. Stopped Answer) (behind deal) Answer (λ later. refl) log replies
+    stopped (cut_off []) step.Select step.Select [] (λ later. Stopped Answer) (selected_then deal) Answer (λ later. refl) log replies
     ∙ sym (stopped (cut_off []) step.Select step.Select [] (λ later. Stopped Answer) (opened deal (candidates_left deal left)) Answer (λ later. refl) log replies)
 answered deal candidate left others Blocked log replies =
     others log replies
     ∙ sym (done (cut_off []) step.Select step.Select [] (λ later. Done None later) (opened deal (candidates_left deal left)) None (λ later. refl) log replies)
 answered deal candidate left others (Named true fci) log replies =
     let selected : SelectedData = record { row = candidate.row; pdol = fci.pdol; left = left } in
-    done (cut_off []) step.Select step.Select [] (λ later. Done selected later) (behind deal) selected (λ later. refl) log replies
+    done (cut_off []) step.Select step.Select [] (λ later. Done selected later) (selected_then deal) selected (λ later. refl) log replies
     ∙ sym (done (cut_off []) step.Select step.Select [] (λ later. Done (Some selected) later) (opened deal (candidates_left deal left)) (Some selected) (λ later. refl) log replies)
 answered deal candidate left others (Named false fci) log replies =
     others log replies
@@ -38,7 +33,7 @@ answered deal candidate left others Nothing log replies =
     ∙ sym (done (cut_off []) step.Select step.Select [] (λ later. Done None later) (opened deal (candidates_left deal left)) None (λ later. refl) log replies)
 
 -- they are the candidates that selection opens
-pub left_is_opening : (deal : Deal) → (candidates : List CandidateData) → (log : List Logged) → (replies : List Reply) → card_step (cut_off []) step.Select step.Select [] (opening candidates) (behind deal) log replies ≡ candidates_left deal candidates log replies
+pub left_is_opening : (deal : Deal) → (candidates : List CandidateData) → (log : List Logged) → (replies : List Reply) → card_step (cut_off []) step.Select step.Select [] (opening candidates) (selected_then deal) log replies ≡ candidates_left deal candidates log replies
 unfolding candidates_left card_step
 left_is_opening deal [] log [] = refl
 left_is_opening deal [] log (CardSaid answer now ∷ replies) = refl

@@ -16,6 +16,9 @@ use Rattle.kernel.proofs.Courses.{same, done, stopped, gone, taken}
 use Rattle.kernel.specs.Course.{Standing, Rest, over, card_step, cut_off}
 use Rattle.kernel.specs.Reply.{Reply, CardSaid, CardGone}
 use Rattle.object_lists.specs.CardRead.{ReadCard}
+use Rattle.pse_directory.specs.Next.{DirectoryNextLeads}
+use Rattle.pse_directory.specs.declared.listing.DirectoryNext.{DirectoryNext}
+use Rattle.pse_directory.specs.declared.listing.DirectoryNext.TheVariants as directory
 use Rattle.read_records.specs.Leading.{OptionsNextLeads, CourseNextLeads}
 use Rattle.read_records.specs.Options.{Opened}
 use Rattle.read_records.specs.declared.initiating.OptionsNext.{OptionsNext}
@@ -52,6 +55,12 @@ pub search_shifted : (candidates : List CandidateData) → (whole : List (List �
 search_shifted candidates whole answer (search.Ask state) leads = leads
 search_shifted candidates whole answer (search.Chosen choice) leads = leads
 search_shifted candidates whole answer (search.Ended cause) leads = leads
+
+pub directory_shifted : (candidates : List CandidateData) → (whole : List (List ℕ) → Progress SelectedData) → (answer : List ℕ) → (next : DirectoryNext) → DirectoryNextLeads candidates whole ([] ++ answer ∷ []) next → DirectoryNextLeads candidates (λ later. whole (answer ∷ later)) [] next
+directory_shifted candidates whole answer (directory.Ask state) leads = leads
+directory_shifted candidates whole answer (directory.Found search) leads = leads
+directory_shifted candidates whole answer (directory.List search) leads = leads
+directory_shifted candidates whole answer (directory.Ended cause) leads = leads
 
 pub options_shifted : (objects : Entries) → (whole : List (List ℕ) → Progress (Option Opened)) → (answer : List ℕ) → (next : OptionsNext) → OptionsNextLeads objects whole ([] ++ answer ∷ []) next → OptionsNextLeads objects (λ later. whole (answer ∷ later)) [] next
 options_shifted objects whole answer options.Refused leads = leads

@@ -18,6 +18,7 @@ use Rattle.kernel.specs.declared.stage.Stage.{Stage}
 use Rattle.kernel.specs.declared.stage.Stage.TheVariants as stage
 use Rattle.kernel.specs.declared.stage.Trading.{Trading}
 use Rattle.kernel.specs.declared.stage.Trading.TheVariants as trading
+use Rattle.pse_directory.specs.Left.{rest_of as directory_rest}
 use Rattle.read_records.specs.DataRead.{reading}
 use Rattle.read_records.specs.Options.{initiated}
 use Rattle.risk_mgmt.specs.Asked.{rest_of as judging_rest}
@@ -28,6 +29,7 @@ use Rattle.terminal_state.specs.declared.table.Table.{Table}
 
 -- what a stage does next
 abbrev pub opening_deed : Table → Opening → Deed
+opening_deed t (opening.Directory s) = ToCard t.command.items
 opening_deed t (opening.Select s) = ToCard t.command.items
 opening_deed t (opening.Initiate s) = ToCard t.command.items
 opening_deed t (opening.Read s) = ToCard t.command.items
@@ -49,8 +51,10 @@ stage_deed t (stage.Opening s) = opening_deed t s
 stage_deed t (stage.Trading at) = trading_deed t at.trading
 
 pub opening_shows : (t : Table) → (objects : Entries) → (s : Opening) → (log : List Logged) → (rest : List Reply → Standing Mark) → OpeningStands t objects s log rest → rest [] ≡ stands [] (opening_deed t s)
+opening_shows t objects (opening.Directory s) log rest is =
+    is.passed [] ∙ wants (cut_off []) (cut_of s.begun) step.Select [] (directory_rest s.listing) _ log t.command.items is.shows
 opening_shows t objects (opening.Select s) log rest is =
-    is.passed [] ∙ wants (cut_off []) (cut_of s) step.Select [] (rest_with s.search t.candidates) _ log t.command.items is.shows
+    is.passed [] ∙ wants (cut_off []) (cut_of s.begun) step.Select [] (rest_with s.search t.candidates) _ log t.command.items is.shows
 opening_shows t objects (opening.Initiate s) log rest is =
     is.passed [] ∙ wants (cut_off []) step.Initiate step.Initiate [] (initiated s.initiating) _ log t.command.items is.shows
 opening_shows t objects (opening.Read s) log rest is =
@@ -101,6 +105,7 @@ kernel_shows k replies fits is =
 
 -- what it does next, as the kernel names it
 pub opening_deed_next : (t : Table) → (s : Opening) → deed_next (opening_deed t s) ≡ opening_next s
+opening_deed_next t (opening.Directory s) = refl
 opening_deed_next t (opening.Select s) = refl
 opening_deed_next t (opening.Initiate s) = refl
 opening_deed_next t (opening.Read s) = refl
@@ -127,6 +132,7 @@ next_is_told k replies fits is =
     sym (stage_deed_next k.table k.stage) ∙ ap (λ (standing : Standing Mark). told_next standing) (sym shown.is)
 
 opening_bytes : (t : Table) → (s : Opening) → deed_bytes (opening_deed t s) ≡ bytes_by t (opening_next s)
+opening_bytes t (opening.Directory s) = refl
 opening_bytes t (opening.Select s) = refl
 opening_bytes t (opening.Initiate s) = refl
 opening_bytes t (opening.Read s) = refl

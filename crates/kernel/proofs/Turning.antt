@@ -2,7 +2,7 @@
 use Rattle.std.proofs.Common.{◌≡◌, ◌⊎◌, inl, inr, refl, sym, ap, ◌∙◌, ℕ, Bool, true, false, List, [], ◌∷◌, ◌++◌, Option, Some, None, Result, Ok, Err, if◌then◌else◌}
 use Rattle.std.specs.List.{list_any}
 use Rattle.app_select.specs.Candidates.{CandidateData}
-use Rattle.app_select.specs.Selecting.{SelectedData, selecting}
+use Rattle.app_select.specs.Selecting.{SelectedData}
 use Rattle.auth_message.specs.Reply.{ReplyData, reply_of}
 use Rattle.auth_message.specs.declared.fault.MessageFault.{MessageFault}
 use Rattle.emv_dict.specs.Progress.{Progress, Wants, Stopped, Done}
@@ -17,13 +17,14 @@ use Rattle.emv_dict.specs.declared.purchase.AidRow.{AidRow}
 use Rattle.emv_dict.specs.declared.purchase.Logged.{Logged}
 use Rattle.kernel.proofs.Showing.{next_is_told}
 use Rattle.kernel.specs.Course.{Standing, Rest, stands, over, by_progress, settled, card_step, cut_off, host_step}
-use Rattle.kernel.specs.Dialogue.{Trade, all_failed, left_script, scripts_behind, second, scripts_before, authentication, authentication_by, has_authentication, unable_online, kind_unable, reply_read, replied, is_offline_only, first_answered, first, analysis, risk, verification, restrictions, read, granted, initiation, opened, candidates_left, dialogue, decision, kind_for, kind_wanted}
+use Rattle.kernel.specs.Dialogue.{Trade, all_failed, left_script, scripts_behind, second, scripts_before, authentication, authentication_by, has_authentication, unable_online, kind_unable, reply_read, replied, is_offline_only, first_answered, first, analysis, risk, verification, restrictions, read, granted, initiation, opened, candidates_left, selected_then, dialogue, decision, kind_for, kind_wanted}
 use Rattle.kernel.specs.Kernel.{KernelData, KernelFits, KernelStands, deal_in, next_of, told_next}
 use Rattle.kernel.specs.Laws.{AsBefore, LeavesBy, IsUnable, HeardBy, Turned, cuts, is_second}
 use Rattle.kernel.specs.Reply.{Reply, CardSaid, CardGone, HostSaid, HostSilent, ToCard, Over}
 use Rattle.kernel.specs.declared.kernel.Next.{Next}
 use Rattle.kernel.specs.declared.kernel.Next.TheVariants as next
 use Rattle.online_step.specs.Authenticate.{authenticated}
+use Rattle.pse_directory.specs.Directory.{selecting_by}
 use Rattle.read_records.specs.Options.{Opened}
 use Rattle.script_run.specs.Ran.{template_ran}
 use Rattle.terminal_state.specs.Marks.{Mark, HasVerified, HasJudged, HasAnalysed, HasFirst, HasReply, WasUnable, HasAuthenticated, HasRunBefore, HasSecond, HasRunBehind}
@@ -242,9 +243,9 @@ candidates_turn deal (candidate ∷ left) =
     (opened_turns deal (candidates_left deal left) (candidates_turn deal left))
     step.Select _
 
-dialogue_turns : (deal : Deal) → Turns [] (card_step (cut_off []) step.Power step.Select [] (selecting deal.settings.aids deal.purchase.confirm) (λ selected. initiation deal selected (candidates_left deal selected.left)))
+dialogue_turns : (deal : Deal) → Turns [] (card_step (cut_off []) step.Power step.Select [] (selecting_by deal.settings.pse deal.settings.aids deal.purchase.confirm) (selected_then deal))
 dialogue_turns deal =
-    card_turns (cut_off []) step.Select [] (λ selected. initiation deal selected (candidates_left deal selected.left)) (cut_leaves [] refl)
+    card_turns (cut_off []) step.Select [] (selected_then deal) (cut_leaves [] refl)
     (λ selected. initiation_turns deal selected (candidates_left deal selected.left) (candidates_turn deal selected.left))
     step.Power _
 

@@ -5,7 +5,7 @@ use Rattle.std.specs.Prelude.{ℕ, Bool, true, false, ◌==◌, ◌||◌, if◌t
 use Rattle.std.specs.Str.{bytes_eq}
 use Rattle.action_analysis.specs.Analysed.{codes_of, wanted, unable}
 use Rattle.app_select.specs.Candidates.{CandidateData}
-use Rattle.app_select.specs.Selecting.{SelectedData, final, selecting}
+use Rattle.app_select.specs.Selecting.{SelectedData, final}
 use Rattle.auth_message.specs.Reply.{ReplyData, reply_of}
 use Rattle.auth_message.specs.declared.fault.MessageFault.{MessageFault}
 use Rattle.cvm_list.specs.Begun.{cvm}
@@ -18,7 +18,9 @@ use Rattle.emv_dict.specs.declared.ending.Kind.{Kind}
 use Rattle.emv_dict.specs.declared.ending.Kind.TheVariants.{Aac, Tc, Arqc}
 use Rattle.emv_dict.specs.declared.ending.Step.{Step}
 use Rattle.emv_dict.specs.declared.ending.Step.TheVariants as step
+use Rattle.emv_dict.specs.declared.judged.Judged.{Judged}
 use Rattle.emv_dict.specs.declared.purchase.AidRow.{AidRow}
+use Rattle.emv_dict.specs.declared.verified.Verified.{Verified}
 use Rattle.env_map.specs.Entries.{Entries}
 use Rattle.kernel.specs.Course.{Standing, Rest, stands, over, by_progress, card_step, cut_off, host_step}
 use Rattle.kernel.specs.Reply.{Reply, Over}
@@ -26,6 +28,7 @@ use Rattle.object_lists.specs.CardRead.{ReadCard}
 use Rattle.online_step.specs.Authenticate.{authenticated}
 use Rattle.online_step.specs.Generate.{generated, list_data}
 use Rattle.online_step.specs.Request.{request_of}
+use Rattle.pse_directory.specs.Directory.{selecting_by}
 use Rattle.read_records.specs.DataRead.{reading}
 use Rattle.read_records.specs.Options.{Opened, initiating}
 use Rattle.restrictions.specs.Restricted.{restricted}
@@ -70,12 +73,16 @@ scripts_behind ending (template ∷ others) marks =
     card_step (left_script ending others marks) step.Script step.Script marks (template_ran template)
     (λ result. scripts_behind ending others (mark.HasRunBehind result ∷ marks))
 
+-- what follows the second cryptogram: the templates 72
+abbrev pub second_then : Bool → List (List ℕ) → List Mark → AcData → Rest Mark
+second_then online behind marks ac = scripts_behind (decision online ac.kind) behind (mark.HasSecond ac ∷ marks)
+
 -- the second GENERATE AC of this kind, over the data of CDOL2
 unfoldable pub second : Trade → Bool → Kind → List (List ℕ) → List Mark → Rest Mark
 second trade online asked behind marks =
     card_step (cut_off marks) step.Second step.Second marks
     (generated 0x8D asked true (list_data 0x8D trade.card (objects_at trade marks)))
-    (λ ac. scripts_behind (decision online ac.kind) behind (mark.HasSecond ac ∷ marks))
+    (second_then online behind marks)
 
 -- the kind that a reply's code asks for: 00 approves
 abbrev pub kind_for : List ℕ → Kind
@@ -95,11 +102,15 @@ issuer_scripts trade reply marks = scripts_before trade reply (templates 0x71 re
 abbrev pub has_authentication : ReadCard → Bool
 has_authentication card = (if bit_and (slice_index card.aip 0) 0x04 == 0 then false else true)
 
+-- what follows EXTERNAL AUTHENTICATE: the scripts
+abbrev pub authenticated_then : Trade → ReplyData → List Mark → Bool → Rest Mark
+authenticated_then trade reply marks good = issuer_scripts trade reply (mark.HasAuthenticated good ∷ marks)
+
 abbrev pub authentication_by : Trade → ReplyData → List Mark → Bool → Option (List ℕ) → Rest Mark
 authentication_by trade reply marks has None = issuer_scripts trade reply marks
 authentication_by trade reply marks has (Some value) =
     if has then card_step (cut_off marks) step.Authenticate step.Authenticate marks (authenticated value)
-    (λ good. issuer_scripts trade reply (mark.HasAuthenticated good ∷ marks))
+    (authenticated_then trade reply marks)
     else issuer_scripts trade reply marks
 
 -- EXTERNAL AUTHENTICATE, where the reply has data for it and the card the function
@@ -137,12 +148,16 @@ first_answered trade ac marks Tc = over marks (Approved false)
 first_answered trade ac marks Aac = over marks (Declined false)
 first_answered trade ac marks Arqc = online trade ac marks
 
+-- what follows the first cryptogram, by its kind
+abbrev pub first_then : Trade → List Mark → AcData → Rest Mark
+first_then trade marks ac = first_answered trade ac (mark.HasFirst ac ∷ marks) ac.kind
+
 -- the first GENERATE AC of this kind, over the data of CDOL1
 unfoldable pub first : Trade → Kind → List Mark → Rest Mark
 first trade asked marks =
     card_step (cut_off marks) step.First step.First marks
     (generated 0x8C asked false (list_data 0x8C trade.card (objects_at trade marks)))
-    (λ ac. first_answered trade ac (mark.HasFirst ac ∷ marks) ac.kind)
+    (first_then trade marks)
 
 -- the kind that action analysis asks for
 abbrev pub kind_wanted : Trade → List Mark → Kind
@@ -151,17 +166,25 @@ kind_wanted trade marks = wanted (moment marks).tvr (codes_of trade.card trade.r
 unfoldable pub analysis : Trade → List Mark → Rest Mark
 analysis trade marks = first trade (kind_wanted trade marks) (mark.HasAnalysed (kind_wanted trade marks) ∷ marks)
 
+-- what follows risk management: action analysis
+abbrev pub judged_then : Trade → List Mark → Judged → Rest Mark
+judged_then trade marks judged = analysis trade (mark.HasJudged judged ∷ marks)
+
 -- risk management looks into the log as it is when it begins
 unfoldable pub risk : Trade → List Mark → Rest Mark
 risk trade marks log replies =
     card_step (cut_off marks) step.Risk step.Risk marks
     (risky trade.card trade.deal.settings trade.row trade.deal.purchase log)
-    (λ judged. analysis trade (mark.HasJudged judged ∷ marks)) log replies
+    (judged_then trade marks) log replies
+
+-- what follows verification: risk management
+abbrev pub verified_then : Trade → List Mark → Verified → Rest Mark
+verified_then trade marks verified = risk trade (mark.HasVerified verified ∷ marks)
 
 unfoldable pub verification : Trade → List Mark → Rest Mark
 verification trade marks =
     card_step (cut_off marks) step.Verify step.Verify marks (cvm trade.card trade.deal.settings trade.deal.purchase)
-    (λ verified. risk trade (mark.HasVerified verified ∷ marks))
+    (verified_then trade marks)
 
 -- the card is read; processing restrictions ask it nothing
 unfoldable pub restrictions : Trade → Rest Mark
@@ -169,10 +192,14 @@ restrictions trade =
     verification trade
     (mark.HasRestricted (restricted trade.card trade.deal.settings trade.row trade.deal.purchase) ∷ mark.HasRead trade.card ∷ [])
 
+-- what follows reading: the processing restrictions
+abbrev pub read_then : Deal → AidRow → ReadCard → Rest Mark
+read_then deal row card = restrictions (record { deal = deal; row = row; card = card })
+
 unfoldable pub read : Deal → AidRow → Opened → Rest Mark
 read deal row opened =
     card_step (cut_off []) step.Read step.Read [] (reading opened)
-    (λ card. restrictions (record { deal = deal; row = row; card = card }))
+    (read_then deal row)
 
 -- GET PROCESSING OPTIONS; a card that refuses the application is asked for the others
 abbrev pub granted : Deal → AidRow → Rest Mark → Option Opened → Rest Mark
@@ -195,8 +222,12 @@ candidates_left deal [] = over [] (Terminated step.Select NoCandidate)
 candidates_left deal (candidate ∷ left) =
     card_step (cut_off []) step.Select step.Select [] (final candidate left) (opened deal (candidates_left deal left))
 
+-- what follows the application that is selected: its initiation, and where it refuses, the other candidates
+abbrev pub selected_then : Deal → SelectedData → Rest Mark
+selected_then deal selected = initiation deal selected (candidates_left deal selected.left)
+
 -- the dialogue from its first command, before whose answer the card is gone at the power-up
 unfoldable pub dialogue : Deal → List Reply → Standing Mark
 dialogue deal =
-    card_step (cut_off []) step.Power step.Select [] (selecting deal.settings.aids deal.purchase.confirm)
-    (λ selected. initiation deal selected (candidates_left deal selected.left)) []
+    card_step (cut_off []) step.Power step.Select [] (selecting_by deal.settings.pse deal.settings.aids deal.purchase.confirm)
+    (selected_then deal) []

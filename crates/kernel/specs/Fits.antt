@@ -1,13 +1,12 @@
 -- What holds of the table and the card's objects before the card is read, whatever was said.
 use Rattle.std.specs.Prelude.{◌≡◌, ⊤, List, []}
 use Rattle.app_select.specs.Leading.{HasRoom}
-use Rattle.app_select.specs.Selecting.{SelectedData}
 use Rattle.emv_dict.specs.Settings.{IsAidRow}
 use Rattle.emv_dict.specs.declared.purchase.AidRow.{AidRow}
 use Rattle.emv_dict.specs.declared.purchase.Logged.{Logged}
 use Rattle.env_map.specs.Entries.{Entries}
 use Rattle.kernel.specs.Course.{Standing}
-use Rattle.kernel.specs.Dialogue.{initiation, candidates_left, restrictions}
+use Rattle.kernel.specs.Dialogue.{restrictions}
 use Rattle.kernel.specs.Reply.{Reply}
 use Rattle.kernel.specs.Stages.{OpeningStands}
 use Rattle.kernel.specs.declared.opening.OpeningNext.{OpeningNext}
@@ -21,7 +20,6 @@ use Rattle.object_lists.specs.Forms.{HasForms}
 use Rattle.read_records.specs.Checked.{HasOptions}
 use Rattle.terminal_state.specs.Marks.{Mark, moment}
 use Rattle.terminal_state.specs.Table.{deal_of}
-use Rattle.terminal_state.specs.Terminal.{Deal}
 use Rattle.terminal_state.specs.declared.table.Table.{Table}
 
 -- no object is read yet, and there is room for the applications that are still to be found
@@ -30,7 +28,8 @@ pub record SelectFits (t : Table) (objects : Entries) (s : AtSelect) : Type 0 wh
   pub room : HasRoom s.search t.candidates
   pub fresh : t.moment ≡ moment []
 
-pub record InitiateFits (t : Table) (objects : Entries) : Type 0 where
+-- no object is read yet
+pub record IsUnread (t : Table) (objects : Entries) : Type 0 where
   pub empty : objects ≡ []
   pub fresh : t.moment ≡ moment []
 
@@ -41,8 +40,9 @@ pub record ReadFits (t : Table) (objects : Entries) (s : AtRead) : Type 0 where
   pub fresh : t.moment ≡ moment []
 
 abbrev pub OpeningFits : Table → Entries → Opening → Type 0
+OpeningFits t objects (opening.Directory s) = IsUnread t objects
 OpeningFits t objects (opening.Select s) = SelectFits t objects s
-OpeningFits t objects (opening.Initiate s) = InitiateFits t objects
+OpeningFits t objects (opening.Initiate s) = IsUnread t objects
 OpeningFits t objects (opening.Read s) = ReadFits t objects s
 OpeningFits t objects (opening.Over ending) = ⊤
 
@@ -61,7 +61,3 @@ abbrev pub NextStands : Table → Entries → OpeningNext → List Logged → (L
 NextStands t objects (next.On s) log rest = OpeningStands t objects s log rest
 NextStands t objects (next.Read row) log rest =
     (later : List Reply) → rest later ≡ restrictions (record { deal = deal_of t; row = row.now; card = card_of objects }) log later
-
--- what follows the application that is selected: its initiation, and where it refuses, the other candidates
-abbrev pub selected_then : Deal → SelectedData → List Logged → List Reply → Standing Mark
-selected_then deal selected = initiation deal selected (candidates_left deal selected.left)

@@ -38,6 +38,7 @@ deal_in k = deal_of k.table
 
 -- what a stage waits for
 abbrev pub opening_next : Opening → Next
+opening_next (opening.Directory s) = next.ToCard
 opening_next (opening.Select s) = next.ToCard
 opening_next (opening.Initiate s) = next.ToCard
 opening_next (opening.Read s) = next.ToCard

@@ -14,6 +14,7 @@ use Rattle.kernel.specs.declared.stage.Stage.{Stage}
 use Rattle.kernel.specs.declared.stage.Stage.TheVariants as stage
 use Rattle.kernel.specs.declared.stage.Trading.{Trading}
 use Rattle.kernel.specs.declared.stage.Trading.TheVariants as trading
+use Rattle.pse_directory.specs.Left.{answers_left as directory_answers_left}
 use Rattle.read_records.specs.Afl.{most_records}
 use Rattle.risk_mgmt.specs.Asked.{counters_by}
 use Rattle.terminal_state.specs.Scripts.{templates}
@@ -45,8 +46,9 @@ trading_rank scripts (trading.Over ending) = 0
 abbrev pub rank_behind : Table → ℕ
 rank_behind t = length t.purchase.now.pins + 6 + most_scripts
 
--- before: the records, and for each candidate its final SELECT and GET PROCESSING OPTIONS
+-- before: the records, and for each answer of the list, or of the directory, a final SELECT and GET PROCESSING OPTIONS
 abbrev pub opening_rank : Table → Opening → ℕ
+opening_rank t (opening.Directory s) = 2 * directory_answers_left s.listing + (most_records + rank_behind t)
 opening_rank t (opening.Select s) = 2 * answers_left s.search t.candidates + (most_records + rank_behind t)
 opening_rank t (opening.Initiate s) = 1 + 2 * length t.candidates + (most_records + rank_behind t)
 opening_rank t (opening.Read s) = length s.course + rank_behind t

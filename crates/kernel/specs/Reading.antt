@@ -12,6 +12,7 @@ use Rattle.kernel.specs.declared.stage.Opening.TheVariants as opening
 
 -- application selection, or GET PROCESSING OPTIONS
 abbrev pub IsBeforeReading : Opening → Type 0
+IsBeforeReading (opening.Directory s) = ⊤
 IsBeforeReading (opening.Select s) = ⊤
 IsBeforeReading (opening.Initiate s) = ⊤
 IsBeforeReading (opening.Read s) = ⊥

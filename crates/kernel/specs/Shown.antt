@@ -43,6 +43,7 @@ shown end = record {
 
 -- how a stage ended, where it did
 abbrev pub opening_over : Opening → Option Ending
+opening_over (opening.Directory s) = None
 opening_over (opening.Select s) = None
 opening_over (opening.Initiate s) = None
 opening_over (opening.Read s) = None

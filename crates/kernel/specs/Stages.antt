@@ -11,9 +11,8 @@ use Rattle.emv_dict.specs.declared.ending.Step.TheVariants as step
 use Rattle.emv_dict.specs.declared.purchase.Logged.{Logged}
 use Rattle.env_map.specs.Entries.{Entries}
 use Rattle.kernel.specs.Course.{Standing, Rest, over, card_step, cut_off, host_step}
-use Rattle.kernel.specs.Dialogue.{Trade, initiation, granted, candidates_left, restrictions, risk, analysis, first_answered, replied, issuer_scripts, scripts_before, scripts_behind, decision, left_script}
+use Rattle.kernel.specs.Dialogue.{Trade, selected_then, granted, candidates_left, read_then, verified_then, judged_then, first_then, replied, authenticated_then, scripts_before, scripts_behind, second_then, left_script}
 use Rattle.kernel.specs.Reply.{Reply}
-use Rattle.kernel.specs.declared.stage.AtSelect.{AtSelect}
 use Rattle.kernel.specs.declared.stage.Opening.{Opening}
 use Rattle.kernel.specs.declared.stage.Opening.TheVariants as opening
 use Rattle.kernel.specs.declared.stage.Trading.{Trading}
@@ -22,6 +21,7 @@ use Rattle.object_lists.specs.CardRead.{ReadCard}
 use Rattle.online_step.specs.Ac.{ac_of}
 use Rattle.online_step.specs.Authenticate.{verdict_of, after_verdict}
 use Rattle.online_step.specs.Generate.{after_ac}
+use Rattle.pse_directory.specs.Left.{rest_of as directory_rest}
 use Rattle.read_records.specs.DataRead.{reading}
 use Rattle.read_records.specs.Options.{initiated}
 use Rattle.risk_mgmt.specs.Asked.{rest_of as judging_rest}
@@ -49,22 +49,22 @@ behind_if online scripts = (if online then templates 0x72 scripts else [])
 -- once the card is read
 abbrev pub trading_rest : Table → Trade → List Mark → Trading → Rest Mark
 trading_rest t trade marks (trading.Verify v) =
-    card_step (cut_off marks) step.Verify step.Verify marks (verifying_rest v) (λ verified. risk trade (mark.HasVerified verified ∷ marks))
+    card_step (cut_off marks) step.Verify step.Verify marks (verifying_rest v) (verified_then trade marks)
 trading_rest t trade marks (trading.Risk j) =
-    card_step (cut_off marks) step.Risk step.Risk marks (judging_rest j) (λ judged. analysis trade (mark.HasJudged judged ∷ marks))
+    card_step (cut_off marks) step.Risk step.Risk marks (judging_rest j) (judged_then trade marks)
 trading_rest t trade marks (trading.First asked) =
     card_step (cut_off marks) step.First step.First marks (generating t.command.items asked false)
-    (λ ac. first_answered trade ac (mark.HasFirst ac ∷ marks) ac.kind)
+    (first_then trade marks)
 trading_rest t trade marks trading.Online = host_step marks t.message.items (replied trade marks)
 trading_rest t trade marks trading.Authenticate =
     card_step (cut_off marks) step.Authenticate step.Authenticate marks (authenticating t.command.items)
-    (λ good. issuer_scripts trade t.reply (mark.HasAuthenticated good ∷ marks))
+    (authenticated_then trade t.reply marks)
 trading_rest t trade marks (trading.ScriptBefore s) =
     card_step (cut_off marks) step.Script step.Script marks (running_rest s.running)
     (λ result. scripts_before trade t.reply (drop s.next (templates 0x71 t.reply.scripts)) (mark.HasRunBefore result ∷ marks))
 trading_rest t trade marks (trading.Second s) =
     card_step (cut_off marks) step.Second step.Second marks (generating t.command.items s.asked true)
-    (λ ac. scripts_behind (decision s.online ac.kind) (behind_if s.online t.reply.scripts) (mark.HasSecond ac ∷ marks))
+    (second_then s.online (behind_if s.online t.reply.scripts) marks)
 trading_rest t trade marks (trading.ScriptBehind s ending) =
     card_step (left_script ending (drop s.next (templates 0x72 t.reply.scripts)) marks) step.Script step.Script marks (running_rest s.running)
     (λ result. scripts_behind ending (drop s.next (templates 0x72 t.reply.scripts)) (mark.HasRunBehind result ∷ marks))
@@ -97,23 +97,25 @@ pub record Begins (t : Table) (card : ReadCard) (marks : List Mark) (rest start 
   pub read : latest card_of None marks ≡ Some card
 
 -- before the answer to the first command the card is gone at the power-up
-abbrev pub cut_of : AtSelect → Step
-cut_of s = (if s.begun then step.Select else step.Power)
+abbrev pub cut_of : Bool → Step
+cut_of begun = (if begun then step.Select else step.Power)
 
 -- before the card is read, with its objects so far
 abbrev pub opening_rest : Table → Entries → Opening → Rest Mark
+opening_rest t objects (opening.Directory s) =
+    card_step (cut_off []) (cut_of s.begun) step.Select [] (directory_rest s.listing) (selected_then (deal_of t))
 opening_rest t objects (opening.Select s) =
-    card_step (cut_off []) (cut_of s) step.Select [] (rest_with s.search t.candidates)
-    (λ selected. initiation (deal_of t) selected (candidates_left (deal_of t) selected.left))
+    card_step (cut_off []) (cut_of s.begun) step.Select [] (rest_with s.search t.candidates) (selected_then (deal_of t))
 opening_rest t objects (opening.Initiate s) =
     card_step (cut_off []) step.Initiate step.Initiate [] (initiated s.initiating)
     (granted (deal_of t) s.choice.row (candidates_left (deal_of t) t.candidates))
 opening_rest t objects (opening.Read s) =
     card_step (cut_off []) step.Read step.Read [] (reading (record { entries = objects; left = s.course }))
-    (λ card. restrictions (record { deal = deal_of t; row = s.row.now; card = card }))
+    (read_then (deal_of t) s.row.now)
 opening_rest t objects (opening.Over ending) = over [] ending
 
 abbrev pub OpeningShows : Table → Entries → Opening → Type 0
+OpeningShows t objects (opening.Directory s) = directory_rest s.listing [] ≡ Wants t.command.items
 OpeningShows t objects (opening.Select s) = rest_with s.search t.candidates [] ≡ Wants t.command.items
 OpeningShows t objects (opening.Initiate s) = initiated s.initiating [] ≡ Wants t.command.items
 OpeningShows t objects (opening.Read s) = reading (record { entries = objects; left = s.course }) [] ≡ Wants t.command.items

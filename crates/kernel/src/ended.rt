@@ -164,8 +164,8 @@ pub(crate) fn ending_of(stage: &Stage<'_>) -> Ending
 {
     match stage {
         Stage::Opening(Opening::Over(ending)) => *ending,
-        Stage::Opening(Opening::Select(_) | Opening::Initiate(_) | Opening::Read(_)) =>
-            unreachable!(),
+        Stage::Opening(Opening::Directory(_) | Opening::Select(_)) => unreachable!(),
+        Stage::Opening(Opening::Initiate(_) | Opening::Read(_)) => unreachable!(),
         Stage::Trading(at) => trading_ending(&at.trading),
     }
 }

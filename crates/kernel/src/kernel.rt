@@ -154,8 +154,8 @@ fn stage_next(stage: &Stage<'_>) -> Next
     ensures { result ≡ spec.stage_next stage.now }
 {
     match stage {
-        Stage::Opening(Opening::Select(_) | Opening::Initiate(_) | Opening::Read(_)) =>
-            Next::ToCard,
+        Stage::Opening(Opening::Directory(_) | Opening::Select(_)) => Next::ToCard,
+        Stage::Opening(Opening::Initiate(_) | Opening::Read(_)) => Next::ToCard,
         Stage::Opening(Opening::Over(_)) => Next::Ended,
         Stage::Trading(at) => trading_next(&at.trading),
     }

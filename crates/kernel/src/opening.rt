@@ -10,8 +10,8 @@ ghost use Rattle.emv_dict.specs.declared.ending.Step.TheVariants as step;
 ghost use Rattle.emv_dict.specs.declared.purchase.Logged.{Logged};
 ghost use Rattle.env_map.specs.Entries.{Entries};
 ghost use Rattle.kernel.specs.Course.{Standing, card_step, cut_off};
-ghost use Rattle.kernel.specs.Dialogue.{dialogue, initiation, candidates_left, granted, restrictions};
-ghost use Rattle.kernel.specs.Fits.{OpeningFits, SelectFits, InitiateFits, ReadFits, NextFits, NextStands, selected_then};
+ghost use Rattle.kernel.specs.Dialogue.{dialogue, initiation, candidates_left, granted, restrictions, selected_then};
+ghost use Rattle.kernel.specs.Fits.{OpeningFits, SelectFits, IsUnread, ReadFits, NextFits, NextStands};
 ghost use Rattle.kernel.specs.Kernel.{opening_next};
 ghost use Rattle.kernel.specs.Rank.{opening_rank, next_rank, search_rank, rank_behind};
 ghost use Rattle.kernel.specs.Reading.{IsBeforeReading, next_at};
@@ -21,6 +21,8 @@ ghost use Rattle.kernel.specs.declared.kernel.Next.TheVariants as waits;
 ghost use Rattle.kernel.specs.declared.stage.Opening.TheVariants as stage;
 ghost use Rattle.object_lists.specs.CardRead.{ReadCard};
 ghost use Rattle.object_lists.specs.Forms.{HasForms};
+ghost use Rattle.pse_directory.specs.Left.{answers_left as directory_answers_left};
+ghost use Rattle.pse_directory.specs.Next.{DirectoryNextHasRoom, DirectoryNextLeads, answers_left_next as directory_answers_left_next};
 ghost use Rattle.read_records.specs.Afl.{most_records};
 ghost use Rattle.read_records.specs.Checked.{HasOptions};
 ghost use Rattle.read_records.specs.DataRead.{reading};
@@ -31,11 +33,12 @@ ghost use Rattle.terminal_state.specs.Marks.{Mark, moment};
 ghost use Rattle.terminal_state.specs.Table.{IsDeal, deal_of};
 ghost use Rattle.terminal_state.specs.declared.table.Table.{Table};
 
-use crate::stage::{AtInitiate, AtRead, AtSelect, Opening};
+use crate::stage::{AtDirectory, AtInitiate, AtRead, AtSelect, Opening};
 use apdu_core::Out;
 use app_select::{Choice, Search, SearchNext};
 use emv_dict::{AidRow, Ending, Purchase, Settings, Step};
 use env_map::Env;
+use pse_directory::{DirectoryNext, Listing};
 use read_records::{Course, CourseStep, Initiating, OptionsNext};
 use terminal_state::{Table, put_terminal};
 
@@ -60,13 +63,44 @@ pub(crate) fn begin<'s>(
         → table.candidates ≡ [] → table.moment ≡ moment [] → table.command.items ≡ command.new.items
         → OpeningStands table [] result [] (dialogue (deal_of table)) }
     ensures waits { opening_next result ≡ waits.ToCard }
-    ensures few { (table : Table) → table.candidates ≡ [] → opening_rank table result ≤ 2 * 512 + (most_records + rank_behind table) }
+    ensures few { (table : Table) → table.candidates ≡ [] → opening_rank table result ≤ 2 * 768 + (most_records + rank_behind table) }
     ensures fits { (table : Table) → table.candidates ≡ [] → table.moment ≡ moment [] → OpeningFits table [] result }
 {
-    let search = Search::begin(settings, purchase.confirm);
-    search.ask(command);
     let begun = false;
-    Opening::Select(AtSelect { search, begun })
+    if settings.pse {
+        let listing = Listing::begin(settings, purchase.confirm);
+        listing.ask(command);
+        Opening::Directory(AtDirectory { listing, begun })
+    } else {
+        let search = Search::begin(settings, purchase.confirm);
+        search.ask(command);
+        Opening::Select(AtSelect { search, begun })
+    }
+}
+
+/// How application selection goes on behind an answer for the directory.
+fn directory_next<'s>(table: &mut Table<'s>, objects: &Env, next: DirectoryNext<'s>) -> Opening<'s>
+    requires room { DirectoryNextHasRoom next table.old.candidates }
+    requires objects { objects.now ≡ [] }
+    requires moment { table.old.moment ≡ moment [] }
+    ensures stands { (log : List Logged) (course : List (List ℕ) → Progress SelectedData) (rest : List Reply → Standing Mark)
+        → ((later : List Reply) → rest later ≡ card_step (cut_off []) step.Select step.Select [] course (selected_then (deal_of table.old)) log later)
+        → DirectoryNextLeads table.old.candidates course [] next.entry
+        → OpeningStands table.new objects.now result log rest }
+    ensures same { deal_of table.new ≡ deal_of table.old }
+    ensures few { opening_rank table.new result ≤ 2 * directory_answers_left_next next.entry table.old.candidates + (most_records + rank_behind table.old) }
+    ensures fits { OpeningFits table.new objects.now result }
+{
+    match next {
+        DirectoryNext::Ask(listing) => {
+            listing.ask(&mut table.command);
+            let begun = true;
+            Opening::Directory(AtDirectory { listing, begun })
+        }
+        DirectoryNext::Found(search) => ask_search(table, objects, true, search),
+        DirectoryNext::List(search) => ask_search(table, objects, true, search),
+        DirectoryNext::Ended(cause) => Opening::Over(Ending::Terminated(Step::Select, cause)),
+    }
 }
 
 /// The next SELECT is asked.
@@ -220,6 +254,26 @@ fn read_next<'s>(table: &mut Table<'s>, objects: &Env, at: &AtRead<'s>, next: &C
     }
 }
 
+/// The card's answer for its directory.
+fn on_directory<'s>(
+    table: &mut Table<'s>,
+    objects: &Env,
+    state: AtDirectory<'s>,
+    reply: &[u8],
+) -> Opening<'s>
+    requires fits { IsUnread table.old objects.now }
+    ensures stands { (before now : List Logged) (rest : List Reply → Standing Mark)
+        → OpeningStands table.old objects.now (stage.Directory state.entry) before rest
+        → OpeningStands table.new objects.now result now (λ later. rest (CardSaid reply.now now ∷ later)) }
+    ensures same { deal_of table.new ≡ deal_of table.old }
+    ensures nearer { opening_rank table.new result < 2 * directory_answers_left state.entry.listing + (most_records + rank_behind table.old) }
+    ensures fits { OpeningFits table.new objects.now result }
+{
+    let AtDirectory { listing, begun: _ } = state;
+    let next = listing.take_into(&mut table.candidates, reply);
+    directory_next(table, objects, next)
+}
+
 /// The card's answer in application selection.
 fn on_select<'s>(
     table: &mut Table<'s>,
@@ -249,7 +303,7 @@ fn on_initiate<'s>(
     reply: &[u8],
 ) -> Opening<'s>
     requires deal { IsDeal (deal_of table.old) }
-    requires fits { InitiateFits table.old objects.old }
+    requires fits { IsUnread table.old objects.old }
     ensures stands { (before now : List Logged) (rest : List Reply → Standing Mark)
         → OpeningStands table.old objects.old (stage.Initiate state.entry) before rest
         → OpeningStands table.new objects.new result now (λ later. rest (CardSaid reply.now now ∷ later)) }
@@ -300,6 +354,7 @@ pub(crate) fn on_answer<'s>(
     ensures fits { OpeningFits table.new objects.new result }
 {
     match state {
+        Opening::Directory(state) => on_directory(table, objects, state, reply),
         Opening::Select(state) => on_select(table, objects, state, reply),
         Opening::Initiate(state) => on_initiate(table, objects, state, reply),
         Opening::Read(_) | Opening::Over(_) => unreachable!(),
@@ -316,7 +371,8 @@ pub(crate) fn on_gone<'s>(state: Opening<'s>) -> Opening<'s>
     ensures ended { opening_next result ≡ waits.Ended }
 {
     match state {
-        Opening::Select(state) => Opening::Over(Ending::CutOff(step_of(&state))),
+        Opening::Directory(state) => Opening::Over(Ending::CutOff(step_of(state.begun))),
+        Opening::Select(state) => Opening::Over(Ending::CutOff(step_of(state.begun))),
         Opening::Initiate(_) => Opening::Over(Ending::CutOff(Step::Initiate)),
         Opening::Read(_) => Opening::Over(Ending::CutOff(Step::Read)),
         Opening::Over(ending) => Opening::Over(ending),
@@ -324,12 +380,8 @@ pub(crate) fn on_gone<'s>(state: Opening<'s>) -> Opening<'s>
 }
 
 /// The step that is named where the card is gone in application selection.
-fn step_of(state: &AtSelect<'_>) -> Step
-    ensures { result ≡ cut_of state.now }
+fn step_of(begun: bool) -> Step
+    ensures { result ≡ cut_of begun }
 {
-    if state.begun {
-        Step::Select
-    } else {
-        Step::Power
-    }
+    if begun { Step::Select } else { Step::Power }
 }

@@ -2,6 +2,7 @@
 use app_select::{Choice, Search};
 use cvm_list::Verifying;
 use emv_dict::{AidRow, Ending, Kind};
+use pse_directory::Listing;
 use read_records::{Course, Initiating};
 use risk_mgmt::Judging;
 use script_run::Running;
@@ -9,10 +10,19 @@ use script_run::Running;
 /// Before the card is read.
 #[derive(Drop)]
 pub(crate) enum Opening<'s> {
+    Directory(AtDirectory<'s>),
     Select(AtSelect<'s>),
     Initiate(AtInitiate<'s>),
     Read(AtRead<'s>),
     Over(Ending),
+}
+
+/// The card's directory is read.
+#[derive(Drop)]
+pub(crate) struct AtDirectory<'s> {
+    pub listing: Listing<'s>,
+    /// Whether the card has answered yet.
+    pub begun: bool,
 }
 
 #[derive(Drop)]

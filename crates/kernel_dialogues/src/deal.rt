@@ -59,6 +59,8 @@ pub struct Deal<'t> {
     target: &'t str,
     most_target: &'t str,
     exceptions: &'t str,
+    /// Whether the terminal begins with the card's directory.
+    pse: bool,
     amount: u64,
     other: u64,
     currency: [u8; 2],
@@ -93,6 +95,7 @@ const BASE: Deal<'static> = Deal {
     target: "10",
     most_target: "50",
     exceptions: "",
+    pse: false,
     amount: 2_500,
     other: 0,
     currency: [0x08, 0x40],
@@ -180,6 +183,7 @@ impl<'t> Deal<'t> {
             "target" => self.target = value,
             "max" => self.most_target = value,
             "exceptions" => self.exceptions = value,
+            "pse" => self.pse = true,
             _ => {}
         }
     }
@@ -224,6 +228,7 @@ impl<'t> Deal<'t> {
             pin_key: 0x6789_abcd_ef01_2345_9876_5432_10fe_dcbau128.to_be_bytes(),
             exceptions,
             aids,
+            pse: self.pse,
         })
     }
 

@@ -1,6 +1,11 @@
 //! Names of texts that many dialogues share: exchanges, and the bytes of commands, answers and messages.
 
-const NAMES: [(&str, &str); 55] = [
+const NAMES: [(&str, &str); 57] = [
+    ("directory", "00a404000e315041592e5359532e444446303100"),
+    (
+        "directory-fci",
+        "6f15840e315041592e5359532e4444463031a5038801019000",
+    ),
     (
         "selected",
         "00a4040007a000000003101000 6f168407a0000000031010a50b50064352454449548701019000 > 00a4040007a000000003101000 6f168407a0000000031010a50b50064352454449548701019000",

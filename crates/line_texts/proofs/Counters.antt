@@ -1,36 +1,56 @@
 -- The counters of applications are read from the front of a text.
 use Rattle.std.proofs.Common.{◌≡◌, ℕ, ◌<◌, List, [], ◌∷◌, ◌++◌, refl, sym, ap, ◌∙◌, arith, append_assoc}
-use Rattle.std.specs.Prelude.{slice_index, decimal, length}
+use Rattle.std.specs.Prelude.{slice_index, decimal, length, Option, Some, None, IfSome}
 use Rattle.std.specs.List.{All}
 use Rattle.std.proofs.lemmas.List.Elements.{All-head, All-tail}
 use Rattle.std.proofs.lemmas.Fmt.{decimal_is_IsNumeral}
 use Rattle.std.proofs.lemmas.Str.Parse.{digit_at}
-use Rattle.report_text.specs.Text.{shown_text, all_shown}
+use Rattle.report_text.specs.Text.{second_text, shown_text, all_shown}
 use Rattle.report_text.specs.declared.line.Shown.{Shown}
 use Rattle.line_texts.specs.Told.{IsCount, AreCounters}
 use Rattle.line_texts.proofs.Fronts.{behind, number, first_same}
 
-shown_of : ℕ → ℕ → ℕ → ℕ → ℕ → ℕ → Shown
-shown_of counter last_online count sum tries flags =
-    record { counter = counter; last_online = last_online; count = count; sum = sum; tries = tries; flags = flags }
+shown_of : ℕ → ℕ → ℕ → ℕ → ℕ → ℕ → Option ℕ → Shown
+shown_of counter last_online count sum tries flags sum_two =
+    record { counter = counter; last_online = last_online; count = count; sum = sum; tries = tries; flags = flags; sum_two = sum_two }
 
-shown_by : {a b c d e f u v w x y z : ℕ} → a ≡ u → b ≡ v → c ≡ w → d ≡ x → e ≡ y → f ≡ z → shown_of a b c d e f ≡ shown_of u v w x y z
-shown_by p q r s t o = cc
+shown_by : {a b c d e f u v w x y z : ℕ} {m n : Option ℕ} → a ≡ u → b ≡ v → c ≡ w → d ≡ x → e ≡ y → f ≡ z → m ≡ n → shown_of a b c d e f m ≡ shown_of u v w x y z n
+shown_by p q r s t o i = cc
 
-shown_same : (a b : Shown) → a.counter ≡ b.counter → a.last_online ≡ b.last_online → a.count ≡ b.count → a.sum ≡ b.sum → a.tries ≡ b.tries → a.flags ≡ b.flags → a ≡ b
+shown_same : (a b : Shown) → a.counter ≡ b.counter → a.last_online ≡ b.last_online → a.count ≡ b.count → a.sum ≡ b.sum → a.tries ≡ b.tries → a.flags ≡ b.flags → a.sum_two ≡ b.sum_two → a ≡ b
 unfolding shown_of
-shown_same a b p q r s t o = shown_by p q r s t o
+shown_same a b p q r s t o i = shown_by p q r s t o i
 
 -- what follows the first counter
 abbrev behind_first : Shown → List ℕ → List ℕ
 behind_first app rest =
-    44 ∷ (decimal app.last_online ++ 44 ∷ (decimal app.count ++ 44 ∷ (decimal app.sum ++ 44 ∷ (decimal app.tries ++ 44 ∷ (decimal app.flags ++ rest)))))
+    44 ∷ (decimal app.last_online ++ 44 ∷ (decimal app.count ++ 44 ∷ (decimal app.sum ++ 44 ∷ (decimal app.tries ++ 44 ∷ (decimal app.flags ++ (second_text app.sum_two ++ rest))))))
 
 shown_flat : (app : Shown) (rest : List ℕ) → shown_text app ++ rest ≡ 32 ∷ (decimal app.counter ++ behind_first app rest)
 unfolding shown_text
 shown_flat app rest = simp append_assoc
 
-shown_front : (a b : Shown) (c d : ℕ) (r s : List ℕ) → shown_text a ++ c ∷ r ≡ shown_text b ++ d ∷ s → AreCounters a → AreCounters b → c < 48 → d < 48 → (a ≡ b) × (c ∷ r ≡ d ∷ s)
+-- the flags, and the sum in a second currency where there is one: what follows begins with no comma
+last_two : (m n : ℕ) (x y : Option ℕ) (c d : ℕ) (r s : List ℕ) → decimal m ++ (second_text x ++ c ∷ r) ≡ decimal n ++ (second_text y ++ d ∷ s) →
+    IsCount m → IsCount n → IfSome x IsCount → IfSome y IsCount → c < 44 → d < 44 → (m ≡ n) × (x ≡ y) × (c ∷ r ≡ d ∷ s)
+unfolding second_text
+last_two m n None None c d r s e hm hn hx hy hc hd =
+    let same = number m n c d r s e hm hn (omega arith) (omega arith) in
+    (same.0, refl, same.1)
+last_two m n None (Some y) c d r s e hm hn hx hy hc hd =
+    let same = number m n c 44 r (decimal y ++ d ∷ s) e hm hn (omega arith) (omega arith) in
+    let no : c ≡ 44 = first_same c 44 _ _ same.1 in
+    absurd (omega arith)
+last_two m n (Some x) None c d r s e hm hn hx hy hc hd =
+    let same = number m n 44 d (decimal x ++ c ∷ r) s e hm hn (omega arith) (omega arith) in
+    let no : ◌≡◌ {A = ℕ} 44 d = first_same 44 d _ _ same.1 in
+    absurd (omega arith)
+last_two m n (Some x) (Some y) c d r s e hm hn hx hy hc hd =
+    let same = number m n 44 44 (decimal x ++ c ∷ r) (decimal y ++ d ∷ s) e hm hn (omega arith) (omega arith) in
+    let sums = number x y c d r s (behind 1 same.1) hx hy (omega arith) (omega arith) in
+    (same.0, ap Some sums.0, sums.1)
+
+shown_front : (a b : Shown) (c d : ℕ) (r s : List ℕ) → shown_text a ++ c ∷ r ≡ shown_text b ++ d ∷ s → AreCounters a → AreCounters b → c < 44 → d < 44 → (a ≡ b) × (c ∷ r ≡ d ∷ s)
 shown_front a b c d r s e ta tb hc hd =
     let flat : 32 ∷ (decimal a.counter ++ behind_first a (c ∷ r)) ≡ 32 ∷ (decimal b.counter ++ behind_first b (d ∷ s)) = sym (shown_flat a (c ∷ r)) ∙ e ∙ shown_flat b (d ∷ s) in
     let one = number a.counter b.counter 44 44 _ _ (behind 1 flat) ta.counter tb.counter (omega arith) (omega arith) in
@@ -38,8 +58,8 @@ shown_front a b c d r s e ta tb hc hd =
     let three = number a.count b.count 44 44 _ _ (behind 1 two.1) ta.count tb.count (omega arith) (omega arith) in
     let four = number a.sum b.sum 44 44 _ _ (behind 1 three.1) ta.sum tb.sum (omega arith) (omega arith) in
     let five = number a.tries b.tries 44 44 _ _ (behind 1 four.1) ta.tries tb.tries (omega arith) (omega arith) in
-    let six = number a.flags b.flags c d r s (behind 1 five.1) ta.flags tb.flags hc hd in
-    (shown_same a b one.0 two.0 three.0 four.0 five.0 six.0, six.1)
+    let six = last_two a.flags b.flags a.sum_two b.sum_two c d r s (behind 1 five.1) ta.flags tb.flags ta.sum_two tb.sum_two hc hd in
+    (shown_same a b one.0 two.0 three.0 four.0 five.0 six.0 six.1, six.2)
 
 -- a number begins with a digit
 first_digit : (digits rest : List ℕ) → 0 < length digits → slice_index digits 0 < 58 → slice_index (digits ++ rest) 0 < 58

@@ -1,5 +1,5 @@
 -- Lines tell what happened: two different lines have different texts.
-use Rattle.std.specs.Prelude.{◌≡◌, ◌≢◌, ℕ, ◌<◌, ◌^◌, List, length, codes, Option, Some, None}
+use Rattle.std.specs.Prelude.{◌≡◌, ◌≢◌, ℕ, ◌<◌, ◌^◌, List, length, codes, Option, Some, None, IfSome}
 use Rattle.std.specs.List.{All}
 use Rattle.std.specs.Int.Signed.{mag}
 use Rattle.emv_dict.specs.declared.ending.Cause.{Cause}
@@ -35,6 +35,7 @@ pub record AreCounters (app : Shown) : Type 0 where
   pub sum : IsCount app.sum
   pub tries : IsCount app.tries
   pub flags : IsCount app.flags
+  pub sum_two : IfSome app.sum_two IsCount
 
 -- what a cause names keeps to its width: two status bytes, a place, a tag, a group, a byte
 unfoldable pub IsCauseTold : Cause → Type 0

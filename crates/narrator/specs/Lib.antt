@@ -1,1 +1,5 @@
+pub mod Endings
+pub mod Powers
 pub mod Shown
+pub mod State
+pub mod Words

@@ -1,116 +1,220 @@
 //! Endings in words.
-use action_words::tell_reason;
+ghost use Rattle.std.specs.Prelude.{◌≡◌, ◌<◌, ◌||◌, ◌++◌, [], if◌then◌else◌, codes, option_map, Some};
+ghost use Rattle.std.specs.List.{list_all};
+ghost use Rattle.narrator.specs.Endings as spec;
+ghost use Rattle.report_lines.specs.Reading.{seen_ending, seen_fields};
+ghost use Rattle.word_lines.specs.Bits.{has_bit};
+ghost use Rattle.word_lines.specs.Pieces as piece;
+ghost use Rattle.word_lines.specs.Pieces.{Tells};
+
+use crate::phrases::{
+    ALL_CARRIED_OUT, ASKED_FOR, CARD_ANSWERED, ENDED_AT, NO_RULE, NO_SCRIPT, PULLED_OUT,
+};
+use action_words::{Reason, tell_reason};
 use ber_tlv::Tag;
 use emv_dict::Kind;
 use exchange_words::{LaneState, kind_name, tell_status};
 use explain_words::{
-    CAUSES, CRYPTOGRAMS, OUTCOMES, RESPONSES, STATUS_BITS, STEPS, name_of, word_of, word_of_text,
+    CAUSES, CRYPTOGRAMS, Form, OUTCOMES, RESPONSES, STATUS_BITS, STEPS, name_of, word_of,
+    word_of_text,
 };
 use object_words::{tell_results, tell_rule};
 use report_lines::{EndFields, Ending};
 use word_lines::WordLines;
 
+/// Whether a byte is a lower-case hexadecimal digit.
+fn is_digit(byte: u8) -> bool
+    ensures { result ≡ spec.is_hex_digit byte }
+{
+    (b'0' <= byte && byte <= b'9') || (b'a' <= byte && byte <= b'f')
+}
+
 /// The value of a lower-case hexadecimal digit.
-fn digit_of(byte: u8) -> Option<u8> {
-    if b'0' <= byte && byte <= b'9' {
-        Some(byte - b'0')
-    } else if b'a' <= byte && byte <= b'f' {
-        Some(byte - b'a' + 10)
+fn digit_value(byte: u8) -> u8
+    ensures { result ≡ spec.hex_digit byte }
+{
+    if byte <= b'9' {
+        byte.saturating_sub(b'0')
     } else {
-        None
+        byte.saturating_sub(b'a' - 10)
     }
 }
 
-/// The number of at most 16 hexadecimal digits.
-pub(crate) fn hex_number(text: &[u8]) -> Option<u64> {
-    if text.is_empty() || text.len() > 16 {
-        return None;
-    }
+/// The number of these hexadecimal digits.
+fn digits_number(digits: &[u8]) -> u64
+    ensures { result ≡ spec.digits_number digits.now }
+{
     let mut number: u64 = 0;
-    for byte in text {
+    for digit in digits {
         number = number
             .saturating_mul(16)
-            .saturating_add(u64::from(digit_of(*byte)?));
+            .saturating_add(u64::from(digit_value(*digit)));
     }
-    Some(number)
+    number
+}
+
+/// Whether each byte is a lower-case hexadecimal digit.
+fn are_digits(text: &[u8]) -> bool
+    ensures { result ≡ list_all spec.is_hex_digit text.now }
+{
+    text.iter().all(|byte| is_digit(*byte))
+}
+
+/// The number of 1 to 16 hexadecimal digits.
+#[tactic(auto, unfolding(crate::specs::Endings::hex_number))]
+pub(crate) fn hex_number(text: &[u8]) -> Option<u64>
+    ensures { result ≡ spec.hex_number text.now }
+{
+    if text.is_empty() || text.len() > 16 || !are_digits(text) {
+        return None;
+    }
+    Some(digits_number(text))
+}
+
+/// The words of a step.
+fn step_word(step: &[u8]) -> Option<&'static [u8]>
+    ensures { option_map (λ word. word.now) result ≡ spec.step_word step.now }
+{
+    word_of_text(&STEPS, step)
 }
 
 /// Tells a step.
-fn tell_step(out: &mut WordLines, step: &[u8]) {
-    match word_of_text(&STEPS, step) {
+fn tell_step(out: &mut WordLines, step: &[u8])
+    ensures { Tells out.old out.new (spec.step_words step.now) }
+{
+    match step_word(step) {
         Some(word) => out.text(word),
         None => out.text(step),
     }
 }
 
 /// The instruction whose answers a step reads.
-fn instruction_of(step: &[u8]) -> u8 {
-    match step {
-        b"select" => 0xa4,
-        b"initiate" => 0xa8,
-        b"read" => 0xb2,
-        b"first" | b"second" => 0xae,
-        _ => 0,
+fn instruction_of(step: &[u8]) -> u8
+    ensures { result ≡ spec.instruction_of step.now }
+{
+    if step == b"select".as_slice() {
+        0xa4
+    } else if step == b"initiate".as_slice() {
+        0xa8
+    } else if step == b"read".as_slice() {
+        0xb2
+    } else if step == b"first".as_slice() || step == b"second".as_slice() {
+        0xae
+    } else {
+        0
     }
 }
 
+/// The name of the tag of this number, and how its value is told.
+fn tag_name(tag: u32) -> Option<(&'static [u8], Form)>
+    ensures { option_map (λ named. (named.0.now, named.1)) result ≡ spec.tag_name tag }
+{
+    name_of(Tag(tag))
+}
+
 /// Tells the name of a tag, whose number this is.
-fn tell_tag_name(out: &mut WordLines, number: u64) {
-    if let Some((name, _)) = name_of(Tag((number % 0x100_0000) as u32)) {
+fn tell_tag_name(out: &mut WordLines, number: u64)
+    ensures { Tells out.old out.new (spec.tag_words number) }
+{
+    if let Some((name, _)) = tag_name((number % 0x100_0000) as u32) {
         out.text(b" ");
         out.text(name);
     }
 }
 
+/// Tells the word of a kind of cryptogram.
+fn tell_kind(out: &mut WordLines, number: u64)
+    ensures { Tells out.old out.new (spec.kind_words number) }
+{
+    if let Some(word) = word_of(&CRYPTOGRAMS, (number % 256 / 64 * 64) as u32) {
+        out.text(b" ");
+        out.text(word);
+    }
+}
+
+/// Whether a cause names a tag.
+fn names_tag(cause: &[u8]) -> bool
+    ensures { result ≡ spec.names_tag cause.now }
+{
+    cause == b"repeated".as_slice()
+        || cause == b"missing".as_slice()
+        || cause == b"value".as_slice()
+        || cause == b"dol".as_slice()
+}
+
 /// Tells what a cause names in words: a status, a kind, or a tag.
-fn tell_detail_words(out: &mut WordLines, step: &[u8], cause: &[u8], number: u64) {
-    match cause {
-        b"status" => {
-            out.text(b" ");
-            tell_status(out, instruction_of(step), (number % 65536) as u16);
-        }
-        b"kind" => {
-            if let Some(word) = word_of(&CRYPTOGRAMS, (number % 256 / 64 * 64) as u32) {
-                out.text(b" ");
-                out.text(word);
-            }
-        }
-        b"repeated" | b"missing" | b"value" | b"dol" => tell_tag_name(out, number),
-        _ => {}
+fn tell_detail_words(out: &mut WordLines, step: &[u8], cause: &[u8], number: u64)
+    ensures { Tells out.old out.new (spec.detail_words step.now cause.now (Some number)) }
+{
+    if cause == b"status".as_slice() {
+        out.text(b" ");
+        tell_status(out, instruction_of(step), (number % 65536) as u16);
+    } else if cause == b"kind".as_slice() {
+        tell_kind(out, number);
+    } else if names_tag(cause) {
+        tell_tag_name(out, number);
+    }
+}
+
+/// Tells what a cause's number names, where it has one.
+fn tell_named(out: &mut WordLines, step: &[u8], cause: &[u8], number: Option<u64>)
+    ensures { Tells out.old out.new (spec.detail_words step.now cause.now number) }
+{
+    if let Some(number) = number {
+        tell_detail_words(out, step, cause, number);
     }
 }
 
 /// Tells what a cause names.
-fn tell_detail(out: &mut WordLines, step: &[u8], cause: &[u8], detail: &[u8]) {
+fn tell_detail(out: &mut WordLines, step: &[u8], cause: &[u8], detail: &[u8])
+    ensures { Tells out.old out.new (spec.in_brackets step.now cause.now detail.now) }
+{
+    if detail.is_empty() {
+        return;
+    }
     out.text(b" (");
     out.text(detail);
-    if let Some(number) = hex_number(detail) {
-        tell_detail_words(out, step, cause, number);
-    }
+    tell_named(out, step, cause, hex_number(detail));
     out.text(b")");
 }
 
-/// Tells that the terminal ended it, in a step and for a cause.
-fn tell_terminated(out: &mut WordLines, step: &[u8], cause: &[u8], detail: &[u8]) {
-    out.line(1);
-    out.text(b"the terminal ended it at ");
-    tell_step(out, step);
-    out.text(b": ");
-    match word_of_text(&CAUSES, cause) {
+/// The words of a cause.
+fn cause_word(cause: &[u8]) -> Option<&'static [u8]>
+    ensures { option_map (λ word. word.now) result ≡ spec.cause_word cause.now }
+{
+    word_of_text(&CAUSES, cause)
+}
+
+/// Tells a cause.
+fn tell_cause(out: &mut WordLines, cause: &[u8])
+    ensures { Tells out.old out.new (spec.cause_words cause.now) }
+{
+    match cause_word(cause) {
         Some(word) => out.text(word),
         None => out.text(cause),
     }
-    if !detail.is_empty() {
-        tell_detail(out, step, cause, detail);
-    }
+}
+
+/// Tells that the terminal ended it, in a step and for a cause.
+fn tell_terminated(out: &mut WordLines, step: &[u8], cause: &[u8], detail: &[u8])
+    ensures { Tells out.old out.new (spec.terminated_words step.now cause.now detail.now) }
+{
+    out.line(1);
+    out.text(ENDED_AT);
+    tell_step(out, step);
+    out.text(b": ");
+    tell_cause(out, cause);
+    tell_detail(out, step, cause, detail);
 }
 
 /// Tells an ending that is no decision.
-pub(crate) fn tell_break(out: &mut WordLines, ending: &Ending<'_>) {
+pub(crate) fn tell_break(out: &mut WordLines, ending: &Ending<'_>)
+    ensures { Tells out.old out.new (spec.break_words (seen_ending ending.now)) }
+{
     match ending {
         Ending::Cut(step) => {
             out.line(1);
-            out.text(b"the card was pulled out: ");
+            out.text(PULLED_OUT);
             tell_step(out, step);
         }
         Ending::Terminated {
@@ -122,52 +226,109 @@ pub(crate) fn tell_break(out: &mut WordLines, ending: &Ending<'_>) {
     }
 }
 
-/// Tells what was asked for last, why, and what was answered.
-fn tell_decision(out: &mut WordLines, lane: &LaneState, asked: Kind) {
-    let Some(reason) = lane.reason else {
-        return;
-    };
-    out.line(1);
-    out.text(b"the terminal asked for ");
-    out.text(kind_name(asked));
-    out.text(b" because ");
-    tell_reason(out, reason, lane.second, lane.code.unwrap_or(*b"--"));
-    if let Some(answered) = lane.answered {
-        out.text(b"; the card answered ");
+/// Tells what the card answered.
+fn tell_answered(out: &mut WordLines, answered: Option<Kind>)
+    ensures { Tells out.old out.new (spec.answered_words answered) }
+{
+    if let Some(answered) = answered {
+        out.text(CARD_ANSWERED);
         out.text(kind_name(answered));
     }
 }
 
+/// Tells what was asked for last, why, and what was answered.
+fn tell_decision(out: &mut WordLines, lane: &LaneState, asked: Kind, reason: Reason)
+    ensures { Tells out.old out.new (spec.decided_words asked reason lane.now) }
+{
+    out.line(1);
+    out.text(ASKED_FOR);
+    out.text(kind_name(asked));
+    out.text(b" because ");
+    tell_reason(out, reason, lane.second, lane.code.unwrap_or(*b"--"));
+    tell_answered(out, lane.answered);
+}
+
 /// Tells how a payment ended.
-fn tell_ending(out: &mut WordLines, lane: &LaneState, ending: &Ending<'_>) {
+fn tell_ending(out: &mut WordLines, lane: &LaneState, ending: &Ending<'_>)
+    ensures { Tells out.old out.new (spec.ending_words lane.now (seen_ending ending.now)) }
+{
     match ending {
         Ending::Approved | Ending::Declined => {
             if let Some(asked) = lane.asked {
-                tell_decision(out, lane, asked);
+                if let Some(reason) = lane.reason {
+                    tell_decision(out, lane, asked, reason);
+                }
             }
         }
         other => tell_break(out, other),
     }
 }
 
-/// Tells the words of what was performed, commas between, or `no bit`.
-fn tell_performed(out: &mut WordLines, status: u64) {
+/// Tells what was performed by its place among 16 bits, where it is set, behind a comma where others were told
+/// before; whether any was told.
+fn tell_performed_bit(out: &mut WordLines, status: u64, place: u8, told: bool) -> bool
+    requires { place < 16 }
+    ensures words { Tells out.old out.new
+        (if has_bit 16 status place then (if told then piece.text (codes ", ") else []) ++ spec.performed_word place else []) }
+    ensures told { result ≡ (told || has_bit 16 status place) }
+{
+    if (status >> (15 - place)) % 2 == 0 {
+        return told;
+    }
+    tell_comma(out, told);
+    tell_performed_word(out, place);
+    true
+}
+
+/// Tells a comma, where some were told before.
+fn tell_comma(out: &mut WordLines, told: bool)
+    ensures { Tells out.old out.new (if told then piece.text (codes ", ") else []) }
+{
+    if told {
+        out.text(b", ");
+    }
+}
+
+/// Tells what was performed by its place among 16 bits.
+fn tell_performed_word(out: &mut WordLines, place: u8)
+    requires { place < 16 }
+    ensures { Tells out.old out.new (spec.performed_word place) }
+{
+    let bit = u32::from(place / 8) * 10 + 18 - u32::from(place % 8);
+    match word_of(&STATUS_BITS, bit) {
+        Some(word) => out.text(word),
+        None => out.number(u64::from(bit)),
+    }
+}
+
+/// Tells the words of what was performed, commas between.
+fn tell_performed_bits(out: &mut WordLines, status: u64)
+    ensures { Tells out.old out.new (spec.performed_bits status) }
+{
     let mut told = false;
     for place in 0..16u8 {
-        if status >> (15 - place) & 1 == 1 {
-            let code = u32::from(place / 8) * 10 + 18 - u32::from(place % 8);
-            if told {
-                out.text(b", ");
-            }
-            told = true;
-            match word_of(&STATUS_BITS, code) {
-                Some(word) => out.text(word),
-                None => out.number(u64::from(code)),
-            }
-        }
+        told = tell_performed_bit(out, status, place, told);
     }
-    if !told {
+}
+
+/// Tells the words of what was performed, or `no bit`.
+fn tell_performed(out: &mut WordLines, status: u64)
+    ensures { Tells out.old out.new (spec.performed_words status) }
+{
+    if status % 65536 == 0 {
         out.text(b"no bit");
+    } else {
+        tell_performed_bits(out, status);
+    }
+}
+
+/// Tells whether cardholder verification was successful.
+fn tell_outcome(out: &mut WordLines, outcome: u8)
+    ensures { Tells out.old out.new (spec.outcome_words outcome) }
+{
+    if let Some(word) = word_of(&OUTCOMES, u32::from(outcome)) {
+        out.text(b": ");
+        out.text(word);
     }
 }
 
@@ -179,18 +340,34 @@ fn tell_verification(out: &mut WordLines, cvm: u64) {
     if cvm == 0 {
         out.text(b"not reached");
     } else if method == 0x3f {
-        out.text(b"no rule was performed");
+        out.text(NO_RULE);
     } else {
         tell_rule(out, method, (cvm / 256 % 256) as u8);
-        if let Some(word) = word_of(&OUTCOMES, (cvm % 256) as u32) {
-            out.text(b": ");
-            out.text(word);
-        }
+        tell_outcome(out, (cvm % 256) as u8);
+    }
+}
+
+/// The words of a response code.
+fn response_word(code: u32) -> Option<&'static [u8]>
+    ensures { option_map (λ word. word.now) result ≡ spec.response_word code }
+{
+    word_of(&RESPONSES, code)
+}
+
+/// Tells the words of a response code.
+fn tell_code_words(out: &mut WordLines, code: u32)
+    ensures { Tells out.old out.new (spec.response_words code) }
+{
+    match response_word(code) {
+        Some(word) => out.text(word),
+        None => out.text(b"not known"),
     }
 }
 
 /// Tells the response code.
-fn tell_code(out: &mut WordLines, arc: &[u8]) {
+fn tell_code(out: &mut WordLines, arc: &[u8])
+    ensures { Tells out.old out.new (spec.code_words arc.now) }
+{
     if arc == b"--".as_slice() {
         return;
     }
@@ -199,30 +376,44 @@ fn tell_code(out: &mut WordLines, arc: &[u8]) {
         out.text(b"code ");
         out.text(arc);
         out.text(b": ");
-        match word_of(&RESPONSES, u32::from(*first) * 256 + u32::from(*second)) {
-            Some(word) => out.text(word),
-            None => out.text(b"not known"),
-        }
+        tell_code_words(out, u32::from(*first) * 256 + u32::from(*second));
+    }
+}
+
+/// Tells that a command failed.
+fn tell_failed(out: &mut WordLines, command: u64)
+    ensures { Tells out.old out.new (spec.failed_words command) }
+{
+    out.text(b": command ");
+    out.number(command);
+    if command == 15 {
+        out.text(b" or later failed");
+    } else {
+        out.text(b" failed");
     }
 }
 
 /// Tells the result of a script: five bytes as one number (EMV 4.3 Book 4 Annex A5).
-fn tell_script(out: &mut WordLines, bytes: u64) {
+fn tell_script(out: &mut WordLines, bytes: u64)
+    ensures { Tells out.old out.new (spec.script_words bytes) }
+{
     out.line(1);
     out.text(b"script ");
     out.hex(&((bytes % 0x1_0000_0000) as u32).to_be_bytes());
     let first = bytes / 0x1_0000_0000 % 256;
-    match first / 16 {
-        2 => out.text(b": all commands were carried out"),
-        1 => {
-            out.text(b": command ");
-            out.number(first % 16);
-            if first % 16 == 15 {
-                out.text(b" or later");
-            }
-            out.text(b" failed");
-        }
-        _ => out.text(b": not of the form of a script, or the card was gone"),
+    if first / 16 == 2 {
+        out.text(ALL_CARRIED_OUT);
+    } else if first / 16 == 1 {
+        tell_failed(out, first % 16);
+    } else {
+        out.text(NO_SCRIPT);
+    }
+}
+
+/// Tells the result of a script where these digits are one.
+fn tell_script_in(out: &mut WordLines, digits: &[u8]) {
+    if let Some(result) = hex_number(digits) {
+        tell_script(out, result);
     }
 }
 
@@ -230,9 +421,7 @@ fn tell_script(out: &mut WordLines, bytes: u64) {
 fn tell_scripts(out: &mut WordLines, scripts: &[u8]) {
     let mut left = scripts;
     while let Some((one, rest)) = left.split_at_checked(10) {
-        if let Some(result) = hex_number(one) {
-            tell_script(out, result);
-        }
+        tell_script_in(out, one);
         left = rest;
     }
 }
@@ -246,18 +435,54 @@ fn is_untouched(fields: &EndFields<'_>) -> bool {
         && fields.scripts == b"-".as_slice()
 }
 
-/// Tells the bits of an end line.
-fn tell_end_bits(out: &mut WordLines, fields: &EndFields<'_>) {
-    if let Some(results) = hex_number(fields.tvr) {
+/// Tells the terminal verification results.
+fn tell_tvr(out: &mut WordLines, results: Option<u64>)
+    ensures { Tells out.old out.new (spec.tvr_words results) }
+{
+    if let Some(results) = results {
         out.line(1);
         out.text(b"TVR ");
         tell_results(out, results);
     }
-    if let Some(status) = hex_number(fields.tsi) {
+}
+
+/// Tells the transaction status information.
+fn tell_tsi(out: &mut WordLines, status: Option<u64>)
+    ensures { Tells out.old out.new (spec.tsi_words status) }
+{
+    if let Some(status) = status {
         out.line(1);
         out.text(b"TSI ");
         tell_performed(out, status);
     }
+}
+
+/// Tells the bits of an end line.
+fn tell_end_bits(out: &mut WordLines, fields: &EndFields<'_>, brief: bool)
+    ensures { Tells out.old out.new (spec.end_bits (seen_fields fields.now) brief) }
+{
+    if !brief {
+        tell_tvr(out, hex_number(fields.tvr));
+        tell_tsi(out, hex_number(fields.tsi));
+    }
+}
+
+/// Tells the result of cardholder verification, where there is one.
+fn tell_cvm(out: &mut WordLines, cvm: Option<u64>) {
+    if let Some(cvm) = cvm {
+        tell_verification(out, cvm);
+    }
+}
+
+/// Tells the fields of an end line.
+fn tell_end_fields(out: &mut WordLines, fields: &EndFields<'_>, brief: bool) {
+    if is_untouched(fields) {
+        return;
+    }
+    tell_end_bits(out, fields, brief);
+    tell_cvm(out, hex_number(fields.cvm));
+    tell_code(out, fields.arc);
+    tell_scripts(out, fields.scripts);
 }
 
 /// Tells an end line.
@@ -269,15 +494,5 @@ pub(crate) fn tell_end(
     brief: bool,
 ) {
     tell_ending(out, lane, ending);
-    if is_untouched(fields) {
-        return;
-    }
-    if !brief {
-        tell_end_bits(out, fields);
-    }
-    if let Some(cvm) = hex_number(fields.cvm) {
-        tell_verification(out, cvm);
-    }
-    tell_code(out, fields.arc);
-    tell_scripts(out, fields.scripts);
+    tell_end_fields(out, fields, brief);
 }

@@ -1,17 +1,27 @@
 //! The teller of a report's lines.
-ghost use Rattle.std.specs.Prelude.{◌≡◌, OnOk, IfOk};
+ghost use Rattle.std.specs.Prelude.{◌≡◌, ◌<◌, [], replicate, slice_get, OnOk, IfOk, option_map, unwrap_or};
+ghost use Rattle.exchange_words.specs.Lanes.{fresh, begun};
+ghost use Rattle.narrator.specs.State as state;
+ghost use Rattle.narrator.specs.State.{seen_state};
+ghost use Rattle.narrator.specs.Shown.{shows_all};
+ghost use Rattle.narrator.specs.Words as spec;
+ghost use Rattle.narrator.specs.Words.{TellsSaid, Narrates};
+ghost use Rattle.report_lines.specs.Bytes.{bytes_told};
+ghost use Rattle.report_lines.specs.Reading.{seen_line, seen_what};
 ghost use Rattle.word_lines.specs.Lines.{AreWordLines};
+ghost use Rattle.word_lines.specs.Pieces.{Tells};
 
 use crate::cards::CardSeen;
 use crate::ending::tell_end;
 use crate::filter::Filter;
+use crate::phrases::{CARD_GONE, NO_REPLY, POWER_CANNED, POWER_TORN, PURCHASE_LOST};
 use crate::power::tell_power;
 use crate::report::tell_of_report;
 use exchange_words::{
     LaneState, Settled, Terminal, learn_reply, row_for, settled_by, tell_answer, tell_call,
     tell_command, tell_reply, tell_torn,
 };
-use report_lines::{ReportLine, What, Whose, bytes_of, read_line};
+use report_lines::{EndFields, Ending, ReportLine, What, Whose, bytes_of, read_line};
 use std::alloc::{AllocError, Global};
 use std::mem;
 use word_lines::WordLines;
@@ -29,44 +39,39 @@ pub struct Narrator {
     cards: Vec<CardSeen>,
 }
 
-/// The bytes that a line has, in hexadecimal.
-fn hexadecimal<'a>(what: &What<'a>) -> Option<&'a [u8]> {
+/// The phrase of a line of a lane or of the audit that tells enough by itself.
+fn phrase_of(what: &What<'_>) -> Option<&'static [u8]>
+    ensures { option_map (λ phrase. phrase.now) result ≡ spec.phrase_of (seen_what what.now) }
+{
     match what {
-        What::Sent(bytes) | What::Given(bytes) => Some(bytes),
-        What::ToHost(bytes) | What::FromHost(bytes) => Some(bytes),
+        What::PowerTorn(_) => Some(POWER_TORN),
+        What::PowerCanned(_) => Some(POWER_CANNED),
+        What::Gone => Some(CARD_GONE),
+        What::NoReply => Some(NO_REPLY),
+        What::Lost(_) => Some(PURCHASE_LOST),
         _ => None,
     }
 }
 
-/// Tells a line of a lane that has no bytes.
-fn tell_event(out: &mut WordLines, lane: &mut LaneState, what: &What<'_>, brief: bool) {
-    match what {
-        What::Torn => tell_torn(out, lane.command.as_slice()),
-        What::Gone => {
-            out.line(1);
-            out.text(b"the card has no answer left: for the terminal it is gone");
-        }
-        What::NoReply => {
-            out.line(1);
-            out.text(b"no reply: request or reply was lost");
-        }
-        What::End {
-            number,
-            ending,
-            fields,
-        } => {
-            tell_end(out, lane, ending, fields, brief);
-            lane.last_end = *number;
-        }
-        What::Lost(number) => {
-            out.line(1);
-            out.text(
-                b"the terminal lost power while it wrote to its own memory: whether the purchase is kept shows at its settlement",
-            );
-            lane.last_end = *number;
-        }
-        _ => {}
+/// Tells a line of a lane or of the audit that tells enough by itself.
+fn tell_alone(out: &mut WordLines, what: &What<'_>)
+    ensures { Tells out.old out.new (unwrap_or (spec.of_talk (seen_what what.now)) []) }
+{
+    if let Some(phrase) = phrase_of(what) {
+        out.line(1);
+        out.text(phrase);
     }
+}
+
+/// The lanes before the first line, and the audit's card behind them.
+fn fresh_lanes(alloc: Global) -> Result<Vec<LaneState>, AllocError>
+    ensures { IfOk result (λ lanes. lanes.items ≡ replicate 17 fresh) }
+{
+    let mut lanes = Vec::with_capacity(alloc, 17)?;
+    for place in 0..17u8 {
+        lanes.push(LaneState::new())?;
+    }
+    Ok(lanes)
 }
 
 impl Narrator {
@@ -75,11 +80,11 @@ impl Narrator {
         alloc: Global,
         filter: Filter,
         terminals: Vec<Terminal>,
-    ) -> Result<Narrator, AllocError> {
-        let mut lanes = Vec::with_capacity(alloc, 17)?;
-        for _ in 0..=AUDIT {
-            lanes.push(LaneState::new())?;
-        }
+    ) -> Result<Narrator, AllocError>
+        ensures state { IfOk result (λ n. seen_state n ≡ state.start) }
+        ensures filter { IfOk result (λ n. n.filter ≡ filter) }
+    {
+        let lanes = fresh_lanes(alloc)?;
         Ok(Narrator {
             alloc,
             filter,
@@ -101,86 +106,237 @@ impl Narrator {
         self.filter.shows(line, last_end)
     }
 
-    /// Tells a command, an answer, or a message of a lane or of the audit.
-    fn tell_bytes(&mut self, place: u8, what: &What<'_>, bytes: &[u8], out: &mut WordLines) {
+    /// Tells a command.
+    fn tell_sent(&mut self, place: u8, bytes: &[u8], out: &mut WordLines)
+        ensures state { state.Turns (state.HasAsked bytes.now) (seen_state self.old) place (seen_state self.new) }
+        ensures filter { self.new.filter ≡ self.old.filter }
+    {
         let brief = self.filter.brief;
-        let Some(lane) = self.lanes.get_mut(usize::from(place)) else {
-            return;
-        };
-        match what {
-            What::Sent(_) => {
+        match self.lanes.get_mut(usize::from(place)) {
+            Some(lane) => {
                 let row = row_for(&self.terminals, place, lane.name.as_slice());
                 tell_command(out, lane, bytes, row, brief);
             }
-            What::Given(_) => {
+            None => {}
+        }
+    }
+
+    /// Tells an answer.
+    fn tell_given(&mut self, place: u8, bytes: &[u8], out: &mut WordLines)
+        ensures state { state.Turns state.HasAnswered (seen_state self.old) place (seen_state self.new) }
+        ensures filter { self.new.filter ≡ self.old.filter }
+    {
+        let brief = self.filter.brief;
+        match self.lanes.get_mut(usize::from(place)) {
+            Some(lane) => {
                 let command = mem::take(&mut lane.command);
                 tell_answer(out, lane, command.as_slice(), bytes, brief);
             }
-            What::ToHost(_) => tell_call(out, lane, bytes, brief),
-            What::FromHost(_) => {
+            None => {}
+        }
+    }
+
+    /// Tells a reply of the issuer.
+    fn tell_from_host(&mut self, place: u8, bytes: &[u8], out: &mut WordLines)
+        ensures state { state.Turns state.HasReplied (seen_state self.old) place (seen_state self.new) }
+        ensures filter { self.new.filter ≡ self.old.filter }
+    {
+        let brief = self.filter.brief;
+        match self.lanes.get_mut(usize::from(place)) {
+            Some(lane) => {
                 learn_reply(lane, bytes);
                 tell_reply(out, Settled::Nothing, bytes, brief);
             }
+            None => {}
+        }
+    }
+
+    /// Tells a message to the issuer.
+    fn tell_to_host(&self, place: u8, bytes: &[u8], out: &mut WordLines) {
+        if let Some(lane) = self.lanes.get(usize::from(place)) {
+            tell_call(out, lane, bytes, self.filter.brief);
+        }
+    }
+
+    /// Tells a command, an answer, or a message of a lane or of the audit.
+    fn tell_bytes(&mut self, place: u8, what: &What<'_>, bytes: &[u8], out: &mut WordLines)
+        ensures state { state.TurnsTo (seen_what what.now) bytes.now (seen_state self.old) place (seen_state self.new) }
+        ensures filter { self.new.filter ≡ self.old.filter }
+    {
+        match what {
+            What::Sent(_) => self.tell_sent(place, bytes, out),
+            What::Given(_) => self.tell_given(place, bytes, out),
+            What::ToHost(_) => self.tell_to_host(place, bytes, out),
+            What::FromHost(_) => self.tell_from_host(place, bytes, out),
             _ => {}
         }
     }
 
-    /// Tells a line of the talk with a card or with the issuer.
+    /// Tells a command, an answer or a message of a lane or of the audit, which stands in hexadecimal.
     fn tell_exchange(
         &mut self,
         place: u8,
         what: &What<'_>,
+        text: &[u8],
         out: &mut WordLines,
-    ) -> Result<(), AllocError> {
-        match hexadecimal(what) {
-            Some(text) => {
-                if let Some(bytes) = bytes_of(self.alloc, text)? {
-                    self.tell_bytes(place, what, bytes.as_slice(), out);
-                }
-            }
-            None => {
-                let brief = self.filter.brief;
-                if let Some(lane) = self.lanes.get_mut(usize::from(place)) {
-                    tell_event(out, lane, what, brief);
-                }
-            }
+    ) -> Result<(), AllocError>
+        ensures words { OnOk result (TellsSaid (spec.of_bytes (bytes_told text.now)) out.old out.new) }
+        ensures state { OnOk result (state.TurnsBy (seen_what what.now) (bytes_told text.now) (seen_state self.old) place (seen_state self.new)) }
+        ensures filter { self.new.filter ≡ self.old.filter }
+    {
+        match bytes_of(self.alloc, text)? {
+            Some(bytes) => self.tell_bytes(place, what, bytes.as_slice(), out),
+            None => {}
         }
         Ok(())
     }
 
+    /// Tells that the power was cut, from what the lane's lines before it left.
+    fn tell_torn_at(&self, place: u8, out: &mut WordLines)
+        ensures { Tells out.old out.new (spec.torn_at (slice_get self.now.lanes.items place)) }
+    {
+        if let Some(lane) = self.lanes.get(usize::from(place)) {
+            tell_torn(out, lane.command.as_slice());
+        }
+    }
+
+    /// Tells that a purchase ended, from what the lane's lines before it left.
+    fn tell_end_at(
+        &self,
+        place: u8,
+        ending: &Ending<'_>,
+        fields: &EndFields<'_>,
+        out: &mut WordLines,
+    ) {
+        if let Some(lane) = self.lanes.get(usize::from(place)) {
+            tell_end(out, lane, ending, fields, self.filter.brief);
+        }
+    }
+
+    /// Keeps the number of the purchase that ended.
+    fn keep_end(&mut self, place: u8, number: u64)
+        ensures state { seen_state self.new ≡ state.changed (state.ended number) (seen_state self.old) place }
+        ensures filter { self.new.filter ≡ self.old.filter }
+    {
+        match self.lanes.get_mut(usize::from(place)) {
+            Some(lane) => {
+                lane.last_end = number;
+            }
+            None => {}
+        }
+    }
+
     /// Forgets what the lane's last card gave.
-    fn begin(&mut self, place: u8) {
-        if let Some(lane) = self.lanes.get_mut(usize::from(place)) {
-            lane.begin();
+    fn begin(&mut self, place: u8)
+        ensures state { seen_state self.new ≡ state.changed begun (seen_state self.old) place }
+        ensures filter { self.new.filter ≡ self.old.filter }
+    {
+        match self.lanes.get_mut(usize::from(place)) {
+            Some(lane) => {
+                lane.begin();
+            }
+            None => {}
+        }
+    }
+
+    /// Keeps what a line that tells enough by itself leaves: a card that is powered up leaves nothing of the
+    /// last one, and a lost purchase its number.
+    fn keep(&mut self, place: u8, what: &What<'_>)
+        ensures state { state.Kept (seen_what what.now) (seen_state self.old) place (seen_state self.new) }
+        ensures filter { self.new.filter ≡ self.old.filter }
+    {
+        match what {
+            What::PowerTorn(_) | What::PowerCanned(_) => self.begin(place),
+            What::Lost(number) => self.keep_end(place, *number),
+            _ => {}
         }
     }
 
     /// Tells a line of a lane or of the audit.
-    fn tell_at(
-        &mut self,
-        place: u8,
-        what: &What<'_>,
-        out: &mut WordLines,
-    ) -> Result<(), AllocError> {
+    fn tell_at(&mut self, place: u8, what: &What<'_>, out: &mut WordLines) -> Result<(), AllocError>
+        ensures words { OnOk result (TellsSaid (spec.at_lane (seen_state self.old) place (seen_what what.now)) out.old out.new) }
+        ensures state { OnOk result (state.LeavesAt (seen_what what.now) (seen_state self.old) place (seen_state self.new)) }
+        ensures filter { self.new.filter ≡ self.old.filter }
+    {
         match what {
             What::Power { card, apps } => {
                 self.begin(place);
                 tell_power(out, &mut self.cards, card, apps)
             }
-            What::PowerTorn(_) => {
-                self.begin(place);
-                out.line(1);
-                out.text(b"the card was pulled out while it was powered up");
+            What::Sent(text) => self.tell_exchange(place, what, text, out),
+            What::Given(text) => self.tell_exchange(place, what, text, out),
+            What::ToHost(text) => self.tell_exchange(place, what, text, out),
+            What::FromHost(text) => self.tell_exchange(place, what, text, out),
+            What::Torn => {
+                self.tell_torn_at(place, out);
                 Ok(())
             }
-            What::PowerCanned(_) => {
-                self.begin(place);
-                out.line(1);
-                out.text(b"a card of canned answers: it has no counters");
+            What::End {
+                number,
+                ending,
+                fields,
+            } => {
+                self.tell_end_at(place, ending, fields, out);
+                self.keep_end(place, *number);
                 Ok(())
             }
-            other => self.tell_exchange(place, other, out),
+            other => {
+                self.keep(place, other);
+                tell_alone(out, other);
+                Ok(())
+            }
         }
+    }
+
+    /// Tells a message of the settlement.
+    fn settle(&mut self, place: u8, bytes: &[u8], out: &mut WordLines)
+        ensures state { state.Turns state.HasSettled (seen_state self.old) place (seen_state self.new) }
+        ensures filter { self.new.filter ≡ self.old.filter }
+    {
+        let brief = self.filter.brief;
+        match self.lanes.get_mut(usize::from(place)) {
+            Some(lane) => {
+                lane.settled = settled_by(bytes);
+                tell_call(out, lane, bytes, brief);
+            }
+            None => {}
+        }
+    }
+
+    /// Tells a reply in the settlement.
+    fn tell_settled(&self, place: u8, bytes: &[u8], out: &mut WordLines) {
+        if let Some(lane) = self.lanes.get(usize::from(place)) {
+            tell_reply(out, lane.settled, bytes, self.filter.brief);
+        }
+    }
+
+    /// Tells a message of the settlement, which stands in hexadecimal.
+    fn settle_text(&mut self, place: u8, text: &[u8], out: &mut WordLines) -> Result<(), AllocError>
+        ensures words { OnOk result (TellsSaid (spec.of_bytes (bytes_told text.now)) out.old out.new) }
+        ensures state { OnOk result (state.SettlesBy (bytes_told text.now) (seen_state self.old) place (seen_state self.new)) }
+        ensures filter { self.new.filter ≡ self.old.filter }
+    {
+        match bytes_of(self.alloc, text)? {
+            Some(bytes) => self.settle(place, bytes.as_slice(), out),
+            None => {}
+        }
+        Ok(())
+    }
+
+    /// Tells a reply in the settlement, which stands in hexadecimal.
+    fn tell_settled_text(
+        &self,
+        place: u8,
+        text: &[u8],
+        out: &mut WordLines,
+    ) -> Result<(), AllocError>
+        ensures { OnOk result (TellsSaid (spec.of_bytes (bytes_told text.now)) out.old out.new) }
+    {
+        match bytes_of(self.alloc, text)? {
+            Some(bytes) => self.tell_settled(place, bytes.as_slice(), out),
+            None => {}
+        }
+        Ok(())
     }
 
     /// Tells a line of the settlement.
@@ -189,29 +345,24 @@ impl Narrator {
         place: u8,
         what: &What<'_>,
         out: &mut WordLines,
-    ) -> Result<(), AllocError> {
-        let Some(text) = hexadecimal(what) else {
-            return Ok(());
-        };
-        let Some(bytes) = bytes_of(self.alloc, text)? else {
-            return Ok(());
-        };
-        let brief = self.filter.brief;
-        let Some(lane) = self.lanes.get_mut(usize::from(place)) else {
-            return Ok(());
-        };
+    ) -> Result<(), AllocError>
+        ensures words { OnOk result (TellsSaid (spec.of_settlement (seen_what what.now)) out.old out.new) }
+        ensures state { OnOk result (state.LeavesSettled (seen_what what.now) (seen_state self.old) place (seen_state self.new)) }
+        ensures filter { self.new.filter ≡ self.old.filter }
+    {
         match what {
-            What::Sent(_) => {
-                lane.settled = settled_by(bytes.as_slice());
-                tell_call(out, lane, bytes.as_slice(), brief);
-            }
-            _ => tell_reply(out, lane.settled, bytes.as_slice(), brief),
+            What::Sent(text) => self.settle_text(place, text, out),
+            What::Given(text) => self.tell_settled_text(place, text, out),
+            _ => Ok(()),
         }
-        Ok(())
     }
 
     /// Tells a line, and keeps what it leaves for the lines behind it.
-    fn tell_line(&mut self, line: &ReportLine<'_>, out: &mut WordLines) -> Result<(), AllocError> {
+    fn tell_line(&mut self, line: &ReportLine<'_>, out: &mut WordLines) -> Result<(), AllocError>
+        ensures words { OnOk result (TellsSaid (spec.said self.old.filter.brief (seen_state self.old) (seen_line line.now)) out.old out.new) }
+        ensures state { OnOk result (state.Leaves (seen_line line.now) (seen_state self.old) (seen_state self.new)) }
+        ensures filter { self.new.filter ≡ self.old.filter }
+    {
         match line.whose {
             Whose::Lane(lane) => self.tell_at(lane, &line.what, out),
             Whose::Settlement(lane) => self.tell_settlement(lane, &line.what, out),
@@ -221,26 +372,33 @@ impl Narrator {
     }
 
     /// Whether every line is left by the filter.
-    pub fn shows_all(&self) -> bool {
+    pub fn shows_all(&self) -> bool
+        ensures { result ≡ shows_all self.now.filter }
+    {
         self.filter.shows_all()
     }
 
     /// Puts the words of a line, which stands without its newline, in place of what `out` held, and keeps
     /// what the line leaves for the lines behind it. Whether the filter leaves the line. An error says that
     /// there was no memory.
+    #[tactic(auto, unfolding(crate::specs::Words::Narrates))]
     pub fn tell(&mut self, text: &[u8], out: &mut WordLines) -> Result<bool, AllocError>
         ensures lines { OnOk result (AreWordLines out.new.bytes) }
+        ensures told { OnOk result (Narrates self.old.filter.brief text.now (seen_state self.old) out.new.bytes (seen_state self.new)) }
+        ensures filter { self.new.filter ≡ self.old.filter }
     {
         out.clear();
-        let shown = match read_line(text) {
+        match read_line(text) {
             Some(line) => {
                 let shown = self.shows(&line);
                 self.tell_line(&line, out)?;
-                shown
+                out.finish()?;
+                Ok(shown)
             }
-            None => self.filter.shows_all(),
-        };
-        out.finish()?;
-        Ok(shown)
+            None => {
+                out.finish()?;
+                Ok(self.filter.shows_all())
+            }
+        }
     }
 }

@@ -1,5 +1,14 @@
 //! Lines of no lane and no card in words.
+ghost use Rattle.std.specs.Prelude.{◌≡◌, OnOk, option_map};
+ghost use Rattle.narrator.specs.Words as spec;
+ghost use Rattle.narrator.specs.Words.{TellsSaid};
+ghost use Rattle.narrator.specs.Endings as endings;
+ghost use Rattle.report_lines.specs.Bytes.{bytes_told};
+ghost use Rattle.report_lines.specs.Reading.{seen_what};
+ghost use Rattle.word_lines.specs.Pieces.{Tells};
+
 use crate::ending::{hex_number, tell_break};
+use crate::phrases::{OR_MISSING, TRACE_DIFFERS};
 use ber_tlv::Tag;
 use explain_words::{REFUSALS, word_of};
 use object_words::{Object, Style, tell_object};
@@ -13,7 +22,9 @@ fn tell_given_object(
     alloc: Global,
     tag: &[u8],
     value: &[u8],
-) -> Result<(), AllocError> {
+) -> Result<(), AllocError>
+    ensures { OnOk result (TellsSaid (spec.of_object (endings.hex_number tag.now) (bytes_told value.now)) out.old out.new) }
+{
     let Some(number) = hex_number(tag) else {
         return Ok(());
     };
@@ -27,13 +38,42 @@ fn tell_given_object(
     Ok(())
 }
 
+/// The words of a fault of a scenario, by its number.
+fn refusal_word(fault: u32) -> Option<&'static [u8]>
+    ensures { option_map (λ word. word.now) result ≡ spec.refusal_word fault }
+{
+    word_of(&REFUSALS, fault)
+}
+
+/// Tells the fault of a refused scenario.
+fn tell_refusal(out: &mut WordLines, fault: u64)
+    ensures { Tells out.old out.new (spec.refusal_words fault) }
+{
+    if let Some(word) = refusal_word((fault % 65536) as u32) {
+        out.line(1);
+        out.text(word);
+    }
+}
+
+/// Tells from which entry on a trace is another one.
+fn tell_differs(out: &mut WordLines, entry: u64)
+    ensures { Tells out.old out.new (spec.differs_words entry) }
+{
+    out.line(1);
+    out.text(TRACE_DIFFERS);
+    out.number(entry);
+    out.text(OR_MISSING);
+}
+
 /// Tells a line of no lane and no card.
 pub(crate) fn tell_of_report(
     out: &mut WordLines,
     alloc: Global,
     what: &What<'_>,
     brief: bool,
-) -> Result<(), AllocError> {
+) -> Result<(), AllocError>
+    ensures { OnOk result (TellsSaid (spec.of_report brief (seen_what what.now)) out.old out.new) }
+{
     match what {
         What::Object { tag, value } => {
             if brief {
@@ -46,17 +86,11 @@ pub(crate) fn tell_of_report(
             Ok(())
         }
         What::Refused(number) => {
-            if let Some(word) = word_of(&REFUSALS, (*number % 65536) as u32) {
-                out.line(1);
-                out.text(word);
-            }
+            tell_refusal(out, *number);
             Ok(())
         }
         What::Differs(number) => {
-            out.line(1);
-            out.text(b"the trace is the terminal's up to entry ");
-            out.number(*number);
-            out.text(b", counted from 0, which is another or missing");
+            tell_differs(out, *number);
             Ok(())
         }
         _ => Ok(()),

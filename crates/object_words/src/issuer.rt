@@ -1,11 +1,29 @@
 //! Values that the issuer gives or reads.
+ghost use Rattle.std.specs.Prelude.{◌≡◌, is_some, option_map};
+ghost use Rattle.object_words.specs.Issuer as spec;
+ghost use Rattle.object_words.specs.Plain.{or_nothing};
+ghost use Rattle.word_lines.specs.Pieces.{Tells};
+
 use crate::bits::tell_bit_words;
+use crate::phrases::{
+    APPLICATION_BLOCKED, AUTHENTICATION_FAILED, OFFLINE_APPROVALS, REFUSED, RESPONSE_CRYPTOGRAM,
+    STATUS_UPDATE,
+};
 use crate::style::Style;
 use explain_words::{CRYPTOGRAMS, RESPONSES, UPDATE_BITS, word_of};
 use word_lines::WordLines;
 
+/// The response code 00.
+const APPROVED: u32 = 0x3030;
+
+/// The response code 05.
+const NOT_APPROVED: u32 = 0x3035;
+
 /// Tells cryptogram information data: the kind is in the two high bits.
-pub(crate) fn tell_information(out: &mut WordLines, value: &[u8]) -> bool {
+pub(crate) fn tell_information(out: &mut WordLines, value: &[u8]) -> bool
+    ensures words { Tells out.old out.new (or_nothing (spec.information_words value.now)) }
+    ensures told { result ≡ is_some (spec.information_words value.now) }
+{
     match value {
         [byte] => {
             out.hex(value);
@@ -17,10 +35,31 @@ pub(crate) fn tell_information(out: &mut WordLines, value: &[u8]) -> bool {
 }
 
 /// Tells the kind of cryptogram of a byte's two high bits, behind a comma.
-fn tell_kind(out: &mut WordLines, byte: u8) {
+fn tell_kind(out: &mut WordLines, byte: u8)
+    ensures { Tells out.old out.new (spec.kind_words byte) }
+{
     if let Some(word) = word_of(&CRYPTOGRAMS, u32::from(byte / 64 * 64)) {
         out.text(b", ");
         out.text(word);
+    }
+}
+
+/// Tells the kind of issuer application data, behind a comma.
+fn tell_data_kind(out: &mut WordLines, kind: u8) {
+    match kind {
+        0 => out.text(b", AAC"),
+        1 => out.text(b", TC"),
+        2 => out.text(b", ARQC"),
+        _ => out.text(b", no kind"),
+    }
+}
+
+/// Tells a flag that is set.
+fn tell_flag(out: &mut WordLines, holds: bool, text: &[u8])
+    ensures { Tells out.old out.new (spec.flag_words holds text.now) }
+{
+    if holds {
+        out.text(text);
     }
 }
 
@@ -31,41 +70,37 @@ pub(crate) fn tell_issuer_data(out: &mut WordLines, value: &[u8]) -> bool {
         return false;
     };
     out.hex(value);
-    match kind / 64 {
-        0 => out.text(b", AAC"),
-        1 => out.text(b", TC"),
-        2 => out.text(b", ARQC"),
-        _ => out.text(b", no kind"),
-    }
-    out.text(b", offline approvals ");
+    tell_data_kind(out, *kind / 64);
+    out.text(OFFLINE_APPROVALS);
     out.number(u64::from(*count));
     out.text(b", PIN tries ");
     out.number(u64::from(*tries));
-    if *flags % 2 == 1 {
-        out.text(b", application blocked");
-    }
-    if *flags / 2 % 2 == 1 {
-        out.text(b", last issuer authentication failed");
-    }
+    tell_flag(out, *flags % 2 == 1, APPLICATION_BLOCKED);
+    tell_flag(out, *flags / 2 % 2 == 1, AUTHENTICATION_FAILED);
     true
 }
 
-/// Tells what the issuer asks of the card: four bytes (EMV 4.3 Book 3 Annex C8).
-fn tell_update(out: &mut WordLines, update: &[u8]) {
-    out.text(b", card status update ");
-    out.hex(update);
-    out.text(b": ");
-    match update {
-        [first, second, ..] => {
-            if 128 <= *first {
-                out.text(b"approved");
-            } else {
-                out.text(b"not approved");
-            }
-            tell_bit_words(out, &UPDATE_BITS, &[0, *second & 0xf0]);
-        }
-        _ => {}
+/// Tells whether the issuer approves: the highest bit.
+fn tell_approval(out: &mut WordLines, byte: u8)
+    ensures { Tells out.old out.new (spec.approval_words byte) }
+{
+    if 128 <= byte {
+        out.text(b"approved");
+    } else {
+        out.text(b"not approved");
     }
+}
+
+/// Tells what the issuer asks of the card: four bytes (EMV 4.3 Book 3 Annex C8).
+fn tell_update(out: &mut WordLines, update: [u8; 4])
+    ensures { Tells out.old out.new (spec.update_words update) }
+{
+    let [first, second, _, _] = update;
+    out.text(STATUS_UPDATE);
+    out.hex(&update);
+    out.text(b": ");
+    tell_approval(out, first);
+    tell_bit_words(out, &UPDATE_BITS, &[0, second & 0xf0]);
 }
 
 /// Tells issuer authentication data: a response cryptogram of eight bytes and a code, or one of four bytes
@@ -74,30 +109,39 @@ pub(crate) fn tell_authentication(out: &mut WordLines, value: &[u8]) -> bool {
     let Some((front, rest)) = value.split_at_checked(8) else {
         return false;
     };
-    out.text(b"response cryptogram ");
-    match rest {
-        [first, second] => {
-            out.hex(front);
-            out.text(b", code ");
-            out.text(&[*first, *second]);
-        }
-        _ => {
-            let Some((cryptogram, update)) = front.split_at_checked(4) else {
-                return false;
-            };
-            out.hex(cryptogram);
-            tell_update(out, update);
-        }
+    out.text(RESPONSE_CRYPTOGRAM);
+    if rest.len() == 2 {
+        out.hex(front);
+        out.text(b", code ");
+        out.text(rest);
+        return true;
+    }
+    let [a, b, c, d, update @ ..] = front else {
+        return false;
+    };
+    out.hex(&[*a, *b, *c, *d]);
+    if let [a, b, c, d, ..] = update {
+        tell_update(out, [*a, *b, *c, *d]);
     }
     true
 }
 
+/// Whether a byte is a character of a response code.
+fn is_code_character(byte: u8) -> bool
+    ensures { result ≡ spec.is_code_character byte }
+{
+    33 <= byte && byte <= 126
+}
+
 /// Tells a response code of two characters and its words.
-pub(crate) fn tell_response(out: &mut WordLines, value: &[u8], style: &Style) -> bool {
+pub(crate) fn tell_response(out: &mut WordLines, value: &[u8], style: &Style) -> bool
+    ensures words { Tells out.old out.new (or_nothing (spec.response_code_words value.now (option_map (λ words. words.now) style.now.answer))) }
+    ensures told { result ≡ is_some (spec.response_code_words value.now (option_map (λ words. words.now) style.now.answer)) }
+{
     let [first, second] = value else {
         return false;
     };
-    if *first < 33 || 126 < *first || *second < 33 || 126 < *second {
+    if !is_code_character(*first) || !is_code_character(*second) {
         return false;
     }
     out.text(value);
@@ -110,19 +154,32 @@ pub(crate) fn tell_response(out: &mut WordLines, value: &[u8], style: &Style) ->
     true
 }
 
+/// The word of a response code.
+fn response_word(code: u32) -> Option<&'static [u8]>
+    ensures { option_map (λ word. word.now) result ≡ spec.response_word code }
+{
+    word_of(&RESPONSES, code)
+}
+
 /// Tells the words of a response code.
-pub(crate) fn tell_response_words(out: &mut WordLines, code: u32) {
-    match word_of(&RESPONSES, code) {
+fn tell_response_words(out: &mut WordLines, code: u32)
+    ensures { Tells out.old out.new (spec.response_words code) }
+{
+    match response_word(code) {
         Some(word) => out.text(word),
         None => out.text(b"not known"),
     }
 }
 
 /// Tells what became of a message of the settlement.
-fn tell_answer(out: &mut WordLines, code: u32, words: &[u8]) {
-    match code {
-        0x3030 => out.text(words),
-        0x3035 => out.text(b"refused: nothing moves"),
-        _ => tell_response_words(out, code),
+fn tell_answer(out: &mut WordLines, code: u32, words: &[u8])
+    ensures { Tells out.old out.new (spec.answer_words code words.now) }
+{
+    if code == APPROVED {
+        out.text(words);
+    } else if code == NOT_APPROVED {
+        out.text(REFUSED);
+    } else {
+        tell_response_words(out, code);
     }
 }

@@ -1,5 +1,5 @@
 //! Data objects in words: the fields of object lists, values by their form, objects within objects.
-#![tactic(auto)]
+#![tactic(auto, using(word_lines::proofs::Telling::telling))]
 
 pub mod bits;
 pub mod command;
@@ -7,6 +7,7 @@ pub mod fields;
 pub mod issuer;
 pub mod lists;
 pub mod object;
+pub mod phrases;
 pub mod plain;
 pub mod results;
 pub mod style;

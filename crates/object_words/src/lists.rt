@@ -1,25 +1,53 @@
 //! Values that are lists: rules, groups of records, entries.
+ghost use Rattle.std.specs.Prelude.{◌≡◌, option_map};
+ghost use Rattle.object_words.specs.Rules as rule;
+ghost use Rattle.word_lines.specs.Pieces.{Tells};
+
 use crate::fields::next_entry;
+use crate::phrases::{UNKNOWN_CONDITION, UNKNOWN_METHOD};
 use crate::plain::number_in;
 use ber_tlv::tag_bytes;
 use explain_words::{CONDITIONS, METHODS, OUTCOMES, word_of};
 use word_lines::WordLines;
 
-/// Tells a method of cardholder verification, and when it is used (EMV 4.3 Book 3 Annex C3).
-pub fn tell_rule(out: &mut WordLines, method: u8, condition: u8) {
+/// Tells the method of the low six bits.
+fn tell_method(out: &mut WordLines, method: u8)
+    ensures { Tells out.old out.new (rule.method_words method) }
+{
     match word_of(&METHODS, u32::from(method % 64)) {
         Some(word) => out.text(word),
-        None => out.text(b"unrecognised method"),
+        None => out.text(UNKNOWN_METHOD),
     }
-    out.text(b", ");
-    match word_of(&CONDITIONS, u32::from(condition)) {
+}
+
+/// The word of a condition of cardholder verification.
+fn condition_word(condition: u32) -> Option<&'static [u8]>
+    ensures { option_map (λ word. word.now) result ≡ rule.condition_word condition }
+{
+    word_of(&CONDITIONS, condition)
+}
+
+/// Tells when a method is used.
+fn tell_condition(out: &mut WordLines, condition: u8)
+    ensures { Tells out.old out.new (rule.condition_words condition) }
+{
+    match condition_word(u32::from(condition)) {
         Some(word) => out.text(word),
         None => {
-            out.text(b"never (condition ");
+            out.text(UNKNOWN_CONDITION);
             out.hex(&[condition]);
             out.text(b")");
         }
     }
+}
+
+/// Tells a method of cardholder verification, and when it is used (EMV 4.3 Book 3 Annex C3).
+pub fn tell_rule(out: &mut WordLines, method: u8, condition: u8)
+    ensures { Tells out.old out.new (rule.rule_words method condition) }
+{
+    tell_method(out, method);
+    out.text(b", ");
+    tell_condition(out, condition);
 }
 
 /// Tells the rules behind the two amounts, each in a line at this level.

@@ -1,10 +1,19 @@
 //! Values that are numbers, digits or characters. Each teller says whether it told the value: a value of
 //! another length or content is left as it is.
+ghost use Rattle.std.specs.Prelude.{◌≡◌, is_some};
+ghost use Rattle.std.specs.List.{list_all};
+ghost use Rattle.object_words.specs.Plain as spec;
+ghost use Rattle.object_words.specs.Plain.{or_nothing};
+ghost use Rattle.word_lines.specs.Pieces.{Tells};
+
+use crate::phrases::CONFIRM;
 use emv_dict::{Date, amount_of, has_digits};
 use word_lines::WordLines;
 
 /// The number of these bytes, the first one the highest; the greatest one where they are more than eight.
-pub fn number_in(value: &[u8]) -> u64 {
+pub fn number_in(value: &[u8]) -> u64
+    ensures { result ≡ spec.number_in value.now }
+{
     let mut number: u64 = 0;
     for byte in value {
         number = number.saturating_mul(256).saturating_add(u64::from(*byte));
@@ -13,7 +22,9 @@ pub fn number_in(value: &[u8]) -> u64 {
 }
 
 /// Tells bytes in hexadecimal, or `-` where there are none.
-pub fn tell_hex(out: &mut WordLines, value: &[u8]) {
+pub fn tell_hex(out: &mut WordLines, value: &[u8])
+    ensures { Tells out.old out.new (spec.hex_words value.now) }
+{
     if value.is_empty() {
         out.text(b"-");
     } else {
@@ -22,13 +33,25 @@ pub fn tell_hex(out: &mut WordLines, value: &[u8]) {
 }
 
 /// Whether each byte has two decimal digits.
-pub(crate) fn all_digits(value: &[u8]) -> bool {
+pub(crate) fn all_digits(value: &[u8]) -> bool
+    ensures { result ≡ spec.all_digits value.now }
+{
     value.iter().all(|byte| has_digits(*byte))
 }
 
+/// Whether each byte is a printable character.
+fn are_printable(value: &[u8]) -> bool
+    ensures { result ≡ list_all spec.is_printable value.now }
+{
+    value.iter().all(|byte| 32 <= *byte && *byte <= 126)
+}
+
 /// Tells printable characters.
-pub(crate) fn tell_text(out: &mut WordLines, value: &[u8]) -> bool {
-    if value.is_empty() || !value.iter().all(|byte| 32 <= *byte && *byte <= 126) {
+pub(crate) fn tell_text(out: &mut WordLines, value: &[u8]) -> bool
+    ensures words { Tells out.old out.new (or_nothing (spec.text_words value.now)) }
+    ensures told { result ≡ is_some (spec.text_words value.now) }
+{
+    if value.is_empty() || !are_printable(value) {
         return false;
     }
     out.text(value);
@@ -98,7 +121,10 @@ pub fn tell_digits(out: &mut WordLines, value: &[u8]) -> bool {
 }
 
 /// Tells a number of one to four bytes.
-pub(crate) fn tell_number(out: &mut WordLines, value: &[u8]) -> bool {
+pub(crate) fn tell_number(out: &mut WordLines, value: &[u8]) -> bool
+    ensures words { Tells out.old out.new (or_nothing (spec.number_words value.now)) }
+    ensures told { result ≡ is_some (spec.number_words value.now) }
+{
     if value.is_empty() || value.len() > 4 {
         return false;
     }
@@ -107,7 +133,10 @@ pub(crate) fn tell_number(out: &mut WordLines, value: &[u8]) -> bool {
 }
 
 /// Tells an amount of twelve digits.
-pub(crate) fn tell_amount(out: &mut WordLines, value: &[u8]) -> bool {
+pub(crate) fn tell_amount(out: &mut WordLines, value: &[u8]) -> bool
+    ensures words { Tells out.old out.new (or_nothing (spec.amount_words value.now)) }
+    ensures told { result ≡ is_some (spec.amount_words value.now) }
+{
     if !all_digits(value) {
         return false;
     }
@@ -121,7 +150,10 @@ pub(crate) fn tell_amount(out: &mut WordLines, value: &[u8]) -> bool {
 }
 
 /// Tells the three digits of a country or a currency.
-pub(crate) fn tell_code(out: &mut WordLines, value: &[u8]) -> bool {
+pub(crate) fn tell_code(out: &mut WordLines, value: &[u8]) -> bool
+    ensures words { Tells out.old out.new (or_nothing (spec.code_words value.now)) }
+    ensures told { result ≡ is_some (spec.code_words value.now) }
+{
     if !all_digits(value) {
         return false;
     }
@@ -136,7 +168,10 @@ pub(crate) fn tell_code(out: &mut WordLines, value: &[u8]) -> bool {
 }
 
 /// Tells year, month and day.
-pub(crate) fn tell_date(out: &mut WordLines, value: &[u8]) -> bool {
+pub(crate) fn tell_date(out: &mut WordLines, value: &[u8]) -> bool
+    ensures words { Tells out.old out.new (or_nothing (spec.date_words value.now)) }
+    ensures told { result ≡ is_some (spec.date_words value.now) }
+{
     match value {
         [year, month, day] => match Date::read([*year, *month, *day]) {
             Some(date) => {
@@ -154,7 +189,10 @@ pub(crate) fn tell_date(out: &mut WordLines, value: &[u8]) -> bool {
 }
 
 /// Tells hour, minute and second.
-pub(crate) fn tell_time(out: &mut WordLines, value: &[u8]) -> bool {
+pub(crate) fn tell_time(out: &mut WordLines, value: &[u8]) -> bool
+    ensures words { Tells out.old out.new (or_nothing (spec.time_words value.now)) }
+    ensures told { result ≡ is_some (spec.time_words value.now) }
+{
     if !all_digits(value) {
         return false;
     }
@@ -171,33 +209,60 @@ pub(crate) fn tell_time(out: &mut WordLines, value: &[u8]) -> bool {
     }
 }
 
+/// Tells a file and how many records it has at most.
+fn tell_log(out: &mut WordLines, file: u8, records: u8)
+    ensures { Tells out.old out.new (spec.log_words file records) }
+{
+    out.text(b"file ");
+    out.number(u64::from(file));
+    out.text(b", at most ");
+    out.number(u64::from(records));
+    out.text(b" records");
+}
+
 /// Tells the file of a log and how many records it has.
-pub(crate) fn tell_log_entry(out: &mut WordLines, value: &[u8]) -> bool {
+pub(crate) fn tell_log_entry(out: &mut WordLines, value: &[u8]) -> bool
+    ensures words { Tells out.old out.new (or_nothing (spec.log_entry_words value.now)) }
+    ensures told { result ≡ is_some (spec.log_entry_words value.now) }
+{
     match value {
         [file, records] => {
-            out.text(b"file ");
-            out.number(u64::from(*file));
-            out.text(b", at most ");
-            out.number(u64::from(*records));
-            out.text(b" records");
+            tell_log(out, *file, *records);
             true
         }
         _ => false,
     }
 }
 
+/// Tells a rank, 0 for none.
+fn tell_rank(out: &mut WordLines, rank: u8)
+    ensures { Tells out.old out.new (spec.rank_words rank) }
+{
+    if rank == 0 {
+        out.text(b"none");
+    } else {
+        out.number(u64::from(rank));
+    }
+}
+
+/// Tells whether the cardholder must confirm: the highest bit.
+fn tell_confirm(out: &mut WordLines, byte: u8)
+    ensures { Tells out.old out.new (spec.confirm_words byte) }
+{
+    if 128 <= byte {
+        out.text(CONFIRM);
+    }
+}
+
 /// Tells the rank of an application: the low half byte, 0 for none, and whether the cardholder is asked.
-pub(crate) fn tell_priority(out: &mut WordLines, value: &[u8]) -> bool {
+pub(crate) fn tell_priority(out: &mut WordLines, value: &[u8]) -> bool
+    ensures words { Tells out.old out.new (or_nothing (spec.priority_words value.now)) }
+    ensures told { result ≡ is_some (spec.priority_words value.now) }
+{
     match value {
         [byte] => {
-            if *byte % 16 == 0 {
-                out.text(b"none");
-            } else {
-                out.number(u64::from(*byte % 16));
-            }
-            if 128 <= *byte {
-                out.text(b", the cardholder must confirm");
-            }
+            tell_rank(out, *byte % 16);
+            tell_confirm(out, *byte);
             true
         }
         _ => false,

@@ -1,11 +1,21 @@
 //! Terminal verification results bit by bit, and the action codes that have each bit.
+ghost use Rattle.std.specs.Prelude.{◌≡◌, ◌<◌, ◌||◌, ◌++◌, [], if◌then◌else◌, codes, option_map};
+ghost use Rattle.object_words.specs.Results as spec;
+ghost use Rattle.word_lines.specs.Bits.{has_bit as is_set};
+ghost use Rattle.word_lines.specs.Pieces as piece;
+ghost use Rattle.word_lines.specs.Pieces.{Tells};
+
+use crate::phrases::IN_NO_CARD_CODE;
 use crate::style::KnownCodes;
-use action_words::Row;
+use action_words::{Row, has_bit};
 use explain_words::{RESULT_BITS, word_of};
 use word_lines::WordLines;
 
 /// Tells one code that has the bit, where it has it; whether any code was told.
-fn tell_holder(out: &mut WordLines, told: bool, holds: bool, name: &[u8]) -> bool {
+fn tell_holder(out: &mut WordLines, told: bool, holds: bool, name: &[u8]) -> bool
+    ensures words { Tells out.old out.new (spec.holder_words told holds name.now) }
+    ensures told { result ≡ (told || holds) }
+{
     if !holds {
         return told;
     }
@@ -18,23 +28,35 @@ fn tell_holder(out: &mut WordLines, told: bool, holds: bool, name: &[u8]) -> boo
     true
 }
 
-/// Tells the terminal's codes that have the bit; whether any code was told.
-fn tell_row(out: &mut WordLines, told: bool, mask: u64, row: Row) -> bool {
-    let told = tell_holder(out, told, row.denial & mask != 0, b"terminal denial");
-    let told = tell_holder(out, told, row.online & mask != 0, b"terminal online");
-    tell_holder(out, told, row.default & mask != 0, b"terminal default")
+/// Tells the terminal's codes that have the bit, or that no code has it.
+fn tell_row(out: &mut WordLines, told: bool, place: u8, row: Row)
+    requires { place < 40 }
+    ensures { Tells out.old out.new (spec.row_words told row place) }
+{
+    let denial = has_bit(row.denial, place);
+    let online = has_bit(row.online, place);
+    let default = has_bit(row.default, place);
+    let told = tell_holder(out, told, denial, b"terminal denial");
+    let told = tell_holder(out, told, online, b"terminal online");
+    if !tell_holder(out, told, default, b"terminal default") {
+        out.text(b"in no code");
+    }
 }
 
 /// Tells a code of the card that has the bit, or that is absent; whether any code was told.
 fn tell_card_code(
     out: &mut WordLines,
     told: bool,
-    mask: u64,
+    place: u8,
     code: Option<u64>,
     name: &[u8],
-) -> bool {
+) -> bool
+    requires { place < 40 }
+    ensures words { Tells out.old out.new (spec.card_words told code place name.now) }
+    ensures told { result ≡ (told || spec.card_holds code place) }
+{
     match code {
-        Some(bits) => tell_holder(out, told, bits & mask != 0, name),
+        Some(bits) => tell_holder(out, told, has_bit(bits, place), name),
         None => {
             let told = tell_holder(out, told, true, name);
             out.text(b" absent");
@@ -43,38 +65,86 @@ fn tell_card_code(
     }
 }
 
-/// Tells which codes have the bit.
-fn tell_holders(out: &mut WordLines, mask: u64, codes: &KnownCodes) {
-    out.text(b": ");
-    let denies = codes.card.denial.unwrap_or(0) & mask != 0;
-    let told = tell_holder(out, false, denies, b"denial 9F0E");
-    let told = tell_card_code(out, told, mask, codes.card.online, b"online 9F0F");
-    let told = tell_card_code(out, told, mask, codes.card.default, b"default 9F0D");
-    match codes.row {
-        Some(row) => {
-            if !tell_row(out, told, mask, row) {
-                out.text(b"in no code");
-            }
-        }
+/// Whether the card's denial code has the bit; one that it does not give has none.
+fn denies(code: Option<u64>, place: u8) -> bool
+    requires { place < 40 }
+    ensures { result ≡ spec.denies code place }
+{
+    match code {
+        Some(bits) => has_bit(bits, place),
+        None => false,
+    }
+}
+
+/// Tells the terminal's codes where they are known, or that no code of the card has the bit.
+fn tell_row_or_none(out: &mut WordLines, told: bool, place: u8, row: Option<Row>)
+    requires { place < 40 }
+    ensures { Tells out.old out.new (spec.row_or_none told row place) }
+{
+    match row {
+        Some(row) => tell_row(out, told, place, row),
         None => {
             if !told {
-                out.text(b"in no code of the card");
+                out.text(IN_NO_CARD_CODE);
             }
         }
     }
 }
 
+/// Tells which codes have the bit.
+fn tell_holders(out: &mut WordLines, place: u8, codes: &KnownCodes)
+    requires { place < 40 }
+    ensures { Tells out.old out.new (spec.holders_words place codes.now) }
+{
+    out.text(b": ");
+    let told = denies(codes.card.denial, place);
+    let told = tell_holder(out, false, told, b"denial 9F0E");
+    let told = tell_card_code(out, told, place, codes.card.online, b"online 9F0F");
+    let told = tell_card_code(out, told, place, codes.card.default, b"default 9F0D");
+    tell_row_or_none(out, told, place, codes.row);
+}
+
+/// The words of a bit by its number, BYTE times ten plus BIT.
+fn result_word(bit: u32) -> Option<&'static [u8]>
+    ensures { option_map (λ word. word.now) result ≡ spec.result_word bit }
+{
+    word_of(&RESULT_BITS, bit)
+}
+
 /// Tells a bit by its place among 40, from 0 at the left: byte and bit, and its words.
-pub(crate) fn tell_result_bit(out: &mut WordLines, place: u8) {
-    let byte = place / 8;
-    let bit = 8 - place % 8;
-    out.number(u64::from(byte).saturating_add(1));
+pub(crate) fn tell_result_bit(out: &mut WordLines, place: u8)
+    requires { place < 40 }
+    ensures { Tells out.old out.new (spec.result_bit_words place) }
+{
+    out.number(u64::from(place / 8 + 1));
     out.text(b".");
-    out.number(u64::from(bit));
-    let code = u32::from(byte) * 10 + 10 + u32::from(bit);
-    if let Some(word) = word_of(&RESULT_BITS, code) {
+    out.number(u64::from(8 - place % 8));
+    let bit = u32::from(place / 8) * 10 + 10 + u32::from(8 - place % 8);
+    if let Some(word) = result_word(bit) {
         out.text(b" ");
         out.text(word);
+    }
+}
+
+/// Tells a bit that is set in a line of its own at this level, with the codes that have it where they are
+/// known.
+fn tell_result_line(
+    out: &mut WordLines,
+    results: u64,
+    place: u8,
+    level: u8,
+    codes: Option<&KnownCodes>,
+)
+    requires { place < 40 }
+    ensures { Tells out.old out.new (if is_set 40 results place then spec.result_line level (spec.held codes.entry) place else []) }
+{
+    if !has_bit(results, place) {
+        return;
+    }
+    out.line(level);
+    tell_result_bit(out, place);
+    if let Some(codes) = codes {
+        tell_holders(out, place, codes);
     }
 }
 
@@ -85,33 +155,59 @@ pub(crate) fn tell_result_lines(
     results: u64,
     level: u8,
     codes: Option<&KnownCodes>,
-) {
+)
+    ensures { Tells out.old out.new (spec.result_lines results level (spec.held codes.entry)) }
+{
     for place in 0..40u8 {
-        let mask = 1u64 << (39 - place);
-        if results & mask != 0 {
-            out.line(level);
-            tell_result_bit(out, place);
-            if let Some(codes) = codes {
-                tell_holders(out, mask, codes);
-            }
-        }
+        tell_result_line(out, results, place, level, codes);
     }
 }
 
-/// Tells each bit that is set of 40, the first byte the highest, with its words, semicolons between, or
-/// `no bit`.
-pub fn tell_results(out: &mut WordLines, results: u64) {
+/// Tells a semicolon, where some bits were told before.
+fn tell_semicolon(out: &mut WordLines, told: bool)
+    ensures { Tells out.old out.new (if told then piece.text (codes "; ") else []) }
+{
+    if told {
+        out.text(b"; ");
+    }
+}
+
+/// Tells a bit where it is set, behind a semicolon where others were told before; whether any was told.
+fn tell_next_result(out: &mut WordLines, results: u64, place: u8, told: bool) -> bool
+    requires { place < 40 }
+    ensures words { Tells out.old out.new
+        (if is_set 40 results place then (if told then piece.text (codes "; ") else []) ++ spec.result_bit_words place else []) }
+    ensures told { result ≡ (told || is_set 40 results place) }
+{
+    if !has_bit(results, place) {
+        return told;
+    }
+    tell_semicolon(out, told);
+    tell_result_bit(out, place);
+    true
+}
+
+/// Tells each bit that is set of 40, with semicolons between.
+fn tell_result_bits(out: &mut WordLines, results: u64)
+    ensures { Tells out.old out.new (spec.result_bits results) }
+{
     let mut told = false;
     for place in 0..40u8 {
-        if results & (1u64 << (39 - place)) != 0 {
-            if told {
-                out.text(b"; ");
-            }
-            told = true;
-            tell_result_bit(out, place);
-        }
+        told = tell_next_result(out, results, place, told);
     }
-    if !told {
+}
+
+/// Every bit of terminal verification results, and one more.
+const PAST_RESULTS: u64 = 0x100_0000_0000;
+
+/// Tells each bit that is set of 40, the first byte the highest, with its words, semicolons between, or
+/// `no bit`.
+pub fn tell_results(out: &mut WordLines, results: u64)
+    ensures { Tells out.old out.new (spec.results_words results) }
+{
+    if results % PAST_RESULTS == 0 {
         out.text(b"no bit");
+    } else {
+        tell_result_bits(out, results);
     }
 }

@@ -305,6 +305,7 @@ fn settings(alloc: Global) -> Settings {
         ],
         exceptions: Vec::new(alloc),
         aids: Vec::new(alloc),
+        pse: false,
     }
 }
 

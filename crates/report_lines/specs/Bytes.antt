@@ -1,5 +1,6 @@
 -- The bytes that a text of a report writes.
-use Rattle.std.specs.Prelude.{ℕ, if◌then◌else◌, List, [], codes, Result, Ok}
+use Rattle.std.specs.Prelude.{ℕ, ◌==◌, Bool, not, ◌||◌, nat_lt, if◌then◌else◌, List, [], length, codes, Option, Some, None, Result, Ok, Err}
+use Rattle.std.specs.List.{list_all}
 use Rattle.std.specs.Str.{bytes_eq}
 use Rattle.hex.specs.Hex.{decode_of}
 use Rattle.hex.specs.declared.error.FromHexError.{FromHexError}
@@ -7,3 +8,18 @@ use Rattle.hex.specs.declared.error.FromHexError.{FromHexError}
 -- `-` for none, else two hexadecimal digits a byte
 unfoldable pub bytes_in : List ℕ → Result (List ℕ) FromHexError
 bytes_in text = (if bytes_eq text (codes "-") then Ok [] else decode_of text)
+
+-- no letter from A to F
+abbrev pub is_lower : List ℕ → Bool
+is_lower text = list_all (λ byte. nat_lt byte 65 || nat_lt 70 byte) text
+
+abbrev pub decoded : Result (List ℕ) FromHexError → Option (List ℕ)
+decoded (Ok bytes) = Some bytes
+decoded (Err fault) = None
+
+-- the same in lower-case letters, where it writes bytes at all
+unfoldable pub bytes_told : List ℕ → Option (List ℕ)
+bytes_told text =
+    if bytes_eq text (codes "-") then Some []
+    else if length text == 0 || not (is_lower text) then None
+    else decoded (decode_of text)

@@ -1,22 +1,34 @@
 //! The pieces of a line.
-ghost use Rattle.std.specs.Prelude.{◌+◌, ◌<◌, ◌≤◌, length, IfSome};
+ghost use Rattle.std.specs.Prelude.{◌≡◌, ◌+◌, ◌<◌, ◌≤◌, ◌==◌, length, position, IfSome};
+ghost use Rattle.std.specs.List.{list_all};
+ghost use Rattle.report_lines.specs.Pieces as spec;
+
+/// The place of the first byte of this value.
+fn place_of(text: &[u8], mark: u8) -> Option<usize>
+    ensures place { result ≡ position (λ byte. byte == mark) text.now }
+    ensures within { IfSome result (λ place. place < length text.now) }
+{
+    text.iter().position(|byte| *byte == mark)
+}
 
 /// What stands before the first byte of this value, and what stands behind it; all and nothing where there
 /// is none.
-pub(crate) fn split_at_byte(text: &[u8], mark: u8) -> (&[u8], &[u8])
+fn split_at_byte(text: &[u8], mark: u8) -> (&[u8], &[u8])
+    ensures before { result.0.now ≡ (spec.split_at mark text.now).0 }
+    ensures behind { result.1.now ≡ (spec.split_at mark text.now).1 }
     ensures within { length result.0.now + length result.1.now ≤ length text.now }
     ensures nearer { 0 < length text.now → length result.1.now < length text.now }
 {
-    for (place, byte) in text.iter().enumerate() {
-        if *byte == mark {
-            return (&text[..place], &text[place + 1..]);
-        }
+    match place_of(text, mark) {
+        Some(place) => (&text[..place], &text[place + 1..]),
+        None => (text, &[]),
     }
-    (text, &[])
 }
 
 /// The first word, up to a blank, and what stands behind the blank.
 pub fn split_word(text: &[u8]) -> (&[u8], &[u8])
+    ensures before { result.0.now ≡ (spec.split_word text.now).0 }
+    ensures behind { result.1.now ≡ (spec.split_word text.now).1 }
     ensures within { length result.0.now + length result.1.now ≤ length text.now }
     ensures nearer { 0 < length text.now → length result.1.now < length text.now }
 {
@@ -25,26 +37,47 @@ pub fn split_word(text: &[u8]) -> (&[u8], &[u8])
 
 /// What stands before the first comma, and what stands behind it.
 pub fn split_at_comma(text: &[u8]) -> (&[u8], &[u8])
-    ensures { length result.0.now + length result.1.now ≤ length text.now }
+    ensures before { result.0.now ≡ (spec.split_comma text.now).0 }
+    ensures behind { result.1.now ≡ (spec.split_comma text.now).1 }
+    ensures within { length result.0.now + length result.1.now ≤ length text.now }
 {
     split_at_byte(text, b',')
 }
 
-/// The number that a text of 1 to 18 decimal digits writes.
-pub fn number_of(text: &[u8]) -> Option<u64>
-    ensures { IfSome result (λ n. length text.now ≤ 18) }
+/// Whether a byte is a decimal digit.
+fn is_digit(byte: u8) -> bool
+    ensures { result ≡ spec.is_digit byte }
 {
-    if text.is_empty() || text.len() > 18 {
-        return None;
-    }
+    b'0' <= byte && byte <= b'9'
+}
+
+/// The number of these decimal digits.
+fn digits_number(digits: &[u8]) -> u64
+    ensures { result ≡ spec.digits_number digits.now }
+{
     let mut number: u64 = 0;
-    for byte in text {
-        if *byte < b'0' || *byte > b'9' {
-            return None;
-        }
+    for digit in digits {
         number = number
             .saturating_mul(10)
-            .saturating_add(u64::from(*byte - b'0'));
+            .saturating_add(u64::from(digit.saturating_sub(b'0')));
     }
-    Some(number)
+    number
+}
+
+/// Whether each byte is a decimal digit.
+fn are_digits(text: &[u8]) -> bool
+    ensures { result ≡ list_all spec.is_digit text.now }
+{
+    text.iter().all(|byte| is_digit(*byte))
+}
+
+/// The number that a text of 1 to 18 decimal digits writes.
+#[tactic(auto, unfolding(crate::specs::Pieces::number_of))]
+pub fn number_of(text: &[u8]) -> Option<u64>
+    ensures { result ≡ spec.number_of text.now }
+{
+    if text.is_empty() || text.len() > 18 || !are_digits(text) {
+        return None;
+    }
+    Some(digits_number(text))
 }

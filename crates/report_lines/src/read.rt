@@ -1,14 +1,17 @@
 //! The reader of a line.
-ghost use Rattle.std.specs.Prelude.{◌<◌, IfSome};
+ghost use Rattle.std.specs.Prelude.{◌≡◌, ◌<◌, ◌==◌, ◌&&◌, not, nat_le, length, option_map, IfSome};
 ghost use Rattle.report_lines.specs.Lanes.{HasLane};
+ghost use Rattle.report_lines.specs.Reading as spec;
 
 use crate::ending::{read_ending, read_fields};
 use crate::line::{ReportLine, What, Whose};
 use crate::pieces::{number_of, split_word};
 
 /// A line of a report, without its newline; `None` where it is none. There are lanes 0 to 15.
+#[tactic(auto, unfolding(crate::specs::Reading::line_in))]
 pub fn read_line(text: &[u8]) -> Option<ReportLine<'_>>
-    ensures { IfSome result (λ line. HasLane line.whose) }
+    ensures line { option_map spec.seen_line result ≡ spec.line_in text.now }
+    ensures lane { IfSome result (λ line. HasLane line.whose) }
 {
     let (word, rest) = split_word(text);
     match word {
@@ -30,7 +33,8 @@ pub fn read_line(text: &[u8]) -> Option<ReportLine<'_>>
 
 /// The number of a lane, from 0 to 15.
 fn read_lane(text: &[u8]) -> Option<u8>
-    ensures { IfSome result (λ lane. lane < 16) }
+    ensures lane { result ≡ spec.lane_in text.now }
+    ensures known { IfSome result (λ lane. lane < 16) }
 {
     let number = number_of(text)?;
     if number < 16 {
@@ -41,47 +45,61 @@ fn read_lane(text: &[u8]) -> Option<u8>
 }
 
 /// What a lane's line tells.
-fn read_of_lane(text: &[u8]) -> Option<What<'_>> {
+fn read_of_lane(text: &[u8]) -> Option<What<'_>>
+    ensures { option_map spec.seen_what result ≡ spec.of_lane text.now }
+{
     let (word, rest) = split_word(text);
-    match word {
-        b"power" => {
-            let (card, state) = split_word(rest);
-            read_power(card, state)
-        }
-        b"host" => read_host(rest),
-        b"end" => read_end(rest),
-        _ => read_of_card(text),
+    if word == b"power".as_slice() {
+        let (card, state) = split_word(rest);
+        read_power(card, state)
+    } else if word == b"host".as_slice() {
+        read_host(rest)
+    } else if word == b"end".as_slice() {
+        read_end(rest)
+    } else {
+        read_of_card(text)
     }
 }
 
 /// What a line of the talk with the card tells.
-fn read_of_card(text: &[u8]) -> Option<What<'_>> {
-    match text {
-        b"< torn" => Some(What::Torn),
-        b"< gone" => Some(What::Gone),
-        _ => read_exchange(text),
+fn read_of_card(text: &[u8]) -> Option<What<'_>>
+    ensures { option_map spec.seen_what result ≡ spec.card_in text.now }
+{
+    if text == b"< torn".as_slice() {
+        Some(What::Torn)
+    } else if text == b"< gone".as_slice() {
+        Some(What::Gone)
+    } else {
+        read_exchange(text)
     }
 }
 
-/// Whether a text is a card's name: 1 to 16 lower-case letters and digits.
-fn is_name(text: &[u8]) -> bool {
+/// Whether a text may be a card's name: 1 to 16 bytes.
+fn is_name(text: &[u8]) -> bool
+    ensures { result ≡ (not (length text.now == 0) && nat_le (length text.now) 16) }
+{
     !text.is_empty() && text.len() <= 16
 }
 
 /// What a power line tells.
-fn read_power<'a>(card: &'a [u8], state: &'a [u8]) -> Option<What<'a>> {
+fn read_power<'a>(card: &'a [u8], state: &'a [u8]) -> Option<What<'a>>
+    ensures { option_map spec.seen_what result ≡ spec.power_in card.now state.now }
+{
     if !is_name(card) {
-        return None;
-    }
-    match state {
-        b"torn" => Some(What::PowerTorn(card)),
-        b"canned" => Some(What::PowerCanned(card)),
-        _ => Some(What::Power { card, apps: state }),
+        None
+    } else if state == b"torn".as_slice() {
+        Some(What::PowerTorn(card))
+    } else if state == b"canned".as_slice() {
+        Some(What::PowerCanned(card))
+    } else {
+        Some(What::Power { card, apps: state })
     }
 }
 
 /// What was sent, or what came.
-fn read_exchange(text: &[u8]) -> Option<What<'_>> {
+fn read_exchange(text: &[u8]) -> Option<What<'_>>
+    ensures { option_map spec.seen_what result ≡ spec.exchange_in text.now }
+{
     match text {
         [b'>', b' ', bytes @ ..] => Some(What::Sent(bytes)),
         [b'<', b' ', bytes @ ..] => Some(What::Given(bytes)),
@@ -90,9 +108,13 @@ fn read_exchange(text: &[u8]) -> Option<What<'_>> {
 }
 
 /// What was sent to the issuer, or what came.
-fn read_host(text: &[u8]) -> Option<What<'_>> {
+fn read_host(text: &[u8]) -> Option<What<'_>>
+    ensures { option_map spec.seen_what result ≡ spec.host_in text.now }
+{
+    if text == b"< none".as_slice() {
+        return Some(What::NoReply);
+    }
     match text {
-        b"< none" => Some(What::NoReply),
         [b'>', b' ', bytes @ ..] => Some(What::ToHost(bytes)),
         [b'<', b' ', bytes @ ..] => Some(What::FromHost(bytes)),
         _ => None,
@@ -100,7 +122,9 @@ fn read_host(text: &[u8]) -> Option<What<'_>> {
 }
 
 /// What an end line tells.
-fn read_end(text: &[u8]) -> Option<What<'_>> {
+fn read_end(text: &[u8]) -> Option<What<'_>>
+    ensures { option_map spec.seen_what result ≡ spec.end_in text.now }
+{
     let (word, rest) = split_word(text);
     let number = number_of(word)?;
     if rest == b"lost".as_slice() {
@@ -115,43 +139,60 @@ fn read_end(text: &[u8]) -> Option<What<'_>> {
     })
 }
 
+/// What a line of the audit tells of the card of this name.
+fn read_of_audited<'a>(card: &'a [u8], text: &'a [u8]) -> Option<What<'a>>
+    ensures { option_map spec.seen_what result ≡ spec.of_audit card.now text.now }
+{
+    let (word, state) = split_word(text);
+    if word == b"power".as_slice() {
+        read_power(card, state)
+    } else {
+        read_exchange(text)
+    }
+}
+
 /// A line of the audit.
 fn read_of_audit(text: &[u8]) -> Option<ReportLine<'_>>
-    ensures { IfSome result (λ line. HasLane line.whose) }
+    ensures line { option_map spec.seen_line result ≡ spec.audit_in text.now }
+    ensures lane { IfSome result (λ line. HasLane line.whose) }
 {
     let (card, rest) = split_word(text);
-    let (word, state) = split_word(rest);
-    let what = match word {
-        b"power" => read_power(card, state)?,
-        _ => read_exchange(rest)?,
-    };
     Some(ReportLine {
         whose: Whose::Audit(card),
-        what,
+        what: read_of_audited(card, rest)?,
     })
 }
 
 /// What a line without lane and card tells.
-fn read_of_report<'a>(word: &[u8], rest: &'a [u8]) -> Option<What<'a>> {
-    match word {
-        b"object" => {
-            let (tag, value) = split_word(rest);
-            Some(What::Object { tag, value })
-        }
-        b"read" => Some(What::ReadEnded(read_ending(rest)?.0)),
-        b"refused" => Some(What::Refused(number_of(split_word(rest).0)?)),
-        b"check" => read_check(rest),
-        b"balance" => Some(What::Balance),
-        b"done" => Some(What::Done),
-        _ => None,
+fn read_of_report<'a>(word: &[u8], rest: &'a [u8]) -> Option<What<'a>>
+    ensures { option_map spec.seen_what result ≡ spec.of_report word.now rest.now }
+{
+    if word == b"object".as_slice() {
+        let (tag, value) = split_word(rest);
+        Some(What::Object { tag, value })
+    } else if word == b"read".as_slice() {
+        Some(What::ReadEnded(read_ending(rest)?.0))
+    } else if word == b"refused".as_slice() {
+        Some(What::Refused(number_of(split_word(rest).0)?))
+    } else if word == b"check".as_slice() {
+        read_check(rest)
+    } else if word == b"balance".as_slice() {
+        Some(What::Balance)
+    } else if word == b"done".as_slice() {
+        Some(What::Done)
+    } else {
+        None
     }
 }
 
 /// What became of a trace.
-fn read_check(text: &[u8]) -> Option<What<'_>> {
+fn read_check(text: &[u8]) -> Option<What<'_>>
+    ensures { option_map spec.seen_what result ≡ spec.check_in text.now }
+{
     let (word, rest) = split_word(text);
-    match word {
-        b"differs" => Some(What::Differs(number_of(rest)?)),
-        _ => None,
+    if word == b"differs".as_slice() {
+        Some(What::Differs(number_of(rest)?))
+    } else {
+        None
     }
 }

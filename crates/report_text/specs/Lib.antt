@@ -1,4 +1,3 @@
 pub mod Pieces
 pub mod Words
 pub mod Text
-pub mod CommandLine

@@ -1,5 +1,5 @@
 -- The text of each line of a report.
-use Rattle.std.specs.Prelude.{ℕ, List, ◌++◌, codes, decimal, Option, Some, None}
+use Rattle.std.specs.Prelude.{ℕ, List, [], ◌++◌, codes, decimal, Option, Some, None}
 use Rattle.std.specs.List.{flat_map}
 use Rattle.std.specs.Fmt.{signed_decimal}
 use Rattle.hex.specs.Hex.{encode_lower}
@@ -12,10 +12,15 @@ use Rattle.report_text.specs.declared.line.Line.TheVariants.{Power, PowerCanned,
 use Rattle.report_text.specs.declared.line.Shown.{Shown}
 use Rattle.report_text.specs.declared.line.EndParts.{EndParts}
 
+-- the sum in a second currency behind a comma; nothing where the application has none
+unfoldable pub second_text : Option ℕ → List ℕ
+second_text None = []
+second_text (Some sum) = codes "," ++ decimal sum
+
 -- an application's counters behind a blank
 unfoldable pub shown_text : Shown → List ℕ
 shown_text s = codes " " ++ decimal s.counter ++ codes "," ++ decimal s.last_online ++ codes "," ++ decimal s.count
-    ++ codes "," ++ decimal s.sum ++ codes "," ++ decimal s.tries ++ codes "," ++ decimal s.flags
+    ++ codes "," ++ decimal s.sum ++ codes "," ++ decimal s.tries ++ codes "," ++ decimal s.flags ++ second_text s.sum_two
 
 abbrev pub all_shown : List Shown → List ℕ
 all_shown apps = flat_map shown_text apps

@@ -1,14 +1,11 @@
-//! The report of a run, line by line: the exact bytes of each line, and of the line that a
-//! wrong command line gets in its place.
+//! The report of a run, line by line: the exact bytes of each line.
 #![tactic(auto)]
 
-pub mod command_line;
 pub mod line;
 pub mod pieces;
 pub mod words;
 pub mod write;
 
-pub use command_line::usage;
 pub use line::{EndParts, Line, Shown};
 pub use write::{Text, end_parts, write_line};
 

@@ -17,6 +17,8 @@ pub struct Shown {
     pub tries: u8,
     /// 1 where the application is blocked, plus 2 where issuer authentication failed.
     pub flags: u8,
+    /// The sum of the amounts in a second currency, where the application has one.
+    pub sum_two: Option<u64>,
 }
 
 /// How a payment ended, for its end line.

@@ -27,6 +27,17 @@ fn opened() -> Shown {
         sum: 0,
         tries: 3,
         flags: 0,
+        sum_two: None,
+    }
+}
+
+/// The state of an application with a second currency, behind an offline approval in it.
+fn with_second(sum: u64) -> Shown {
+    Shown {
+        counter: 11,
+        count: 1,
+        sum_two: Some(sum),
+        ..opened()
     }
 }
 
@@ -38,6 +49,7 @@ fn greatest() -> Shown {
         sum: 18446744073709551615,
         tries: 255,
         flags: 255,
+        sum_two: Some(18446744073709551615),
     }
 }
 
@@ -63,6 +75,14 @@ fn power_lines(rt: HostRuntime) {
     for (line, want) in [
         (power(0, b"c1", &[opened()]), "L0 power c1 10,9,0,0,3,0\n"),
         (power(15, b"abcdefghijklmnop", &four), FOUR_APPLICATIONS),
+        (
+            power(0, b"c1", &[with_second(2500)]),
+            "L0 power c1 11,9,1,0,3,0,2500\n",
+        ),
+        (
+            power(0, b"c1", &[with_second(0), opened()]),
+            "L0 power c1 11,9,1,0,3,0,0 10,9,0,0,3,0\n",
+        ),
         (torn, "L0 power c1 torn\n"),
         (canned, "L1 power x canned\n"),
     ] {
@@ -71,7 +91,7 @@ fn power_lines(rt: HostRuntime) {
 }
 
 const FOUR_APPLICATIONS: &str =
-    "L15 power abcdefghijklmnop 10,9,0,0,3,0 65535,65535,255,18446744073709551615,255,255 10,9,0,0,3,0 65535,65535,255,18446744073709551615,255,255\n";
+    "L15 power abcdefghijklmnop 10,9,0,0,3,0 65535,65535,255,18446744073709551615,255,255,18446744073709551615 10,9,0,0,3,0 65535,65535,255,18446744073709551615,255,255,18446744073709551615\n";
 
 fn to_card(lane: u8, bytes: &[u8]) -> Line {
     Line::ToCard {
@@ -317,13 +337,5 @@ fn end_lines(rt: HostRuntime) {
             &ended(10000, cut),
             "L0 end 10000 cut first tvr=123456789a tsi=bcde cvm=000000 arc=-- atc=---- ac=---------------- scripts=12000000011200000001120000000112000000011200000001120000000112000000011200000001\n"
         )
-    );
-}
-
-#[test]
-fn the_line_of_a_wrong_command_line(rt: HostRuntime) {
-    assert_eq!(rt;
-        usage(),
-        b"usage: emvrun read|replay|generate N\n".as_slice()
     );
 }

@@ -6,7 +6,7 @@ ghost use Rattle.hex.specs.Hex.{encode_lower};
 ghost use Rattle.ber_tlv.specs.Written.{tag_bytes};
 ghost use Rattle.report_text.specs.Pieces.{newline, hex_or_dash, digits_text};
 ghost use Rattle.report_text.specs.Words.{ending_text};
-ghost use Rattle.report_text.specs.Text.{line_text, shown_text, all_shown, arc_text, cryptogram_text, scripts_text, parts_text};
+ghost use Rattle.report_text.specs.Text.{line_text, second_text, shown_text, all_shown, arc_text, cryptogram_text, scripts_text, parts_text};
 
 use crate::pieces::{amount, append, digits, hex, hex_or_dash, number, tag, two_bytes};
 use crate::words::ending;
@@ -201,9 +201,9 @@ fn read_ended(out: &mut Text, how: Ending)
 /// The counters of each application.
 fn all_shown(out: &mut Text, apps: &[Shown])
     requires few { length apps.now ≤ 4 }
-    requires room { array_vec_len out.old + 1000 ≤ 8192 }
+    requires room { array_vec_len out.old + 1200 ≤ 8192 }
     ensures text { out.new.items ≡ out.old.items ++ all_shown apps.now }
-    ensures len { array_vec_len out.new ≤ array_vec_len out.old + 1000 }
+    ensures len { array_vec_len out.new ≤ array_vec_len out.old + 1200 }
 {
     for state in apps {
         shown(out, state);
@@ -213,9 +213,9 @@ fn all_shown(out: &mut Text, apps: &[Shown])
 /// An application's counters behind a blank.
 #[tactic(auto, unfolding(crate::specs::Text::shown_text))]
 fn shown(out: &mut Text, state: &Shown)
-    requires { array_vec_len out.old + 250 ≤ 8192 }
+    requires { array_vec_len out.old + 300 ≤ 8192 }
     ensures text { out.new.items ≡ out.old.items ++ shown_text state.now }
-    ensures len { array_vec_len out.new ≤ array_vec_len out.old + 250 }
+    ensures len { array_vec_len out.new ≤ array_vec_len out.old + 300 }
 {
     append(out, b" ");
     number(out, u64::from(state.counter));
@@ -229,6 +229,23 @@ fn shown(out: &mut Text, state: &Shown)
     number(out, u64::from(state.tries));
     append(out, b",");
     number(out, u64::from(state.flags));
+    second_sum(out, state.sum_two);
+}
+
+/// The sum in a second currency behind a comma, of an application that has one.
+#[tactic(auto, unfolding(crate::specs::Text::second_text))]
+fn second_sum(out: &mut Text, sum: Option<u64>)
+    requires { array_vec_len out.old + 41 ≤ 8192 }
+    ensures text { out.new.items ≡ out.old.items ++ second_text sum }
+    ensures len { array_vec_len out.new ≤ array_vec_len out.old + 41 }
+{
+    match sum {
+        None => {}
+        Some(sum) => {
+            append(out, b",");
+            number(out, sum);
+        }
+    }
 }
 
 /// How a payment ended, with its flags and results, behind what is there: at most 1,000 bytes, for which there

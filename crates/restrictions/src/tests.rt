@@ -15,6 +15,7 @@ fn settings(rt: &(impl AllocGlobal + Abort)) -> Settings {
         pin_key: [0; 16],
         exceptions: Vec::new(rt.alloc()),
         aids: Vec::new(rt.alloc()),
+        pse: false,
     }
 }
 

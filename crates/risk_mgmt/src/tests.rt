@@ -20,6 +20,7 @@ fn settings(rt: &(impl AllocGlobal + Abort), kind: u8) -> Settings {
         pin_key: [0; 16],
         exceptions: Vec::new(rt.alloc()),
         aids: Vec::new(rt.alloc()),
+        pse: false,
     }
 }
 

@@ -17,13 +17,10 @@ use Rattle.emv_dict.specs.Pan.{least_pan, most_pan}
 use Rattle.emv_dict.specs.Settings.{most_amount}
 use Rattle.scenario_fields.specs.Fields.{number_at, flag_or, text_at, digits_at, optional_digits, code_at, array_at, table_item, only}
 use Rattle.scenario_fields.specs.Place.{at_top, in_account, in_card, item_path}
-use Rattle.scenario.specs.Accounts.{has_pan, new_pan, scripts_at, account_keys, account_of, account_item, accounts_from}
+use Rattle.scenario.proofs.CardParts.{not_true}
+use Rattle.scenario.specs.Accounts.{has_pan, new_pan, scripts_at, method_at, status_at, account_keys, account_of, account_item, accounts_from}
 use Rattle.scenario.specs.Cards.{CardData, is_named, new_card_name, card_of, card_keys, card_item, cards_from, cards_at, kind_at}
 use Rattle.scenario.specs.Plan.{HasPlainName, HaveOwnPans}
-
-not_true : (b : Bool) → not b ≡ true → b ≡ false
-not_true true is = cc
-not_true false is = refl
 
 differ : (xs ys : List ℕ) → bytes_eq xs ys ≡ false → xs ≢ ys
 differ xs ys other same = cc ((bytes_eq-Decides xs ys).1 same, other)
@@ -49,7 +46,9 @@ account_pan path i earlier ms account is =
     let blocked = then_ok (flag_or false path (codes "blocked") ms) _ account balance.2 in
     let pin = then_ok (optional_digits path (codes "pin") 4 12 ms) _ account blocked.2 in
     let scripts = then_ok (scripts_at path i ms) _ account pin.2 in
-    let known = then_ok (only path account_keys ms) _ account scripts.2 in
+    let arpc = then_ok (method_at path ms) _ account scripts.2 in
+    let status = then_ok (status_at path ms) _ account arpc.2 in
+    let known = then_ok (only path account_keys ms) _ account status.2 in
     let same = ok_is _ account known.2 in
     pan.1 ∙ ap (λ (a : AccountData). Ok a.pan) same
 

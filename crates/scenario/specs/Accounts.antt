@@ -1,17 +1,19 @@
 -- The tables of an account and of its scripts.
-use Rattle.std.specs.Prelude.{ℕ, ◌+◌, List, [], ◌∷◌, ◌++◌, codes, Bool, true, false, not, nat_le, Result, Ok, Err, if◌then◌else◌}
+use Rattle.std.specs.Prelude.{ℕ, ◌+◌, List, [], ◌∷◌, ◌++◌, codes, ◌==◌, Bool, true, false, not, nat_le, Result, Ok, Err, if◌then◌else◌}
 use Rattle.std.specs.List.{list_any}
 use Rattle.std.specs.Str.{bytes_eq}
 use Rattle.emv_dict.specs.Pan.{least_pan, most_pan}
 use Rattle.emv_dict.specs.Settings.{most_amount}
 use Rattle.script_words.specs.MadeLength.{all_made_length}
 use Rattle.issuer_host.specs.Account.{AccountData}
+use Rattle.issuer_host.specs.declared.account.Method.{Method}
+use Rattle.issuer_host.specs.declared.account.Method.TheVariants.{One, Two}
 use Rattle.script_words.specs.Script.{ScriptData}
 use Rattle.script_words.specs.declared.script.Ordered.{Ordered}
 use Rattle.script_words.specs.Order.{order_of}
 use Rattle.toml.specs.Data.{Data, Items, no_items, item, Members}
 use Rattle.scenario_fields.specs.Fault.{◌>>=◌, or_fault, keep_if}
-use Rattle.scenario_fields.specs.Fields.{number_at, flag_or, str_at, digits_at, optional_digits, optional_bytes, code_at, array_at, array_or_none, table_item, each, only}
+use Rattle.scenario_fields.specs.Fields.{number_at, listed_or, flag_or, str_at, digits_at, optional_digits, optional_bytes, code_at, array_at, array_or_none, table_item, each, only}
 use Rattle.scenario_fields.specs.Place.{item_path, in_account, in_scripts}
 use Rattle.scenario_fields.specs.Value.{str_of}
 use Rattle.scenario_fields.specs.declared.fault.ScenarioFault.{ScenarioFault}
@@ -66,9 +68,26 @@ new_pan path earlier ms = do
   pan ← digits_at path (codes "pan") least_pan most_pan ms
   keep_if (not (has_pan pan earlier)) (BadValue (path (codes "pan"))) pan
 
+abbrev pub method_of : ℕ → Method
+method_of number = (if number == 2 then Two else One)
+
+-- the method of the response cryptogram
+unfoldable pub method_at : (List ℕ → List ℕ) → Members → Result Method ScenarioFault
+method_at path ms = do
+  number ← listed_or 1 path (codes "arpc") (1 ∷ 2 ∷ []) ms
+  Ok (method_of number)
+
+-- the sums of none or some of 64, 32 and 16
+abbrev pub status_sums : List ℕ
+status_sums = 0 ∷ 16 ∷ 32 ∷ 48 ∷ 64 ∷ 80 ∷ 96 ∷ 112 ∷ []
+
+-- what the issuer orders in its card status update
+unfoldable pub status_at : (List ℕ → List ℕ) → Members → Result ℕ ScenarioFault
+status_at path ms = listed_or 0 path (codes "status") status_sums ms
+
 unfoldable pub account_keys : List (List ℕ)
 account_keys =
-    codes "pan" ∷ codes "currency" ∷ codes "balance" ∷ codes "blocked" ∷ codes "pin" ∷ codes "scripts" ∷ []
+    codes "pan" ∷ codes "currency" ∷ codes "balance" ∷ codes "blocked" ∷ codes "pin" ∷ codes "scripts" ∷ codes "arpc" ∷ codes "status" ∷ []
 
 -- account `i` behind these
 unfoldable pub account_of : (List ℕ → List ℕ) → ℕ → List AccountData → Members → Result AccountData ScenarioFault
@@ -79,8 +98,10 @@ account_of path i earlier ms = do
   blocked ← flag_or false path (codes "blocked") ms
   pin ← optional_digits path (codes "pin") 4 12 ms
   scripts ← scripts_at path i ms
+  arpc ← method_at path ms
+  status ← status_at path ms
   _ ← only path account_keys ms
-  Ok (record { pan = pan; currency = currency; balance = balance; blocked = blocked; pin = pin; scripts = scripts })
+  Ok (record { pan = pan; currency = currency; balance = balance; blocked = blocked; pin = pin; scripts = scripts; arpc = arpc; status = status })
 
 unfoldable pub account_item : (List ℕ → List ℕ) → ℕ → List AccountData → Data → Result AccountData ScenarioFault
 account_item path i earlier d = table_item path (codes "account") i d >>= account_of (in_account i) i earlier

@@ -1,14 +1,15 @@
 -- What the readers of a card's keys make sure of: the rules of its image, part by part.
-use Rattle.std.specs.Prelude.{◌≡◌, ◌≢◌, ℕ, ◌≤◌, false, List, [], length, Option, Some, None, IsTrue}
+use Rattle.std.specs.Prelude.{◌≡◌, ◌≢◌, ℕ, ◌≤◌, false, List, length, Option, Some, None, IsTrue}
 use Rattle.std.specs.List.{All, AllPairs, list_any}
-use Rattle.card_files.specs.AppRules.{is_name, is_label, is_afl, is_format, is_record, is_pair, are_records, is_reference_pin, is_sum_limit, is_tries}
+use Rattle.card_files.specs.AppRules.{is_name, is_label, is_afl, is_format, is_record, is_pair, are_records, is_reference_pin, is_sum_limit, is_tries, is_second_code, is_log_size, is_log_file}
 use Rattle.card_files.specs.Kept.{KeepsRules, IsImage}
-use Rattle.card_files.specs.Lists.{is_optional_pdol, is_cdol1, is_cdol2}
-use Rattle.card_files.specs.Views.{RecordData, AppData}
+use Rattle.card_files.specs.Lists.{is_optional_pdol, is_cdol1, is_cdol2, leaves_room}
+use Rattle.card_files.specs.Views.{RecordData, AppData, ImageData}
 use Rattle.emv_dict.specs.Bcd.{has_digits}
 use Rattle.emv_dict.specs.Pan.{is_pan_length}
 use Rattle.emv_dict.specs.Settings.{is_code}
-use Rattle.scenario.specs.Cards.{FilesData, HolderData, CountersData, AccessData, CardData, has_name, is_named}
+use Rattle.scenario.specs.Cards.{FilesData, HolderData, CountersData, AccessData, CardData, no_image, has_name, is_named}
+use Rattle.scenario.specs.declared.extras.Extras.{Extras}
 
 -- a record in its limits, of a number that no earlier one of its file has
 pub record IsNewRecord (earlier : List RecordData) (r : RecordData) : Type 0 where
@@ -39,6 +40,14 @@ pub record KeepsAccess (access : AccessData) : Type 0 where
   pub pin : IsTrue (is_reference_pin access.pin)
   pub tries : IsTrue (is_tries access.tries)
 
+-- beside these object list, records and currency
+pub record KeepsExtras (pdol : Option (List ℕ)) (records : List RecordData) (currency : List ℕ) (extras : Extras) : Type 0 where
+  pub currency_two : IsTrue (is_second_code currency extras.currency_two)
+  pub limit_two : IsTrue (is_sum_limit extras.limit_two)
+  pub log : IsTrue (is_log_size extras.log)
+  pub room : IsTrue (leaves_room extras.log pdol)
+  pub log_sfi : IsTrue (is_log_file extras.log extras.log_sfi records)
+
 -- an application in its rules, of a name that no earlier one has
 pub record IsNewApp (earlier : List AppData) (app : AppData) : Type 0 where
   pub rules : KeepsRules app
@@ -49,13 +58,12 @@ pub record AreAnswers (answers : List (List ℕ)) : Type 0 where
   pub few : length answers ≤ 300
   pub short : All (λ answer. length answer ≤ 258) answers
 
--- applications that are an image, or none beside canned answers
-abbrev pub IsKind : List AppData → Option (List (List ℕ)) → Type 0
+-- an image, or none beside canned answers
+abbrev pub IsKind : ImageData → Option (List (List ℕ)) → Type 0
 IsKind image None = IsImage image
-IsKind image (Some answers) = (image ≡ []) × AreAnswers answers
+IsKind image (Some answers) = (image ≡ no_image) × AreAnswers answers
 
--- a card of a scenario by itself: its name has 1 to 16 characters, and its applications are an image or it has canned
--- answers
+-- a card of a scenario by itself: its name has 1 to 16 characters, and it has an image or canned answers
 pub record IsCard (card : CardData) : Type 0 where
   pub some_name : 1 ≤ length card.name
   pub short_name : length card.name ≤ 16

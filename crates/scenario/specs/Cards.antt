@@ -1,10 +1,11 @@
 -- The tables of a card, of its applications and of their records.
-use Rattle.std.specs.Prelude.{ℕ, ◌+◌, List, [], ◌∷◌, ◌++◌, map, codes, Bool, false, ◌&&◌, not, nat_le, Option, Some, None, is_some, Result, Ok, Err, if◌then◌else◌}
+use Rattle.std.specs.Prelude.{ℕ, ◌+◌, List, [], ◌∷◌, ◌++◌, map, codes, Bool, true, false, ◌&&◌, not, nat_le, Option, Some, None, is_some, Result, Ok, Err, if◌then◌else◌}
 use Rattle.std.specs.List.{list_any}
 use Rattle.std.specs.Str.{bytes_eq}
 use Rattle.card_files.specs.AppRules.{is_pair, most_afl, most_records, reference_pin}
+use Rattle.card_files.specs.Directory.{is_hidden}
 use Rattle.card_files.specs.Lists.{has_all, cdol1_entries, cdol2_entries, most_data, most_pdol, most_cdol}
-use Rattle.card_files.specs.Views.{RecordData, AppData}
+use Rattle.card_files.specs.Views.{RecordData, AppData, ImageData}
 use Rattle.card_state.specs.declared.state.AppState.{AppState}
 use Rattle.card_keys.specs.Master.{master_key_of}
 use Rattle.emv_dict.specs.Bcd.{two_digits}
@@ -13,9 +14,11 @@ use Rattle.emv_dict.specs.Settings.{most_amount}
 use Rattle.issuer_host.specs.declared.keys.HostKeys.{HostKeys}
 use Rattle.object_lists.specs.DolEntries.{DolEntry, dol_of, total_of}
 use Rattle.object_lists.specs.declared.dol.DolFault.{DolFault}
+use Rattle.scenario.specs.Extras.{extras_of}
+use Rattle.scenario.specs.declared.extras.Extras.{Extras}
 use Rattle.toml.specs.Data.{Data, Items, no_items, item, Members, get_member}
 use Rattle.scenario_fields.specs.Fault.{◌>>=◌, keep_if}
-use Rattle.scenario_fields.specs.Fields.{number_at, number_or, optional_number, listed_or, flag_or, text_at, digits_at, optional_digits, code_at, bytes_at, optional_bytes, array_at, each, only}
+use Rattle.scenario_fields.specs.Fields.{absent, number_at, number_or, optional_number, listed_or, flag_or, text_at, digits_at, optional_digits, code_at, bytes_at, optional_bytes, array_at, each, only}
 use Rattle.scenario_fields.specs.Place.{item_path, at_top, in_card, in_app, in_record}
 use Rattle.scenario_fields.specs.Value.{bytes_of, table_of}
 use Rattle.scenario_fields.specs.declared.fault.ScenarioFault.{ScenarioFault}
@@ -176,16 +179,17 @@ unfoldable pub app_keys : List (List ℕ)
 app_keys =
     codes "name" ∷ codes "label" ∷ codes "priority" ∷ codes "pdol" ∷ codes "aip" ∷ codes "afl" ∷ codes "gpo_format" ∷ codes "ac_format"
     ∷ codes "cdol1" ∷ codes "cdol2" ∷ codes "record" ∷ codes "pan" ∷ codes "sequence" ∷ codes "currency" ∷ codes "counter" ∷ codes "last_online"
-    ∷ codes "count_limit" ∷ codes "sum_limit" ∷ codes "pin" ∷ codes "tries" ∷ codes "blocked" ∷ codes "ac_key" ∷ []
+    ∷ codes "count_limit" ∷ codes "sum_limit" ∷ codes "pin" ∷ codes "tries" ∷ codes "blocked" ∷ codes "ac_key" ∷ codes "currency_two"
+    ∷ codes "limit_two" ∷ codes "log" ∷ codes "log_sfi" ∷ []
 
 -- the application's own key, or the one derived from the issuer's
 abbrev pub own_or : List ℕ → Option (List ℕ) → List ℕ
 own_or derived None = derived
 own_or derived (Some key) = key
 
--- nothing is counted yet
-unfoldable pub opening_of : CountersData → AccessData → AppState
-opening_of counters access = record {
+-- nothing is counted yet, and the log is empty
+unfoldable pub opening_of : CountersData → AccessData → Extras → AppState
+opening_of counters access extras = record {
   counter = counters.counter;
   last_online = counters.last_online;
   count = 0;
@@ -196,11 +200,15 @@ opening_of counters access = record {
   blocked = access.blocked;
   auth_failed = false;
   pin = access.pin;
+  sum_two = 0;
+  limit_two = extras.limit_two;
+  log_max = extras.log;
+  log = record { items = [] };
 }
 
 -- the other keys are derived from the issuer's by account and sequence number
-unfoldable pub app_with : HostKeys → FilesData → HolderData → CountersData → AccessData → AppData
-app_with keys files holder counters access = record {
+unfoldable pub app_with : HostKeys → FilesData → HolderData → CountersData → AccessData → Extras → AppData
+app_with keys files holder counters access extras = record {
   name = files.name;
   label = files.label;
   priority = files.priority;
@@ -215,9 +223,13 @@ app_with keys files holder counters access = record {
   pan = holder.pan;
   sequence = holder.sequence;
   currency = holder.currency;
-  opening = opening_of counters access;
+  opening = opening_of counters access extras;
   tries = access.tries;
   ac_key = own_or (master_key_of keys.ac holder.pan holder.sequence) access.ac_key;
+  currency_two = extras.currency_two;
+  limit_two = extras.limit_two;
+  log = extras.log;
+  log_sfi = extras.log_sfi;
   mac_key = master_key_of keys.mac holder.pan holder.sequence;
   enc_key = master_key_of keys.enc holder.pan holder.sequence;
 }
@@ -229,8 +241,9 @@ app_of i j keys earlier ms = do
   holder ← holder_of i j ms
   counters ← counters_of i j ms
   access ← access_of i j ms
+  extras ← extras_of (in_app i j) files.pdol files.records holder.currency ms
   _ ← only (in_app i j) app_keys ms
-  Ok (app_with keys files holder counters access)
+  Ok (app_with keys files holder counters access extras)
 
 unfoldable pub app_item : ℕ → ℕ → HostKeys → List AppData → Data → Result AppData ScenarioFault
 app_item i j keys earlier d = table_of (in_card i (item_path (codes "app") j [])) d >>= app_of i j keys earlier
@@ -256,10 +269,50 @@ canned_at path ms = do
   items ← array_at path (codes "canned") 0 300 ms
   each (canned_item path) 0 items
 
--- what a card answers by: its applications; or none, and canned answers
+-- what a card answers by: its image; or none, and canned answers
 pub record KindData : Type 0 where
-  pub image : List AppData
+  pub image : ImageData
   pub canned : Option (List (List ℕ))
+
+-- a card of canned answers has no applications, and so no state and no directory
+abbrev pub no_image : ImageData
+no_image = record { apps = []; version = 2; directory = None }
+
+-- the form of the card's state when the scenario begins
+unfoldable pub version_at : (List ℕ → List ℕ) → Members → Result ℕ ScenarioFault
+version_at path ms = listed_or 2 path (codes "version") (1 ∷ 2 ∷ []) ms
+
+-- a directory's name would find one of the applications
+unfoldable pub hides_one : List AppData → Bool
+hides_one apps = list_any (λ a. is_hidden a.name) apps
+
+-- a directory that hides none of the applications, or none
+abbrev pub is_directory : List AppData → Option ℕ → Bool
+is_directory apps None = true
+is_directory apps (Some sfi) = not (hides_one apps)
+
+-- the file of the payment system directory, where the card has one
+unfoldable pub directory_at : (List ℕ → List ℕ) → List AppData → Members → Result (Option ℕ) ScenarioFault
+directory_at path apps ms = do
+  sfi ← optional_number path (codes "pse") 1 10 ms
+  keep_if (is_directory apps sfi) (BadValue (path (codes "pse"))) sfi
+
+-- canned answers stand alone
+unfoldable pub canned_kind : (List ℕ → List ℕ) → Members → Result KindData ScenarioFault
+canned_kind path ms = do
+  answers ← canned_at path ms
+  _ ← absent path (codes "version") ms
+  _ ← absent path (codes "pse") ms
+  Ok (record { image = no_image; canned = Some answers })
+
+-- applications, with the form of their state and a directory
+unfoldable pub image_kind : ℕ → HostKeys → Members → Result KindData ScenarioFault
+image_kind i keys ms = do
+  apps ← apps_at i keys ms
+  _ ← absent (in_card i) (codes "canned") ms
+  version ← version_at (in_card i) ms
+  directory ← directory_at (in_card i) apps ms
+  Ok (record { image = record { apps = apps; version = version; directory = directory }; canned = None })
 
 abbrev pub has_key : List ℕ → Members → Bool
 has_key key ms = is_some (get_member key ms)
@@ -267,15 +320,12 @@ has_key key ms = is_some (get_member key ms)
 -- canned answers stand in place of applications, never beside them
 unfoldable pub kind_at : ℕ → HostKeys → Members → Result KindData ScenarioFault
 kind_at i keys ms =
-    if has_key (codes "canned") ms && not (has_key (codes "app") ms) then canned_at (in_card i) ms >>= (λ answers. Ok (record { image = []; canned = Some answers }))
-    else (do
-      apps ← apps_at i keys ms
-      keep_if (not (has_key (codes "canned") ms)) (BadValue (in_card i (codes "canned"))) (record { image = apps; canned = None }))
+    if has_key (codes "canned") ms && not (has_key (codes "app") ms) then canned_kind (in_card i) ms else image_kind i keys ms
 
--- a card by its name: its applications; or none, and the answers that it gives to its commands, whatever they are
+-- a card by its name: its image; or none, and the answers that it gives to its commands, whatever they are
 pub record CardData : Type 0 where
   pub name : List ℕ
-  pub image : List AppData
+  pub image : ImageData
   pub canned : Option (List (List ℕ))
 
 unfoldable pub is_named : List ℕ → List CardData → Bool
@@ -288,7 +338,7 @@ new_card_name i earlier ms = do
   keep_if (not (is_named name earlier)) (BadValue (in_card i (codes "name"))) name
 
 unfoldable pub card_keys : List (List ℕ)
-card_keys = codes "name" ∷ codes "app" ∷ codes "canned" ∷ []
+card_keys = codes "name" ∷ codes "app" ∷ codes "canned" ∷ codes "version" ∷ codes "pse" ∷ []
 
 -- a card behind these
 unfoldable pub card_of : ℕ → HostKeys → List CardData → Members → Result CardData ScenarioFault

@@ -1,6 +1,7 @@
 pub mod Accounts
 pub mod CardRules
 pub mod Cards
+pub mod Extras
 pub mod Issuer
 pub mod Plan
 pub mod Scenario

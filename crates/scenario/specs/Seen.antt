@@ -1,21 +1,21 @@
 -- A scenario's cards as a contract sees them.
-use Rattle.std.specs.Prelude.{ℕ, List, [], map, Option, Some, None}
-use Rattle.card_files.specs.Views.{AppData}
-use Rattle.scenario.specs.Cards.{KindData, CardData}
+use Rattle.std.specs.Prelude.{ℕ, List, map, Option, Some, None}
+use Rattle.card_files.specs.Views.{ImageData}
+use Rattle.scenario.specs.Cards.{KindData, CardData, no_image}
 use Rattle.scenario.specs.declared.plan.CardKind.{CardKind}
 use Rattle.scenario.specs.declared.plan.CardKind.TheVariants.{App, Canned}
 use Rattle.scenario.specs.declared.plan.NamedCard.{NamedCard}
 
-abbrev pub image_of : CardKind → List AppData
+abbrev pub image_of : CardKind → ImageData
 image_of (App image) = image
-image_of (Canned answers) = []
+image_of (Canned answers) = no_image
 
 abbrev pub canned_of : CardKind → Option (List (List ℕ))
 canned_of (App image) = None
 canned_of (Canned answers) = Some (map (λ answer. answer.items) answers.items)
 
 -- its image, where it has one
-abbrev pub image_there : CardKind → Option (List AppData)
+abbrev pub image_there : CardKind → Option ImageData
 image_there (App image) = Some image
 image_there (Canned answers) = None
 

@@ -1,18 +1,18 @@
 //! The table of an account.
-ghost use Rattle.std.specs.Prelude.{◌≡◌, ◌≤◌, [], length, IfOk, vec_len};
+ghost use Rattle.std.specs.Prelude.{◌≡◌, ◌≤◌, [], length, IfOk, IsTrue, vec_len};
 ghost use Rattle.std.specs.List.{All};
 ghost use Rattle.emv_dict.specs.Pan.{least_pan, most_pan};
-ghost use Rattle.issuer_host.specs.Account.{IsAccount};
+ghost use Rattle.issuer_host.specs.Account.{IsAccount, is_status};
 ghost use Rattle.toml.specs.View.{view, table_view, items_view};
 ghost use Rattle.scenario_fields.specs.Fault.{Gives};
 ghost use Rattle.scenario_fields.specs.Fields.{only};
 ghost use Rattle.scenario_fields.specs.Place.{path};
-ghost use Rattle.scenario.specs.Accounts.{has_pan, new_pan, account_keys, account_of, account_item, accounts_from, accounts_at};
+ghost use Rattle.scenario.specs.Accounts.{has_pan, new_pan, method_at, status_at, account_keys, account_of, account_item, accounts_from, accounts_at};
 ghost use Rattle.scenario.specs.Plan.{HaveOwnPans};
 
 use crate::script::scripts_at;
 use emv_dict::{Digits, LEAST_PAN, MOST_AMOUNT, MOST_PAN};
-use issuer_host::Account;
+use issuer_host::{Account, Method};
 use scenario_fields::{Fields, Place, ScenarioFault};
 use toml::Value;
 
@@ -37,11 +37,37 @@ fn new_pan(fields: &Fields, earlier: &[Account]) -> Result<Digits, ScenarioFault
     Ok(pan)
 }
 
+/// The method of the response cryptogram (EMV 4.3 Book 2 section 8.2); method 1 where the key is absent.
+#[tactic(auto, unfolding(crate::specs::Accounts::method_at, scenario_fields::specs::Value::is_listed))]
+fn method_at(fields: &Fields) -> Result<Method, ScenarioFault>
+    ensures { Gives (λ method. method) result (method_at (path fields.now.place) (table_view fields.now.table.now)) }
+{
+    let number = fields.listed_or(1, "arpc", &[1, 2])?;
+    if number == 2 {
+        return Ok(Method::Two);
+    }
+    Ok(Method::One)
+}
+
+/// What the issuer orders in the second byte of its card status update: a sum of none or some of 64, 32
+/// and 16; none where the key is absent.
+#[tactic(auto, unfolding(crate::specs::Accounts::status_at, scenario_fields::specs::Value::is_listed))]
+fn status_at(fields: &Fields) -> Result<u8, ScenarioFault>
+    ensures exact { Gives (λ n. n) result (status_at (path fields.now.place) (table_view fields.now.table.now)) }
+    ensures rule { IfOk result (λ n. IsTrue (is_status n)) }
+{
+    let number = fields.listed_or(0, "status", &[0, 16, 32, 48, 64, 80, 96, 112])?;
+    let status = number as u8;
+    Ok(status)
+}
+
 #[tactic(auto, unfolding(crate::specs::Accounts::account_keys))]
 fn only_account_keys(fields: &Fields) -> Result<(), ScenarioFault>
     ensures { Gives (λ u. u) result (only (path fields.now.place) account_keys (table_view fields.now.table.now)) }
 {
-    fields.only(&["pan", "currency", "balance", "blocked", "pin", "scripts"])
+    fields.only(&[
+        "pan", "currency", "balance", "blocked", "pin", "scripts", "arpc", "status",
+    ])
 }
 
 /// An account behind earlier ones.
@@ -60,6 +86,8 @@ fn read_account(
     let blocked = fields.flag_or(false, "blocked")?;
     let pin = fields.optional_digits("pin", 4, 12)?;
     let scripts = scripts_at(fields, index)?;
+    let arpc = method_at(fields)?;
+    let status = status_at(fields)?;
     only_account_keys(fields)?;
     Ok(Account {
         pan,
@@ -68,6 +96,8 @@ fn read_account(
         blocked,
         pin,
         scripts,
+        arpc,
+        status,
     })
 }
 

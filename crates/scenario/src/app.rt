@@ -11,10 +11,12 @@ ghost use Rattle.scenario_fields.specs.Fields.{only, text_at, listed_or, number_
 ghost use Rattle.scenario_fields.specs.Place.{path, spot_path};
 ghost use Rattle.scenario.specs.Cards as spec;
 ghost use Rattle.scenario.specs.Cards.{list_of, pdol_at as pdol_found, cdol_at as cdol_found, app_keys, app_of, app_item as item_of, files_of, sequence_at as sequence_found, holder_of, counters_of, access_of, app_with, opening_of, own_or};
-ghost use Rattle.scenario.specs.CardRules.{KeepsFiles, KeepsHolder, KeepsCounters, KeepsAccess, IsNewApp};
+ghost use Rattle.scenario.specs.CardRules.{KeepsFiles, KeepsHolder, KeepsCounters, KeepsAccess, KeepsExtras, IsNewApp};
 ghost use Rattle.scenario_fields.specs.declared.spot.Characters.TheVariants.{Printable};
+ghost use Rattle.scenario.specs.Extras.{extras_of};
 ghost use Rattle.scenario.specs.SeenCards.{wanted_by};
 
+use crate::extras::{Extras, no_log, read_extras};
 use crate::record::records_at;
 use card_files::lists::{MOST_CDOL, MOST_DATA, MOST_PDOL, has_cdol1_entries, has_cdol2_entries};
 use card_files::rules::{MOST_AFL, reference_pin};
@@ -452,6 +454,10 @@ fn only_app_keys(fields: &Fields) -> Result<(), ScenarioFault>
         "tries",
         "blocked",
         "ac_key",
+        "currency_two",
+        "limit_two",
+        "log",
+        "log_sfi",
     ])
 }
 
@@ -473,14 +479,13 @@ fn app_with(
     holder: Holder,
     counters: Counters,
     access: Access,
+    extras: Extras,
 ) -> AppImage
-    ensures { result ≡ app_with keys.now files holder counters access }
+    ensures { result ≡ app_with keys.now files holder counters access extras }
 {
-    let derived = master_key(&keys.ac, &holder.pan, holder.sequence);
     let mac_key = master_key(&keys.mac, &holder.pan, holder.sequence);
     let enc_key = master_key(&keys.enc, &holder.pan, holder.sequence);
-    let ac_key = own_or(derived, access.ac_key);
-    let opening = opening_of(&counters, &access);
+    let derived = master_key(&keys.ac, &holder.pan, holder.sequence);
     let aip = files.aip;
     let currency = holder.currency;
     AppImage {
@@ -498,9 +503,13 @@ fn app_with(
         pan: holder.pan,
         sequence: holder.sequence,
         currency,
-        opening,
+        opening: opening_of(&counters, &access, &extras),
         tries: access.tries,
-        ac_key,
+        ac_key: own_or(derived, access.ac_key),
+        currency_two: extras.currency_two,
+        limit_two: extras.limit_two,
+        log: extras.log,
+        log_sfi: extras.log_sfi,
         mac_key,
         enc_key,
     }
@@ -508,8 +517,8 @@ fn app_with(
 
 /// The state in which an application opens: nothing is counted yet.
 #[tactic(auto, unfolding(crate::specs::Cards::opening_of))]
-fn opening_of(counters: &Counters, access: &Access) -> AppState
-    ensures { result ≡ opening_of counters.now access.now }
+fn opening_of(counters: &Counters, access: &Access, extras: &Extras) -> AppState
+    ensures { result ≡ opening_of counters.now access.now extras.now }
 {
     let pin = access.pin;
     AppState {
@@ -523,7 +532,24 @@ fn opening_of(counters: &Counters, access: &Access) -> AppState
         blocked: access.blocked,
         auth_failed: false,
         pin,
+        sum_two: 0,
+        limit_two: extras.limit_two,
+        log_max: extras.log,
+        log: no_log(),
     }
+}
+
+/// What stands behind an application's own key.
+fn extras_beside(fields: &Fields, files: &Files, holder: &Holder) -> Result<Extras, ScenarioFault>
+    ensures exact { Gives (λ x. x) result (extras_of (path fields.now.place) files.now.pdol files.now.records holder.now.currency (table_view fields.now.table.now)) }
+    ensures rules { IfOk result (λ extras. KeepsExtras files.now.pdol files.now.records holder.now.currency extras) }
+{
+    read_extras(
+        fields,
+        &files.pdol,
+        files.records.as_slice(),
+        holder.currency,
+    )
 }
 
 /// An application behind earlier ones of its card.
@@ -548,8 +574,9 @@ fn read_app(
     let holder = read_holder(alloc, card, index, table)?;
     let counters = read_counters(alloc, card, index, table)?;
     let access = read_access(alloc, card, index, table)?;
+    let extras = extras_beside(&fields, &files, &holder)?;
     only_app_keys(&fields)?;
-    Ok(app_with(keys, files, holder, counters, access))
+    Ok(app_with(keys, files, holder, counters, access, extras))
 }
 
 /// An application among those of a card.

@@ -1,21 +1,22 @@
 //! The table of a card.
-ghost use Rattle.std.specs.Prelude.{◌≡◌, ◌≢◌, ◌≤◌, [], length, map, false, IfOk, vec_len};
+ghost use Rattle.std.specs.Prelude.{◌≡◌, ◌≢◌, ◌≤◌, [], length, map, codes, false, IfOk, vec_len};
 ghost use Rattle.std.specs.List.{All, AllPairs, list_any};
 ghost use Rattle.std.specs.Str.{bytes_eq};
-ghost use Rattle.card_files.specs.Kept.{KeepsRules, IsImage};
+ghost use Rattle.card_files.specs.Directory.{is_hidden as is_hidden_name};
+ghost use Rattle.card_files.specs.Kept.{KeepsRules, AreApps, IsDirectoryFile, AreInSight};
 ghost use Rattle.toml.specs.View.{view, table_view, items_view};
 ghost use Rattle.scenario_fields.specs.Fault.{Gives};
-ghost use Rattle.scenario_fields.specs.Fields.{only};
+ghost use Rattle.scenario_fields.specs.Fields.{only, optional_number};
 ghost use Rattle.scenario_fields.specs.Place.{path};
 ghost use Rattle.scenario.specs.CardRules.{IsKind, IsCard, IsNewCard, AreCards};
 ghost use Rattle.scenario.specs.Cards as spec;
-ghost use Rattle.scenario.specs.Cards.{card_keys, card_of, card_item as item_of, cards_from, apps_from, apps_at as apps_found, kind_at as kind_found, cards_at as cards_found};
+ghost use Rattle.scenario.specs.Cards.{card_keys, card_of, card_item as item_of, cards_from, apps_from, apps_at as apps_found, version_at as version_found, directory_at as directory_found, canned_kind as canned_found, image_kind as image_found, kind_at as kind_found, cards_at as cards_found};
 ghost use Rattle.scenario.specs.Seen.{image_of, canned_of, seen_kind, seen_card, seen_cards};
 
 use crate::app::app_item;
 use crate::canned::canned_at;
 use crate::plan::{CardKind, NamedCard};
-use card_files::{AppImage, Image};
+use card_files::{AppImage, DIRECTORY_NAME, Image};
 use issuer_host::HostKeys;
 use scenario_fields::{Characters, Fields, Place, ScenarioFault, Spot};
 use std::alloc::Global;
@@ -88,7 +89,7 @@ fn apps_at(
     table: &Table,
 ) -> Result<Vec<AppImage>, ScenarioFault>
     ensures exact { Gives (λ apps. apps.items) result (apps_found card keys.now (table_view table.now)) }
-    ensures image { IfOk result (λ apps. IsImage apps.items) }
+    ensures image { IfOk result (λ apps. AreApps apps.items) }
 {
     let fields = Fields {
         alloc,
@@ -102,7 +103,107 @@ fn apps_at(
 fn only_card_keys(fields: &Fields) -> Result<(), ScenarioFault>
     ensures { Gives (λ u. u) result (only (path fields.now.place) card_keys (table_view fields.now.table.now)) }
 {
-    fields.only(&["name", "app", "canned"])
+    fields.only(&["name", "app", "canned", "version", "pse"])
+}
+
+/// The form of a card's state when the scenario begins, 1 or 2; 2 where the key is absent.
+#[tactic(auto, unfolding(crate::specs::Cards::version_at, scenario_fields::specs::Value::is_listed))]
+fn version_at(fields: &Fields) -> Result<u8, ScenarioFault>
+    ensures exact { Gives (λ n. n) result (version_found (path fields.now.place) (table_view fields.now.table.now)) }
+    ensures known { IfOk result (λ n. (1 ≤ n) × (n ≤ 2)) }
+{
+    let number = fields.listed_or(2, "version", &[1, 2])?;
+    let version = number as u8;
+    Ok(version)
+}
+
+/// The number at the key of the payment system directory, where it is there.
+fn directory_file(fields: &Fields) -> Result<Option<u8>, ScenarioFault>
+    ensures exact { Gives (λ o. o) result (optional_number (path fields.now.place) (codes "pse") 1 10 (table_view fields.now.table.now)) }
+    ensures file { IfOk result IsDirectoryFile }
+{
+    match fields.optional_number("pse", 1, 10)? {
+        Some(number) => Ok(Some(number as u8)),
+        None => Ok(None),
+    }
+}
+
+/// Whether the directory's name would find an application of this name.
+#[tactic(auto, unfolding(card_files::specs::Directory::is_hidden))]
+fn is_hidden(name: &[u8]) -> bool
+    ensures { result ≡ is_hidden_name name.now }
+{
+    name.starts_with(&DIRECTORY_NAME)
+}
+
+/// Whether it would find one of these applications.
+#[tactic(auto, unfolding(crate::specs::Cards::hides_one))]
+fn hides_one(apps: &[AppImage]) -> bool
+    ensures { result ≡ spec.hides_one apps.now }
+{
+    apps.iter().any(|app| is_hidden(app.name.as_slice()))
+}
+
+/// Whether the card may have a directory in this file, or has none.
+fn is_directory(apps: &[AppImage], sfi: Option<u8>) -> bool
+    ensures { result ≡ spec.is_directory apps.now sfi }
+{
+    match sfi {
+        Some(_) => !hides_one(apps),
+        None => true,
+    }
+}
+
+/// The file of the payment system directory (EMV 4.3 Book 1 section 12.2.3), where the card has one.
+#[tactic(auto, unfolding(crate::specs::Cards::directory_at))]
+fn directory_at(fields: &Fields, apps: &[AppImage]) -> Result<Option<u8>, ScenarioFault>
+    ensures exact { Gives (λ o. o) result (directory_found (path fields.now.place) apps.now (table_view fields.now.table.now)) }
+    ensures file { IfOk result IsDirectoryFile }
+    ensures sight { IfOk result (λ o. AreInSight o apps.now) }
+{
+    let sfi = directory_file(fields)?;
+    if !is_directory(apps, sfi) {
+        return Err(fields.spot("pse").bad());
+    }
+    Ok(sfi)
+}
+
+/// What a card answers by that has canned answers and nothing else.
+#[tactic(auto, unfolding(crate::specs::Cards::canned_kind))]
+fn canned_kind(fields: &Fields) -> Result<CardKind, ScenarioFault>
+    ensures exact { Gives seen_kind result (canned_found (path fields.now.place) (table_view fields.now.table.now)) }
+    ensures rules { IfOk result (λ kind. IsKind (image_of kind) (canned_of kind)) }
+{
+    let answers = canned_at(fields)?;
+    fields.absent("version")?;
+    fields.absent("pse")?;
+    Ok(CardKind::Canned(answers))
+}
+
+/// What a card answers by that has applications.
+#[tactic(auto, unfolding(crate::specs::Cards::image_kind))]
+fn image_kind(
+    alloc: Global,
+    index: usize,
+    keys: &HostKeys,
+    table: &Table,
+) -> Result<CardKind, ScenarioFault>
+    ensures exact { Gives seen_kind result (image_found index keys.now (table_view table.now)) }
+    ensures rules { IfOk result (λ kind. IsKind (image_of kind) (canned_of kind)) }
+{
+    let fields = Fields {
+        alloc,
+        place: Place::Card(index),
+        table,
+    };
+    let apps = apps_at(alloc, index, keys, table)?;
+    fields.absent("canned")?;
+    let version = version_at(&fields)?;
+    let directory = directory_at(&fields, apps.as_slice())?;
+    match Image::new(apps, version, directory) {
+        Ok(image) => Ok(CardKind::App(image)),
+        Err(_) => unreachable!(),
+    }
 }
 
 /// What a card answers by: its applications, or in place of them its canned answers.
@@ -121,18 +222,10 @@ fn kind_at(
         place: Place::Card(index),
         table,
     };
-    let has_canned = fields.optional("canned").is_some();
-    if has_canned && fields.optional("app").is_none() {
-        return Ok(CardKind::Canned(canned_at(&fields)?));
+    if fields.optional("canned").is_some() && fields.optional("app").is_none() {
+        return canned_kind(&fields);
     }
-    let apps = apps_at(alloc, index, keys, table)?;
-    if has_canned {
-        return Err(fields.spot("canned").bad());
-    }
-    match Image::new(apps) {
-        Ok(image) => Ok(CardKind::App(image)),
-        Err(_) => unreachable!(),
-    }
+    image_kind(alloc, index, keys, table)
 }
 
 /// A card behind earlier ones.

@@ -6,6 +6,7 @@ pub mod account;
 pub mod app;
 pub mod canned;
 pub mod card;
+pub mod extras;
 pub mod issuer;
 pub mod plan;
 pub mod read;

@@ -1,20 +1,24 @@
 -- What a reader finds at one key of a table.
-use Rattle.std.specs.Prelude.{ℕ, ◌+◌, List, [], ◌∷◌, ◌++◌, Bool, Option, Some, None, Result, Ok, Err, if◌then◌else◌}
+use Rattle.std.specs.Prelude.{ℕ, ◌+◌, List, [], ◌∷◌, ◌++◌, Bool, not, Option, Some, None, is_some, Result, Ok, Err, if◌then◌else◌}
 use Rattle.std.specs.List.{list_any}
 use Rattle.std.specs.Cmp.Lexicographic.{slice_cmp}
 use Rattle.std.specs.Ordering.{nat_cmp, is_lt}
 use Rattle.std.specs.Str.{bytes_eq}
 use Rattle.toml.specs.Data.{Data, Items, no_items, item, Members, no_members, member, get_member}
-use Rattle.scenario_fields.specs.Fault.{◌>>=◌, or_fault}
+use Rattle.scenario_fields.specs.Fault.{◌>>=◌, or_fault, keep_if}
 use Rattle.scenario_fields.specs.Place.{item_path}
 use Rattle.scenario_fields.specs.Value.{number_of, listed_of, flag_of, str_of, text_of, digits_of, code_of, six_digits_of, day_of, bytes_of, array_of, table_of}
 use Rattle.scenario_fields.specs.declared.fault.ScenarioFault.{ScenarioFault}
-use Rattle.scenario_fields.specs.declared.fault.ScenarioFault.TheVariants.{MissingKey, UnknownKey}
+use Rattle.scenario_fields.specs.declared.fault.ScenarioFault.TheVariants.{MissingKey, BadValue, UnknownKey}
 use Rattle.scenario_fields.specs.declared.spot.Characters.{Characters}
 
 -- a key without a default
 abbrev pub required : (List ℕ → List ℕ) → List ℕ → Members → Result Data ScenarioFault
 required path key ms = or_fault (MissingKey (path key)) (get_member key ms)
+
+-- a key that has no place in its table, whatever it holds
+unfoldable pub absent : (List ℕ → List ℕ) → List ℕ → Members → Result (Unit {0}) ScenarioFault
+absent path key ms = keep_if (not (is_some (get_member key ms))) (BadValue (path key)) tt
 
 -- a value that may be absent
 abbrev pub if_there : {A : Type 0} → (Data → Result A ScenarioFault) → Option Data → Result (Option A) ScenarioFault
@@ -57,6 +61,9 @@ optional_digits path key least most ms = if_there (digits_of (path key) least mo
 
 unfoldable pub code_at : (List ℕ → List ℕ) → List ℕ → Members → Result (List ℕ) ScenarioFault
 code_at path key ms = required path key ms >>= code_of (path key)
+
+unfoldable pub optional_code : (List ℕ → List ℕ) → List ℕ → Members → Result (Option (List ℕ)) ScenarioFault
+optional_code path key ms = if_there (code_of (path key)) (get_member key ms)
 
 unfoldable pub six_digits_or : List ℕ → (List ℕ → List ℕ) → List ℕ → Members → Result (List ℕ) ScenarioFault
 six_digits_or default path key ms = or_default default (six_digits_of (path key)) (get_member key ms)

@@ -12,7 +12,7 @@ ghost use Rattle.toml.specs.View.{view, table_view, items_view};
 ghost use Rattle.scenario_fields.specs.Fault.{Tells, Fails, Gives};
 ghost use Rattle.scenario_fields.specs.Place.{path, spot_path};
 ghost use Rattle.scenario_fields.specs.Value.{is_one_of, is_listed};
-ghost use Rattle.scenario_fields.specs.Fields.{required, number_at, number_or, optional_number, listed_or, flag_or, str_at, text_at, digits_at, optional_digits, code_at, six_digits_or, day_at, bytes_at, optional_bytes, array_at, array_or_none, table_at, optional_table, table_item, digits_item, digits_list, each, only, least_other};
+ghost use Rattle.scenario_fields.specs.Fields.{required, absent, number_at, number_or, optional_number, listed_or, flag_or, str_at, text_at, digits_at, optional_digits, code_at, optional_code, six_digits_or, day_at, bytes_at, optional_bytes, array_at, array_or_none, table_at, optional_table, table_item, digits_item, digits_list, each, only, least_other};
 ghost use Rattle.scenario_fields.specs.declared.fault.ScenarioFault.TheVariants.{MissingKey, UnknownKey};
 
 use crate::fault::{Path, ScenarioFault};
@@ -93,6 +93,17 @@ impl<'a> Fields<'a> {
         ensures { option_map (λ v. view v.now) result ≡ get_member key.now (table_view self.now.table.now) }
     {
         member(self.table, key)
+    }
+
+    /// That a key which has no place here isn't there, whatever it holds.
+    #[tactic(auto, unfolding(crate::specs::Fields::absent))]
+    pub fn absent(&self, key: &str) -> Result<(), ScenarioFault>
+        ensures { Gives (λ u. u) result (absent (path self.now.place) key.now (table_view self.now.table.now)) }
+    {
+        match member(self.table, key) {
+            Some(_) => Err(self.spot(key).bad()),
+            None => Ok(()),
+        }
     }
 
     /// A whole number from `least` to `most`.
@@ -255,6 +266,18 @@ impl<'a> Fields<'a> {
         ensures code { IfOk result (λ bytes. IsTrue (is_code bytes)) }
     {
         self.spot(key).code(self.required(key)?)
+    }
+
+    /// The code of a currency or of a country, where the key is there.
+    #[tactic(auto, unfolding(crate::specs::Fields::optional_code))]
+    pub fn optional_code(&self, key: &str) -> Result<Option<[u8; 2]>, ScenarioFault>
+        ensures exact { Gives (λ o. o) result (optional_code (path self.now.place) key.now (table_view self.now.table.now)) }
+        ensures code { IfOk result (λ o. IfSome o (λ bytes. IsTrue (is_code bytes))) }
+    {
+        match member(self.table, key) {
+            Some(value) => Ok(Some(self.spot(key).code(value)?)),
+            None => Ok(None),
+        }
     }
 
     /// Six digits, two a byte, or the default where the key is absent.

@@ -84,6 +84,14 @@ fn reads_numbers_and_flags(rt: HostRuntime) {
 }
 
 #[test]
+fn a_key_may_have_no_place(rt: HostRuntime) {
+    let table = document(rt.alloc(), "n = [7]\n").expect(&rt, "a document");
+    let fields = fields(rt.alloc(), &table);
+    assert!(rt; fields.absent("m").is_ok());
+    assert!(rt; fields.absent("n").is_err());
+}
+
+#[test]
 fn reads_texts(rt: HostRuntime) {
     let table = document(rt.alloc(), "t = \"ab1\"\n").expect(&rt, "a document");
     let fields = fields(rt.alloc(), &table);
@@ -109,6 +117,8 @@ fn reads_digits(rt: HostRuntime) {
             .is_none()
     );
     assert!(rt; fields.code("c").expect(&rt, "c") == [0x08, 0x40]);
+    assert!(rt; fields.optional_code("c").expect(&rt, "c") == Some([0x08, 0x40]));
+    assert!(rt; fields.optional_code("e").expect(&rt, "e").is_none());
     assert!(rt; fields.day("d").expect(&rt, "d") == [0x24, 0x06, 0x15]);
     assert!(rt; fields.six_digits_or([0, 0, 0], "time").expect(&rt, "time") == [0, 0, 0]);
 }

@@ -59,9 +59,9 @@ aids_at path at ms = array_at path (codes "aid") 1 16 ms >>= each (aid_item path
 unfoldable pub lane_keys : List (List ℕ)
 lane_keys =
     codes "kind" ∷ codes "country" ∷ codes "caps" ∷ codes "id" ∷ codes "exceptions" ∷ codes "aid" ∷ codes "purchase"
-    ∷ codes "dialect" ∷ []
+    ∷ codes "pse" ∷ codes "dialect" ∷ []
 
--- the settings of a lane's terminal, with the key for PINs
+-- the settings of a lane's terminal, with the key for PINs; whether it begins with the directory stands behind the purchases
 unfoldable pub settings_of : (List ℕ → List ℕ) → LaneAt → List ℕ → Members → Result SettingsData ScenarioFault
 settings_of path at pin_key ms = do
   kind ← number_at path (codes "kind") 21 26 ms
@@ -70,7 +70,7 @@ settings_of path at pin_key ms = do
   id ← text_at path (codes "id") LetterOrDigit 8 8 ms
   exceptions ← digits_list path (codes "exceptions") 100 least_pan most_pan ms
   aids ← aids_at path at ms
-  Ok (record { kind = kind; country = country; caps = caps; id = id; pin_key = pin_key; exceptions = exceptions; aids = aids })
+  Ok (record { kind = kind; country = country; caps = caps; id = id; pin_key = pin_key; exceptions = exceptions; aids = aids; pse = false })
 
 -- whether messages go in the second dialect, by its word
 unfoldable pub dialect_named : List ℕ → List ℕ → Result Bool ScenarioFault
@@ -92,9 +92,10 @@ unfoldable pub lane_of : (List ℕ → List ℕ) → LaneAt → ℕ → ℕ → 
 lane_of path at least most names pin_key ms = do
   settings ← settings_of path at pin_key ms
   purchases ← purchases_at path at least most names ms
+  pse ← flag_or false path (codes "pse") ms
   iso ← dialect_or_tlv at path ms
   _ ← only path lane_keys ms
-  Ok (record { settings = settings; purchases = purchases; iso = iso })
+  Ok (record { settings = record settings { pse = pse }; purchases = purchases; iso = iso })
 
 -- lane `i`, where the lanes before it have `earlier` purchases: at most 10,000 in all lanes
 unfoldable pub lane_item : (List ℕ → List ℕ) → ℕ → ℕ → List (List ℕ) → List ℕ → Data → Result LaneData ScenarioFault

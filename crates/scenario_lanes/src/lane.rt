@@ -118,11 +118,12 @@ fn only_lane_keys(fields: &Fields) -> Result<(), ScenarioFault>
         "exceptions",
         "aid",
         "purchase",
+        "pse",
         "dialect",
     ])
 }
 
-/// The settings of a lane's terminal.
+/// The settings of a lane's terminal but for the directory, whose key stands behind the purchases.
 #[tactic(auto, unfolding(crate::specs::Lanes::settings_of))]
 fn read_settings(
     fields: &Fields,
@@ -147,6 +148,7 @@ fn read_settings(
         pin_key,
         exceptions,
         aids,
+        pse: false,
     })
 }
 
@@ -204,10 +206,11 @@ fn lane_with(
 {
     let settings = read_settings(fields, lane, pin_key)?;
     let purchases = purchases_at(fields, lane, least, most, cards)?;
+    let pse = fields.flag_or(false, "pse")?;
     let iso = dialect_or_tlv(fields, lane)?;
     only_lane_keys(fields)?;
     Ok(Lane {
-        settings,
+        settings: Settings { pse, ..settings },
         purchases,
         iso,
     })

@@ -9,8 +9,11 @@ kind = 22
 country = "840"
 caps = "E0B8C8"
 id = "TERM0001"
+"#;
 
-[[lane.aid]]
+const DIRECTORY: &str = "pse = true\n";
+
+const APPLICATION: &str = r#"[[lane.aid]]
 name = "A0000000031010"
 version = "0096"
 denial = "0010000000"
@@ -59,8 +62,8 @@ const CRYPTOGRAM: &str =
 const END: &str =
     r#", "end approved offline tvr=8000000000 tsi=6800 cvm=410302 arc=Y1 atc=000b ac=6114ff966d2fd232 scripts=-""#;
 
-/// The document with these entries.
-fn document(alloc: Global, parts: &[&str]) -> Result<String, AllocError> {
+/// The document with these entries, and with this in its lane.
+fn document(alloc: Global, lane: &str, parts: &[&str]) -> Result<String, AllocError> {
     let mut text = String::new(alloc);
     text.push_str(KEY)?;
     text.push_str("trace = [")?;
@@ -69,15 +72,22 @@ fn document(alloc: Global, parts: &[&str]) -> Result<String, AllocError> {
     }
     text.push_str("]\n")?;
     text.push_str(LANE)?;
+    text.push_str(lane)?;
+    text.push_str(APPLICATION)?;
     text.push_str(PURCHASE)?;
     Ok(text)
 }
 
-/// What a trace of these entries is.
-fn verdict(alloc: Global, parts: &[&str]) -> Result<Verdict, Fail> {
-    let text = document(alloc, parts)?;
+/// What a trace of these entries is, with this in its lane.
+fn verdict_with(alloc: Global, lane: &str, parts: &[&str]) -> Result<Verdict, Fail> {
+    let text = document(alloc, lane, parts)?;
     let trace = read_trace(alloc, text.as_bytes())?;
     Ok(check(&trace))
+}
+
+/// What a trace of these entries is.
+fn verdict(alloc: Global, parts: &[&str]) -> Result<Verdict, Fail> {
+    verdict_with(alloc, "", parts)
 }
 
 #[test]
@@ -101,12 +111,27 @@ fn what_differs_is_counted_from_zero(rt: HostRuntime) -> Result<(), Fail> {
     Ok(())
 }
 
+/// A card without a directory is asked for it, and then for the applications.
+const NO_DIRECTORY: &str = r#""> 00a404000e315041592e5359532e444446303100", "< 6a82", "#;
+
+#[test]
+fn a_terminal_asks_for_the_directory_first(rt: HostRuntime) -> Result<(), Fail> {
+    let alloc = rt.alloc();
+    let parts = [NO_DIRECTORY, OPENING, COUNTER, CRYPTOGRAM, END];
+    assert_eq!(rt; verdict_with(alloc, DIRECTORY, &parts)?, Verdict::Same);
+    assert_eq!(rt; verdict(alloc, &parts)?, Verdict::Differs(0));
+    let list = [OPENING, COUNTER, CRYPTOGRAM, END];
+    assert_eq!(rt; verdict_with(alloc, DIRECTORY, &list)?, Verdict::Differs(0));
+    Ok(())
+}
+
 /// The line of the fault of a document.
 fn refused(alloc: Global, entries: &str, rest: &str) -> Result<Option<String>, AllocError> {
     let mut text = String::new(alloc);
     text.push_str(KEY)?;
     text.push_str(entries)?;
     text.push_str(LANE)?;
+    text.push_str(APPLICATION)?;
     text.push_str(PURCHASE)?;
     text.push_str(rest)?;
     match read_trace(alloc, text.as_bytes()) {

@@ -225,3 +225,13 @@ unfolding deciphered
 enciphered_undoes keys block is =
     ap (λ (ks : List (List ℕ)). enciphered ks (enciphered (reverse keys) block)) (sym (reverse-reverse keys))
     ∙ deciphered_undoes (reverse keys) block is
+
+-- ---- round keys in reverse
+
+pub reversed_enciphers : (keys : List (List ℕ)) (block : List ℕ) → enciphered (reverse keys) block ≡ deciphered keys block
+unfolding deciphered
+reversed_enciphers keys block = refl
+
+pub reversed_deciphers : (keys : List (List ℕ)) (block : List ℕ) → deciphered (reverse keys) block ≡ enciphered keys block
+unfolding deciphered
+reversed_deciphers keys block = ap (λ (ks : List (List ℕ)). enciphered ks block) (reverse-reverse keys)

@@ -73,5 +73,5 @@ pub fn mac_joined(key: &Key16, head: &[u8], tail: &[u8]) -> [u8; 8]
     ensures { result ≡ mac key.now (head.now ++ tail.now) }
 {
     let last = chain(key.left(), head, tail);
-    key.left().encipher(key.right().decipher(last))
+    key.left().encipher(key.decipher_right(last))
 }

@@ -1,17 +1,18 @@
-ghost use Rattle.std.specs.Prelude.{◌≡◌, ℕ, List, take, drop};
-ghost use Rattle.triple_des.specs.Des.{des};
+ghost use Rattle.std.specs.Prelude.{◌≡◌, ℕ, List, take, drop, reverse};
+ghost use Rattle.triple_des.specs.Des.{des, enciphered, deciphered};
 ghost use Rattle.triple_des.specs.TripleDes.{left_keys, right_keys, tdes, untdes};
 
 use crate::single::Des;
 use std::marker::Model;
 
 /// A key of two-key triple DES (FIPS 46-3): sixteen bytes, the left key and the right, with the round
-/// keys of both.
+/// keys of both. Those of the right are kept in reverse, since enciphering and the message authentication
+/// code decipher with the right key.
 #[derive(Drop)]
 pub struct Key16 {
     bytes: [u8; 16],
     left: Des,
-    right: Des,
+    right_reversed: Des,
 }
 
 impl Model for Key16 {
@@ -20,7 +21,7 @@ impl Model for Key16 {
     ghost view = { λ key. key.bytes };
 
     ghost invariant = { λ key. (key.left ≡ left_keys key.bytes)
-        × (key.right ≡ right_keys key.bytes) };
+        × (key.right_reversed ≡ reverse (right_keys key.bytes)) };
 }
 
 impl Key16 {
@@ -35,7 +36,7 @@ impl Key16 {
         Key16 {
             bytes,
             left: Des::new(left),
-            right: Des::new(right),
+            right_reversed: Des::new(right).reversed(),
         }
     }
 
@@ -46,7 +47,7 @@ impl Key16 {
         Key16 {
             bytes: self.bytes,
             left: self.left.copy(),
-            right: self.right.copy(),
+            right_reversed: self.right_reversed.copy(),
         }
     }
 
@@ -64,11 +65,20 @@ impl Key16 {
         &self.left
     }
 
-    /// The right key alone, for single DES.
-    pub(crate) fn right(&self) -> &Des
-        ensures { result.now ≡ right_keys self.now }
+    /// Deciphers a block with the right key alone, by single DES.
+    pub(crate) fn decipher_right(&self, block: [u8; 8]) -> [u8; 8]
+        ensures value { result ≡ deciphered (right_keys self.now) block }
+        ensures undone { enciphered (right_keys self.now) result ≡ block }
     {
-        &self.right
+        self.right_reversed.encipher(block)
+    }
+
+    /// Enciphers a block with the right key alone, by single DES.
+    fn encipher_right(&self, block: [u8; 8]) -> [u8; 8]
+        ensures value { result ≡ enciphered (right_keys self.now) block }
+        ensures undone { deciphered (right_keys self.now) result ≡ block }
+    {
+        self.right_reversed.decipher(block)
     }
 
     /// Enciphers a block with the left key, deciphers it with the right and enciphers it with the left.
@@ -79,7 +89,7 @@ impl Key16 {
         ensures single { take 8 self.now ≡ drop 8 self.now → result ≡ des (take 8 self.now) block }
     {
         self.left
-            .encipher(self.right.decipher(self.left.encipher(block)))
+            .encipher(self.decipher_right(self.left.encipher(block)))
     }
 
     /// Deciphers a block with the left key, enciphers it with the right and deciphers it with the left.
@@ -89,6 +99,6 @@ impl Key16 {
         ensures undone { tdes self.now result ≡ block }
     {
         self.left
-            .decipher(self.right.encipher(self.left.decipher(block)))
+            .decipher(self.encipher_right(self.left.decipher(block)))
     }
 }

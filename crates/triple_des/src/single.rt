@@ -1,4 +1,4 @@
-ghost use Rattle.std.specs.Prelude.{◌≡◌, ℕ, List, map};
+ghost use Rattle.std.specs.Prelude.{◌≡◌, ℕ, List, map, reverse};
 ghost use Rattle.triple_des.specs.Bits.{bits};
 ghost use Rattle.triple_des.specs.Des.{round_keys, enciphered, deciphered};
 
@@ -35,6 +35,15 @@ impl Des {
         Des { keys: self.keys }
     }
 
+    /// The round keys in reverse: what this cipher deciphers, that one enciphers. No memory is taken.
+    pub(crate) fn reversed(&self) -> Des
+        ensures { result ≡ reverse self.now }
+    {
+        let mut keys = self.keys;
+        keys.reverse();
+        Des { keys }
+    }
+
     /// Enciphers a block of eight bytes.
     pub fn encipher(&self, block: [u8; 8]) -> [u8; 8]
         ensures value { result ≡ enciphered self.now block }
@@ -48,8 +57,6 @@ impl Des {
         ensures value { result ≡ deciphered self.now block }
         ensures undone { enciphered self.now result ≡ block }
     {
-        let mut keys = self.keys;
-        keys.reverse();
-        encipher_block(&keys, block)
+        self.reversed().encipher(block)
     }
 }

@@ -41,7 +41,7 @@ card_check_of i card k check here = by_kind card.canned k here
   where
     by_kind : (o : Option (List (List ℕ))) (k : ℕ) → slice_get (checks_for i card o) k ≡ Some check → IsCheckOf i card check
     by_kind None zero here = subst (λ (c : Check). IsCheckOf i card c) (same_Some (PowersUp i card) check here) (refl, refl)
-    by_kind None (suc k) here = asked_of i card card.image k check here
+    by_kind None (suc k) here = asked_of i card card.image.apps k check here
     by_kind (Some answers) k here = cc
 
 checked_from : (cards : List CardData) (n k : ℕ) (check : Check) → slice_get (checks_from n cards) k ≡ Some check → IsChecked cards n check

@@ -4,7 +4,7 @@ use Rattle.std.specs.Prelude.{option_map}
 use Rattle.std.proofs.lemmas.Option.{same_Some}
 use Rattle.card_app.specs.Answering.{card_answer}
 use Rattle.card_app.specs.SeenChip.{ChipSeen, ChipOn, ChipOff, ChipAnswered}
-use Rattle.card_files.specs.Views.{AppData}
+use Rattle.card_files.specs.Views.{ImageData}
 use Rattle.card_pages.specs.Cuts.{cut_of, behind_one}
 use Rattle.card_state.specs.Decisions.{Decided}
 use Rattle.report_text.specs.declared.line.Line.{Line}
@@ -29,10 +29,10 @@ pub asked_so : (old new : ChipSeen) (card : CardData) (row : CardRow) (command a
     → IsAsked new card row command lines
 asked_so old new card row command answer lines same none said made =
     let is : answer ≡ (card_answer card.image row.kept row.session command).answer =
-    said.answer_is ∙ ap (λ (image : List AppData). (card_answer image row.kept row.session command).answer) same in
+    said.answer_is ∙ ap (λ (image : ImageData). (card_answer image row.kept row.session command).answer) same in
     let on : ChipOn new (row.session ++ record { command = command; answer = answer } ∷ []) (row.kept ++ (card_answer card.image row.kept row.session command).new) None
     (row.made + length (card_answer card.image row.kept row.session command).new) =
-    subst (λ (image : List AppData). ChipOn new (row.session ++ record { command = command; answer = answer } ∷ [])
+    subst (λ (image : ImageData). ChipOn new (row.session ++ record { command = command; answer = answer } ∷ [])
     (row.kept ++ (card_answer image row.kept row.session command).new) None (row.made + length (card_answer image row.kept row.session command).new)) same said.on in
     record {
       on = subst (λ (a : List ℕ). ChipOn new (row.session ++ record { command = command; answer = a } ∷ [])
@@ -57,7 +57,7 @@ checked_as slot chip card row question step choice lines made here asked told ch
     (subst (λ (ls : List Line). IsChecked (OfApps chip) card row step choice ls) (sym told) checked))
 
 -- a card with applications, and one without
-pub there_apps : (kind : CardKind) (image : List AppData) → image_there kind ≡ Some image → (canned_of kind ≡ None) × (image_of kind ≡ image)
+pub there_apps : (kind : CardKind) (image : ImageData) → image_there kind ≡ Some image → (canned_of kind ≡ None) × (image_of kind ≡ image)
 there_apps (App own) image is = (refl, same_Some own image is)
 there_apps (Canned answers) image is = cc
 

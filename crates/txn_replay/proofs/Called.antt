@@ -5,7 +5,7 @@ use Rattle.std.proofs.lemmas.Result.{on_ok_weaker}
 use Rattle.card_app.specs.Answering.{card_answer}
 use Rattle.card_app.specs.SeenChip.{ChipSeen, ChipOn, ChipAnswered, ChipCut, losses_of}
 use Rattle.card_app.specs.Session.{Exchange}
-use Rattle.card_files.specs.Views.{AppData}
+use Rattle.card_files.specs.Views.{ImageData}
 use Rattle.card_pages.specs.Cuts.{cut_of}
 use Rattle.card_state.specs.Decisions.{Decided}
 use Rattle.emv_ports.specs.Causes.{one_more}
@@ -35,10 +35,10 @@ module _ {T E : Type 0} (r : Result T E) (command : List ℕ) where
         on_ok_weaker r
         (λ said card row plan of on.
         let one = said row.session row.kept plan row.made on.0 in
-        let is = subst (λ (i : List AppData). answer ≡ (card_answer i row.kept row.session command).answer) of.1 one.answer_is in
-        let spared = subst (λ (i : List AppData). cut_of plan row.made (card_answer i row.kept row.session command).new ≡ None) of.1 one.spared in
+        let is = subst (λ (i : ImageData). answer ≡ (card_answer i row.kept row.session command).answer) of.1 one.answer_is in
+        let spared = subst (λ (i : ImageData). cut_of plan row.made (card_answer i row.kept row.session command).new ≡ None) of.1 one.spared in
         let later =
-        subst (λ (i : List AppData). ChipOn now (row.session ++ record { command = command; answer = answer } ∷ [])
+        subst (λ (i : ImageData). ChipOn now (row.session ++ record { command = command; answer = answer } ∷ [])
         (row.kept ++ (card_answer i row.kept row.session command).new) plan (row.made + length (card_answer i row.kept row.session command).new)) of.1 one.on in
         let told =
         subst (λ (a : List ℕ). ChipOn now (row.session ++ record { command = command; answer = a } ∷ [])
@@ -63,7 +63,7 @@ module _ {T E : Type 0} (r : Result T E) (command : List ℕ) where
         subst (λ (o : Option (List (List ℕ))). IsGone (OfApps now) card row plan command o) (sym of.0) (
           one.0,
           record {
-            cut = subst (λ (i : List AppData). cut_of plan row.made (card_answer i row.kept row.session command).new ≡ Some one.0) of.1 one.1.cut;
+            cut = subst (λ (i : ImageData). cut_of plan row.made (card_answer i row.kept row.session command).new ≡ Some one.0) of.1 one.1.cut;
             off = one.1.off;
             losses = more_lost (losses_of was) (losses_of now) row.losses more losses;
           },

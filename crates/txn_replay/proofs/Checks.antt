@@ -39,32 +39,32 @@ own_check cards i card k check here own =
     ∙ append_first (card_checks i card) (checks_from (i + 1) (drop (i + 1) cards)) k check own
 
 -- those of a card with applications
-of_apps : (i : ℕ) (card : CardData) → card.canned ≡ None → card_checks i card ≡ PowersUp i card ∷ flat_map (app_checks i card) card.image
+of_apps : (i : ℕ) (card : CardData) → card.canned ≡ None → card_checks i card ≡ PowersUp i card ∷ flat_map (app_checks i card) card.image.apps
 of_apps i card apps = ap (λ (o : Option (List (List ℕ))). checks_for i card o) apps
 
 pub power_check : (i : ℕ) (card : CardData) → card.canned ≡ None → slice_get (card_checks i card) 0 ≡ Some (PowersUp i card)
 power_check i card apps = ap (λ (cs : List Check). slice_get cs 0) (of_apps i card apps)
 
 pub asked_check : (i : ℕ) (card : CardData) (k : ℕ) (check : Check) → card.canned ≡ None → 1 ≤ k
-    → slice_get (flat_map (app_checks i card) card.image) (k - 1) ≡ Some check → slice_get (card_checks i card) k ≡ Some check
+    → slice_get (flat_map (app_checks i card) card.image.apps) (k - 1) ≡ Some check → slice_get (card_checks i card) k ≡ Some check
 asked_check i card k check apps some own =
     let e : k ≡ suc (k - 1) = omega arith in
     ap (λ (cs : List Check). slice_get cs k) (of_apps i card apps)
-    ∙ ap (λ n. slice_get (PowersUp i card ∷ flat_map (app_checks i card) card.image) n) e
+    ∙ ap (λ n. slice_get (PowersUp i card ∷ flat_map (app_checks i card) card.image.apps) n) e
     ∙ own
 
 -- and one of those behind it
 pub later_check : (cards : List CardData) (i : ℕ) (card : CardData) (k : ℕ) → slice_get cards i ≡ Some card → card.canned ≡ None
-    → 1 + 3 * length card.image ≤ k
-    → slice_get (checks_from i (drop i cards)) k ≡ slice_get (checks_from (i + 1) (drop (i + 1) cards)) (k - (1 + 3 * length card.image))
+    → 1 + 3 * length card.image.apps ≤ k
+    → slice_get (checks_from i (drop i cards)) k ≡ slice_get (checks_from (i + 1) (drop (i + 1) cards)) (k - (1 + 3 * length card.image.apps))
 later_check cards i card k here apps past =
-    let asks : length (flat_map (app_checks i card) card.image) ≡ 3 * length card.image = asks_length i card card.image in
-    let count : length (card_checks i card) ≡ length (PowersUp i card ∷ flat_map (app_checks i card) card.image) =
+    let asks : length (flat_map (app_checks i card) card.image.apps) ≡ 3 * length card.image.apps = asks_length i card card.image.apps in
+    let count : length (card_checks i card) ≡ length (PowersUp i card ∷ flat_map (app_checks i card) card.image.apps) =
     ap (λ (cs : List Check). length cs) (of_apps i card apps) in
-    let place : k ≡ length (card_checks i card) + (k - (1 + 3 * length card.image)) = omega arith in
+    let place : k ≡ length (card_checks i card) + (k - (1 + 3 * length card.image.apps)) = omega arith in
     ap (λ (cs : List Check). slice_get cs k) (next_card cards i card here)
     ∙ ap (λ n. slice_get (card_checks i card ++ checks_from (i + 1) (drop (i + 1) cards)) n) place
-    ∙ append_second (card_checks i card) (checks_from (i + 1) (drop (i + 1) cards)) (k - (1 + 3 * length card.image))
+    ∙ append_second (card_checks i card) (checks_from (i + 1) (drop (i + 1) cards)) (k - (1 + 3 * length card.image.apps))
 
 -- a card of canned answers is passed over
 pub passed_check : (cards : List CardData) (i : ℕ) (card : CardData) (answers : List (List ℕ)) (k : ℕ) → slice_get cards i ≡ Some card

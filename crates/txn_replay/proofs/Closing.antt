@@ -1,7 +1,7 @@
 -- What each event keeps of a card holds of every card of every run.
 use Rattle.std.proofs.Common.{◌≡◌, ◌⊎◌, ℕ, Bool, true, false, List, [], ◌∷◌, ◌++◌, length, slice_get, Option, Some, None, refl, inl}
 use Rattle.card_app.specs.Answering.{card_answer}
-use Rattle.card_files.specs.Views.{AppData}
+use Rattle.card_files.specs.Views.{ImageData}
 use Rattle.card_pages.specs.Cuts.{Cut, cut_of}
 use Rattle.card_pages.specs.Pages.{found_of}
 use Rattle.card_state.specs.Decisions.{Decided}
@@ -18,23 +18,23 @@ use Rattle.txn_replay.specs.Payment.{Payment, deal_for, end_at}
 use Rattle.txn_replay.specs.World.{Holder, CardRow, new_card}
 
 -- a purchase has the card, or nothing is decided
-abbrev pub Live : List AppData → CardRow → List ℕ → Type 0
+abbrev pub Live : ImageData → CardRow → List ℕ → Type 0
 Live image card command = ((h : Holder) × (card.holder ≡ Some h)) ⊎ ((card_answer image card.kept card.session command).new ≡ [])
 
 -- a new card has it, and each event keeps it
-pub record Closed (P : List AppData → CardRow → Type 0) : Type 0 where
-  pub first : (image : List AppData) → P image new_card
-  pub powers : (image : List AppData) (card : CardRow) (with_it : Bool) (holder : Option Holder) → P image card
+pub record Closed (P : ImageData → CardRow → Type 0) : Type 0 where
+  pub first : (image : ImageData) → P image new_card
+  pub powers : (image : ImageData) (card : CardRow) (with_it : Bool) (holder : Option Holder) → P image card
       → P image (powered card (found_of card.kept card.pending with_it) holder)
-  pub answers : (image : List AppData) (card : CardRow) (command : List ℕ) → Live image card command → P image card
+  pub answers : (image : ImageData) (card : CardRow) (command : List ℕ) → Live image card command → P image card
       → P image (exchanged image card command (card_answer image card.kept card.session command))
-  pub tells : (image : List AppData) (card : CardRow) → P image card → P image (told_once card)
-  pub cuts : (image : List AppData) (card : CardRow) (tear : Option Tear) (cut : Cut) (h : Holder) → card.holder ≡ Some h → P image card
+  pub tells : (image : ImageData) (card : CardRow) → P image card → P image (told_once card)
+  pub cuts : (image : ImageData) (card : CardRow) (tear : Option Tear) (cut : Cut) (h : Holder) → card.holder ≡ Some h → P image card
       → P image (freed (torn card tear cut))
-  pub loses : (image : List AppData) (card : CardRow) → P image card → P image (lost card)
-  pub frees : (image : List AppData) (card : CardRow) → P image card → P image (freed card)
+  pub loses : (image : ImageData) (card : CardRow) → P image card → P image (lost card)
+  pub frees : (image : ImageData) (card : CardRow) → P image card → P image (freed card)
 
-module _ (P : List AppData → CardRow → Type 0) (closed : Closed P) (p : Payment) where
+module _ (P : ImageData → CardRow → Type 0) (closed : Closed P) (p : Payment) where
   settled_keeps : (replies : List Reply) (part : Part) (lines : List Line) (e : Option EndData) → P p.card.image part.card
       → P p.card.image (settled_by p replies part lines e).part.card
   settled_keeps replies part lines None holds = holds

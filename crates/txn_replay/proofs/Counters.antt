@@ -8,7 +8,7 @@ use Rattle.std.proofs.lemmas.List.Elements.{filter-append}
 use Rattle.std.proofs.lemmas.List.Sums.{sum_by-append}
 use Rattle.std.proofs.lemmas.Option.{slice_get-map}
 use Rattle.card_files.specs.Files.{opening_of}
-use Rattle.card_files.specs.Views.{AppData}
+use Rattle.card_files.specs.Views.{AppData, ImageData}
 use Rattle.card_state.specs.Decisions.{Decided, is_start}
 use Rattle.card_state.specs.Totals.{totals, apps_totals, app_totals, own_decisions}
 use Rattle.card_state.specs.declared.decision.Decision.{Decision}
@@ -34,13 +34,13 @@ abbrev counter_by : Option AppData → ℕ → List Decided → ℕ
 counter_by None app ds = 0
 counter_by (Some a) app ds = a.opening.counter + starts app ds
 
-counter_is : (image : List AppData) (ds : List Decided) (app : ℕ) → counter_of image ds app ≡ counter_by (slice_get image app) app ds
+counter_is : (image : ImageData) (ds : List Decided) (app : ℕ) → counter_of image ds app ≡ counter_by (slice_get image.apps app) app ds
 unfolding counter_of totals app_totals
 counter_is image ds app =
     ap counter_in
     (at_app 0 app (opening_of image).apps.items ds
-    ∙ ap (λ (o : Option AppState). option_map (λ x. app_totals x (own_decisions (0 + app) ds)) o) (slice_get-map (λ (a : AppData). a.opening) image app))
-    ∙ by_app (slice_get image app)
+    ∙ ap (λ (o : Option AppState). option_map (λ x. app_totals x (own_decisions (0 + app) ds)) o) (slice_get-map (λ (a : AppData). a.opening) image.apps app))
+    ∙ by_app (slice_get image.apps app)
   where
     by_app : (o : Option AppData)
         → counter_in (option_map (λ x. app_totals x (own_decisions (0 + app) ds)) (option_map (λ (a : AppData). a.opening) o)) ≡ counter_by o app ds
@@ -56,11 +56,11 @@ starts-append app ds es =
     ∙ sum_by-append (λ (d : Decision). cond (is_start d) 1 0) (map (λ (d : Decided). d.decision) (filter (λ d. d.app == app) ds))
     (map (λ (d : Decided). d.decision) (filter (λ d. d.app == app) es))
 
-pub counter_grows : (image : List AppData) (ds es : List Decided) (app : ℕ) → counter_of image ds app ≤ counter_of image (ds ++ es) app
+pub counter_grows : (image : ImageData) (ds es : List Decided) (app : ℕ) → counter_of image ds app ≤ counter_of image (ds ++ es) app
 counter_grows image ds es app =
-    let before : counter_of image ds app ≡ counter_by (slice_get image app) app ds = counter_is image ds app in
-    let after : counter_of image (ds ++ es) app ≡ counter_by (slice_get image app) app (ds ++ es) = counter_is image (ds ++ es) app in
-    let more : counter_by (slice_get image app) app ds ≤ counter_by (slice_get image app) app (ds ++ es) = by_app (slice_get image app) in
+    let before : counter_of image ds app ≡ counter_by (slice_get image.apps app) app ds = counter_is image ds app in
+    let after : counter_of image (ds ++ es) app ≡ counter_by (slice_get image.apps app) app (ds ++ es) = counter_is image (ds ++ es) app in
+    let more : counter_by (slice_get image.apps app) app ds ≤ counter_by (slice_get image.apps app) app (ds ++ es) = by_app (slice_get image.apps app) in
     omega arith
   where
     by_app : (o : Option AppData) → counter_by o app ds ≤ counter_by o app (ds ++ es)
@@ -71,7 +71,7 @@ one_start : (app : ℕ) → starts app (record { app = app; decision = Started }
 unfolding own_decisions
 one_start app = rw (eq-eqb app app refl) refl
 
-pub counter_raised : (image : List AppData) (ds : List Decided) (app : ℕ) (a : AppData) → slice_get image app ≡ Some a
+pub counter_raised : (image : ImageData) (ds : List Decided) (app : ℕ) (a : AppData) → slice_get image.apps app ≡ Some a
     → counter_of image ds app + 1 ≤ counter_of image (ds ++ record { app = app; decision = Started } ∷ []) app
 counter_raised image ds app a there =
     let new : List Decided = record { app = app; decision = Started } ∷ [] in
@@ -84,11 +84,11 @@ counter_raised image ds app a there =
     omega arith
 
 -- a decision that starts no transaction leaves it
-pub counter_stays : (image : List AppData) (ds : List Decided) (app : ℕ) (decision : Decision) → is_start decision ≡ false
+pub counter_stays : (image : ImageData) (ds : List Decided) (app : ℕ) (decision : Decision) → is_start decision ≡ false
     → counter_of image (ds ++ record { app = app; decision = decision } ∷ []) app ≡ counter_of image ds app
 unfolding own_decisions
 counter_stays image ds app decision none =
-    counter_is image (ds ++ new) app ∙ by_app (slice_get image app) ∙ sym (counter_is image ds app)
+    counter_is image (ds ++ new) app ∙ by_app (slice_get image.apps app) ∙ sym (counter_is image ds app)
   where
     new : List Decided
     new = record { app = app; decision = decision } ∷ []
@@ -100,7 +100,7 @@ counter_stays image ds app decision none =
     by_app None = refl
     by_app (Some a) = let split : starts app (ds ++ new) ≡ starts app ds + starts app new = starts-append app ds new in let zero_more : starts app new ≡ 0 = no_start in omega arith
 
-pub counter_here : (image : List AppData) (ds : List Decided) (app : ℕ) (s : AppState) → slice_get (totals (opening_of image) ds).apps.items app ≡ Some s
+pub counter_here : (image : ImageData) (ds : List Decided) (app : ℕ) (s : AppState) → slice_get (totals (opening_of image) ds).apps.items app ≡ Some s
     → counter_of image ds app ≡ s.counter
 unfolding counter_of
 counter_here image ds app s here = ap counter_in here

@@ -8,16 +8,17 @@ use Rattle.apdu_core.specs.Command.{CommandData, command_of, tail_of, tail_bytes
 use Rattle.apdu_core.specs.Response.{response_of, response_bytes}
 use Rattle.card_app.specs.Answering.{instruction_row, row, row_or_refusal, reply_in, card_reply, card_answer, options_row}
 use Rattle.card_app.specs.Cryptograms.{generate_row, generate_asked}
-use Rattle.card_app.specs.Files.{select_row, selected_reply, shown_for, data_row, data_for, data_object}
+use Rattle.card_app.specs.Files.{select_row, selected_reply, shown_for, is_behind_directory, app_reply, directory_or, data_row, data_for, data_object}
 use Rattle.card_app.specs.Options.{options_of}
 use Rattle.card_app.specs.Replies.{with_both}
+use Rattle.card_app.specs.Selection.{found, directory_asked}
 use Rattle.card_app.specs.Session.{Exchange, phase_of}
 use Rattle.card_cryptogram.specs.Asked.{is_class, kind_asked}
 use Rattle.card_cryptogram.specs.Phases.{current}
 use Rattle.card_cryptogram.specs.declared.phase.Phase.{Phase}
-use Rattle.card_cryptogram.specs.declared.phase.Phase.TheVariants.{Idle, Selected, Started, Online, Closed, Done}
+use Rattle.card_cryptogram.specs.declared.phase.Phase.TheVariants.{Idle, Directory, Selected, Started, Online, Closed, Done}
 use Rattle.card_files.specs.Files.{opening_of}
-use Rattle.card_files.specs.Views.{AppData}
+use Rattle.card_files.specs.Views.{AppData, ImageData}
 use Rattle.card_pages.specs.Replies.{ReplyData, refused, decides}
 use Rattle.card_state.specs.Decisions.{Decided}
 use Rattle.card_state.specs.Totals.{totals}
@@ -40,29 +41,37 @@ both_new (Some a) (Some s) reply none = none a s
 both_new (Some a) None reply none = refl
 both_new None s reply none = refl
 
-select_new : (image : List AppData) (state : CardState) (phase : Phase) (c : CommandData) → (select_row image state phase c).new ≡ []
+select_new : (image : ImageData) (state : CardState) (phase : Phase) (c : CommandData) → (select_row image state phase c).new ≡ []
 unfolding select_row
-select_new image state phase c = search (if_new, of_found)
+select_new image state phase c =
+    let none : (directory_or (directory_asked image c.p2 c.body) (app_reply image state phase c)).new ≡ [] =
+    of_directory (directory_asked image c.p2 c.body) (of_app (found image.apps phase c.p2 c.body)) in
+    search (if_new, none)
   where
-    of_found : (o : Option ℕ) → (selected_reply image state o).new ≡ []
-    of_found None = refl
-    of_found (Some app) = both_new (slice_get image app) (slice_get state.apps.items app) shown_for (λ a s. refl)
+    of_app : (o : Option ℕ) → (selected_reply image.apps state o).new ≡ []
+    of_app None = refl
+    of_app (Some app) = both_new (slice_get image.apps app) (slice_get state.apps.items app) shown_for (λ a s. refl)
+
+    of_directory : (o : Option ℕ) → (selected_reply image.apps state (found image.apps phase c.p2 c.body)).new ≡ [] → (directory_or o (app_reply image state phase c)).new ≡ []
+    of_directory (Some sfi) none = refl
+    of_directory None none =
+        if_new (is_behind_directory phase c.p2) (refused 0x6A82) (selected_reply image.apps state (found image.apps phase c.p2 c.body)) refl none
 
 object_new : (p1 p2 : ℕ) (a : AppData) (s : AppState) → (data_object p1 p2 a s).new ≡ []
 unfolding data_object
 object_new p1 p2 a s = search if_new
 
-data_new : (image : List AppData) (state : CardState) (phase : Phase) (c : CommandData) → (data_row image state phase c).new ≡ []
+data_new : (image : ImageData) (state : CardState) (phase : Phase) (c : CommandData) → (data_row image state phase c).new ≡ []
 unfolding data_row
 data_new image state phase c = of_app (current phase)
   where
     of_app : (o : Option ℕ) → (data_for image state o c).new ≡ []
     of_app None = refl
-    of_app (Some app) = if_new _ _ _ refl (both_new (slice_get image app) (slice_get state.apps.items app) (data_object c.p1 c.p2) (object_new c.p1 c.p2))
+    of_app (Some app) = if_new _ _ _ refl (both_new (slice_get image.apps app) (slice_get state.apps.items app) (data_object c.p1 c.p2) (object_new c.p1 c.p2))
 
 -- whatever the card has decided, and wherever it is in its session
 abbrev pub Idles : List ℕ → Type 0
-Idles command = (image : List AppData) (ds : List Decided) (session : List Exchange) → (card_answer image ds session command).new ≡ []
+Idles command = (image : ImageData) (ds : List Decided) (session : List Exchange) → (card_answer image ds session command).new ≡ []
 
 pub select_idles : (name : List ℕ) → Idles (select_command 0 name)
 unfolding card_reply reply_in command_of instruction_row
@@ -115,7 +124,7 @@ skip : {A : Type 0} (b : Bool) (x y : A) → (if b && false then x else y) ≡ y
 skip true x y = refl
 skip false x y = refl
 
-module _ (image : List AppData) (state : CardState) where
+module _ (image : ImageData) (state : CardState) where
   pub generate_is : (phase : Phase) (c : CommandData) → c.class ≡ 0x80 → c.ins ≡ 0xAE → row image state phase c ≡ generate_row image state phase c
   unfolding instruction_row
   generate_is phase c class ins = rw (class, ins) refl
@@ -140,6 +149,7 @@ module _ (image : List AppData) (state : CardState) where
 -- the application whose transaction has begun
 abbrev pub open_app : Phase → Option ℕ
 open_app Idle = None
+open_app Directory = None
 open_app (Selected app) = None
 open_app (Started app) = Some app
 open_app (Online app first sent) = Some app
@@ -147,9 +157,10 @@ open_app (Closed app) = Some app
 open_app (Done app first) = Some app
 
 -- GENERATE AC is answered 9000 only once the selected application has begun a transaction
-pub answered_open : (image : List AppData) (state : CardState) (phase : Phase) (c : CommandData) → c.class ≡ 0x80 → c.ins ≡ 0xAE
+pub answered_open : (image : ImageData) (state : CardState) (phase : Phase) (c : CommandData) → c.class ≡ 0x80 → c.ins ≡ 0xAE
     → IsGood (row image state phase c) → (app : ℕ) → current phase ≡ Some app → open_app phase ≡ Some app
 answered_open image state Idle c class ins good app here = here
+answered_open image state Directory c class ins good app here = here
 answered_open image state (Selected other) c class ins good app here =
     absurd (generate_bad image state other c (subst (λ (r : ReplyData). IsGood r) (generate_is image state (Selected other) c class ins) good))
 answered_open image state (Started other) c class ins good app here = here
@@ -158,7 +169,7 @@ answered_open image state (Closed other) c class ins good app here = here
 answered_open image state (Done other first) c class ins good app here = here
 
 -- GET PROCESSING OPTIONS that is answered 9000 takes a transaction counter.
-module _ (image : List AppData) (state : CardState) (ds : List Decided) (app : ℕ) where
+module _ (image : ImageData) (state : CardState) (ds : List Decided) (app : ℕ) where
   abbrev pub Raises : ReplyData → Type 0
   Raises reply = IsGood reply → counter_of image ds app + 1 ≤ counter_of image (ds ++ reply.new) app
 
@@ -169,7 +180,7 @@ module _ (image : List AppData) (state : CardState) (ds : List Decided) (app : �
   if_raises true x y first second = first
   if_raises false x y first second = second
 
-  options_raise : (blocked : Bool) (body : List ℕ) (a : AppData) (s : AppState) → slice_get image app ≡ Some a → Raises (options_of blocked app body a s)
+  options_raise : (blocked : Bool) (body : List ℕ) (a : AppData) (s : AppState) → slice_get image.apps app ≡ Some a → Raises (options_of blocked app body a s)
   unfolding options_of
   options_raise blocked body a s there =
       let size : Raises (refused 0x6700) = refuses 0x6700 (λ e. omega arith) in
@@ -179,9 +190,9 @@ module _ (image : List AppData) (state : CardState) (ds : List Decided) (app : �
 
   row_raises : (c : CommandData) → Raises (options_row image state (Selected app) c)
   unfolding options_row
-  row_raises c = if_raises _ _ _ (refuses 0x6A86 (λ e. omega arith)) (by_app (slice_get image app) (slice_get state.apps.items app) refl)
+  row_raises c = if_raises _ _ _ (refuses 0x6A86 (λ e. omega arith)) (by_app (slice_get image.apps app) (slice_get state.apps.items app) refl)
     where
-      by_app : (a : Option AppData) (s : Option AppState) → slice_get image app ≡ a → Raises (with_both a s (options_of state.blocked app c.body))
+      by_app : (a : Option AppData) (s : Option AppState) → slice_get image.apps app ≡ a → Raises (with_both a s (options_of state.blocked app c.body))
       by_app (Some a) (Some s) there = options_raise state.blocked c.body a s there
       by_app (Some a) None there = refuses 0x6985 (λ e. omega arith)
       by_app None s there = refuses 0x6985 (λ e. omega arith)

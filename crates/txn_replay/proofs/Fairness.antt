@@ -1,7 +1,7 @@
 -- The laws over every run.
 use Rattle.std.proofs.Common.{◌≡◌, ℕ, ◌<◌, ◌≤◌, Bool, List, length, slice_get, Some, subst, arith}
 use Rattle.std.proofs.lemmas.Option.{slice_get_within, get_or_from_slice_get}
-use Rattle.card_files.specs.Views.{AppData}
+use Rattle.card_files.specs.Views.{ImageData}
 use Rattle.host_histories.specs.BookedOnce.{BookedOnce}
 use Rattle.report_text.specs.declared.line.Line.{Line}
 use Rattle.scenario.specs.Cards.{CardData}
@@ -19,7 +19,7 @@ use Rattle.txn_replay.proofs.Prefixes.{IsKept, kept_closed}
 use Rattle.txn_replay.proofs.Uses.{IsCounted, counted_closed}
 
 -- a card of the world is one of the scenario's
-card_of_world : (P : List AppData → CardRow → Type 0) (s : ScenarioData) (w : World) → AllHold P s w → (i : ℕ) (row : CardRow)
+card_of_world : (P : ImageData → CardRow → Type 0) (s : ScenarioData) (w : World) → AllHold P s w → (i : ℕ) (row : CardRow)
     → slice_get w.cards i ≡ Some row → (card : CardData) × P card.image row
 card_of_world P s w hold i row here =
     let within : i < length w.cards = slice_get_within w.cards i row here in

@@ -5,7 +5,7 @@ use Rattle.std.specs.Prelude.{option_to_list, option_and_then}
 use Rattle.std.proofs.lemmas.List.{length-replicate}
 use Rattle.std.proofs.lemmas.List.Sums.{sum_by-cons}
 use Rattle.std.proofs.lemmas.Option.{slice_get_within, get_or_from_slice_get}
-use Rattle.card_files.specs.Views.{AppData}
+use Rattle.card_files.specs.Views.{AppData, ImageData}
 use Rattle.emv_dict.specs.Views.{PurchaseData}
 use Rattle.emv_dict.specs.declared.ending.Ending.{Ending}
 use Rattle.emv_dict.specs.declared.ending.Ending.TheVariants.{Approved, Declined, Terminated, CutOff}
@@ -223,22 +223,22 @@ asks_length i card [] = refl
 asks_length i card (app ∷ apps) =
     let others : length (flat_map (app_checks i card) apps) ≡ 3 * length apps = asks_length i card apps in omega arith
 
-card_length : (i : ℕ) (card : CardData) → length (card_checks i card) ≤ 1 + 3 * length card.image
+card_length : (i : ℕ) (card : CardData) → length (card_checks i card) ≤ 1 + 3 * length card.image.apps
 card_length i card = by_kind card.canned
   where
-    by_kind : (o : Option (List (List ℕ))) → length (checks_for i card o) ≤ 1 + 3 * length card.image
-    by_kind None = let asks : length (flat_map (app_checks i card) card.image) ≡ 3 * length card.image = asks_length i card card.image in omega arith
+    by_kind : (o : Option (List (List ℕ))) → length (checks_for i card o) ≤ 1 + 3 * length card.image.apps
+    by_kind None = let asks : length (flat_map (app_checks i card) card.image.apps) ≡ 3 * length card.image.apps = asks_length i card card.image.apps in omega arith
     by_kind (Some answers) = omega arith
 
-pub checks_length : (i : ℕ) (cards : List CardData) → ((k : ℕ) (card : CardData) → slice_get cards k ≡ Some card → length card.image ≤ 4)
+pub checks_length : (i : ℕ) (cards : List CardData) → ((k : ℕ) (card : CardData) → slice_get cards k ≡ Some card → length card.image.apps ≤ 4)
     → length (checks_from i cards) ≤ 13 * length cards
 unfolding checks_from
 checks_length i [] few = omega arith
 checks_length i (card ∷ cards) few =
-    let own : length (card_checks i card) ≤ 1 + 3 * length card.image = card_length i card in
+    let own : length (card_checks i card) ≤ 1 + 3 * length card.image.apps = card_length i card in
     let both : length (card_checks i card ++ checks_from (i + 1) cards) ≡ length (card_checks i card) + length (checks_from (i + 1) cards) =
     length-append (card_checks i card) (checks_from (i + 1) cards) in
-    let apps : length card.image ≤ 4 = few 0 card refl in
+    let apps : length card.image.apps ≤ 4 = few 0 card refl in
     let others : length (checks_from (i + 1) cards) ≤ 13 * length cards = checks_length (i + 1) cards (λ k other here. few (suc k) other here) in
     omega arith
 
@@ -248,12 +248,12 @@ checks_few s is =
     let cards : length s.cards ≤ 64 = is.tables.cards.few in
     omega arith
   where
-    of_kind : (image : List AppData) (o : Option (List (List ℕ))) → IsKind image o → length image ≤ 4
-    of_kind image None kind = kind.few
-    of_kind image (Some answers) kind = let none : length image ≡ 0 = ap length kind.0 in omega arith
+    of_kind : (image : ImageData) (o : Option (List (List ℕ))) → IsKind image o → length image.apps ≤ 4
+    of_kind image None kind = kind.apps.few
+    of_kind image (Some answers) kind = let none : length image.apps ≡ 0 = ap (λ (x : ImageData). length x.apps) kind.0 in omega arith
 
-    apps : (k : ℕ) (card : CardData) → slice_get s.cards k ≡ Some card → length card.image ≤ 4
+    apps : (k : ℕ) (card : CardData) → slice_get s.cards k ≡ Some card → length card.image.apps ≤ 4
     apps k card here =
         let rules : IsCard (get_or s.cards k card) = is.tables.cards.each k card (slice_get_within s.cards k card here) in
-        subst (λ (x : CardData). length x.image ≤ 4) (get_or_from_slice_get s.cards k card card here)
+        subst (λ (x : CardData). length x.image.apps ≤ 4) (get_or_from_slice_get s.cards k card card here)
         (of_kind (get_or s.cards k card).image (get_or s.cards k card).canned rules.kind)

@@ -2,7 +2,7 @@
 use Rattle.std.proofs.Common.{◌≡◌, ℕ, ◌+◌, Bool, List, slice_get, Option, Some, None, refl, sym, ap, ◌∙◌, subst, inr, arith}
 use Rattle.std.proofs.lemmas.Option.{same_Some}
 use Rattle.card_app.specs.Answering.{card_answer}
-use Rattle.card_files.specs.Views.{AppData}
+use Rattle.card_files.specs.Views.{ImageData}
 use Rattle.card_pages.specs.Pages.{found_of}
 use Rattle.report_text.specs.declared.line.Line.{Line}
 use Rattle.scenario.specs.Cards.{CardData}
@@ -42,11 +42,11 @@ module _ (s : ScenarioData) (Q : World → Type 0) (first : Q (first_world s))
   reached_keeps _ _ _ _ w (finished before past) = reached_keeps _ _ _ _ w before
 
 -- the world is sound, and each of its cards has this of its image
-pub record AllHold (P : List AppData → CardRow → Type 0) (s : ScenarioData) (w : World) : Type 0 where
+pub record AllHold (P : ImageData → CardRow → Type 0) (s : ScenarioData) (w : World) : Type 0 where
   pub sound : IsSound s w
   pub cards : (i : ℕ) (card : CardData) → slice_get s.cards i ≡ Some card → P card.image (card_at w i)
 
-module _ (P : List AppData → CardRow → Type 0) (closed : Closed P) (s : ScenarioData) where
+module _ (P : ImageData → CardRow → Type 0) (closed : Closed P) (s : ScenarioData) where
   -- what holds of the image of this number
   abbrev At : ℕ → CardRow → Type 0
   At i row = (card : CardData) → slice_get s.cards i ≡ Some card → P card.image row

@@ -49,4 +49,5 @@ pub mod Respelling
 pub mod Lost
 pub mod Unique
 pub mod SameTotals
+pub mod Showing
 mod Worked

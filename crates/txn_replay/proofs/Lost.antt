@@ -23,7 +23,7 @@ use Rattle.txn_replay.specs.Part.{Part, Moved, piece}
 use Rattle.txn_replay.specs.Payment.{Payment, payment_in, next_of}
 use Rattle.txn_replay.specs.Sound.{IsSound}
 use Rattle.txn_replay.specs.Steps.{Check, PowersUp, Asks, Settlement, settlements, settles, checks, audits, with_card, part_of, choice_in, turned_by, happens}
-use Rattle.txn_replay.specs.Run.{Finished, balance_line, account_lines, ended_count, closing, Run}
+use Rattle.txn_replay.specs.Run.{Finished, balance_line, account_lines, ended_count, closing}
 use Rattle.txn_replay.specs.Told.{card_next, card_told, is_loss_of, losses_behind, losses_told, HasLosses, RunsTellLosses, WholeRunsTellLosses}
 use Rattle.txn_replay.specs.World.{Past, CardRow, LaneRow, World, new_card, new_lane, first_world, card_at, lane_at}
 use Rattle.txn_replay.specs.declared.event.Event.{Event}

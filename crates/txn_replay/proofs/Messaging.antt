@@ -5,14 +5,12 @@ use Rattle.std.specs.List.{flat_map}
 use Rattle.std.proofs.lemmas.Bool.{eqb-true, eq-eqb, cases_eq}
 use Rattle.std.proofs.lemmas.List.{map-append, get_or-set_same, get_or-set_other}
 use Rattle.std.proofs.lemmas.List.Concat.{flat_map-append}
-use Rattle.host_link.specs.Delivery.{delivered}
 use Rattle.host_link.specs.Dialect.{call_in}
 use Rattle.kernel.specs.Ended.{EndData}
-use Rattle.kernel.specs.Reply.{Reply, from_host}
+use Rattle.kernel.specs.Reply.{Reply}
 use Rattle.report_text.specs.declared.line.Line.{Line}
 use Rattle.scenario.specs.Plan.{ScenarioData}
-use Rattle.txn_replay.specs.Changes.{freed}
-use Rattle.txn_replay.specs.Lines.{host_lines, settle_lines, end_line}
+use Rattle.txn_replay.specs.Lines.{host_lines, end_line}
 use Rattle.txn_replay.specs.Part.{Part, Moved, lane_ended, piece}
 use Rattle.txn_replay.specs.Payment.{Payment, dialect_of, next_of}
 use Rattle.txn_replay.specs.Sound.{IsSound}
@@ -26,7 +24,6 @@ use Rattle.txn_replay.proofs.Folding.{event_sound}
 use Rattle.txn_replay.proofs.Lining.{reached_lines, lane_behind}
 use Rattle.txn_replay.proofs.Lists.{get_or-map_const}
 use Rattle.txn_replay.proofs.Payments.{payment_facts}
-use Rattle.txn_replay.proofs.Sending.{Later}
 use Rattle.txn_replay.proofs.Settling.{settles_inside}
 use Rattle.txn_replay.proofs.Sounding.{first_sound}
 

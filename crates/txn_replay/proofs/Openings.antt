@@ -7,17 +7,20 @@ use Rattle.std.proofs.lemmas.Option.{same_Some}
 use Rattle.apdu_core.specs.Command.{CommandData, command_of}
 use Rattle.apdu_core.specs.Response.{ResponseData, response_of}
 use Rattle.card_app.specs.Answering.{row, reply_in, card_reply, card_answer, row_or_refusal}
-use Rattle.card_app.specs.Selection.{found}
-use Rattle.card_app.specs.Session.{Exchange, is_shown, selected, started, is_request, begun_of, first_in, with_cryptogram, authenticated, next_phase, after_said, after, phase_of}
+use Rattle.card_app.specs.Selection.{found, directory_asked}
+use Rattle.card_app.specs.Session.{Exchange, is_shown, selected, started, is_request, begun_of, first_in, directory_selected, with_cryptogram, authenticated, next_phase, after_said, after, phase_of}
+use Rattle.card_cryptogram.specs.Authentication.{told_by}
 use Rattle.card_cryptogram.specs.Bodies.{kind_in}
 use Rattle.card_cryptogram.specs.Phases.{current}
 use Rattle.card_cryptogram.specs.declared.phase.Phase.{Phase}
-use Rattle.card_cryptogram.specs.declared.phase.Phase.TheVariants.{Idle, Selected, Started, Online, Closed, Done}
+use Rattle.card_cryptogram.specs.declared.phase.Phase.TheVariants.{Idle, Directory, Selected, Started, Online, Closed, Done}
 use Rattle.card_files.specs.Files.{opening_of}
-use Rattle.card_files.specs.Views.{AppData}
+use Rattle.card_files.specs.Views.{AppData, ImageData}
 use Rattle.card_pages.specs.Replies.{ReplyData}
 use Rattle.card_state.specs.Decisions.{Decided}
 use Rattle.card_state.specs.Totals.{totals}
+use Rattle.card_state.specs.declared.decision.Auth.{Auth}
+use Rattle.card_state.specs.declared.decision.Auth.TheVariants.{Absent}
 use Rattle.card_state.specs.declared.state.CardState.{CardState}
 use Rattle.txn_replay.specs.Changes.{is_good, is_generate, counter_of}
 use Rattle.txn_replay.proofs.Deciding.{open_app, IsGood, answered_open, started_raises}
@@ -28,7 +31,7 @@ pub record Begins (phase : Phase) (c : CommandData) (status app : ℕ) : Type 0 
   pub good : status ≡ 0x9000
   pub selected : phase ≡ Selected app
 
-module _ (image : List AppData) (c : CommandData) (body : List ℕ) (status app : ℕ) where
+module _ (image : ImageData) (c : CommandData) (body : List ℕ) (status app : ℕ) where
   abbrev Came : Phase → Phase → Type 0
   Came phase next = open_app next ≡ Some app → (open_app phase ≡ Some app) ⊎ Begins phase c status app
 
@@ -40,9 +43,14 @@ module _ (image : List AppData) (c : CommandData) (body : List ℕ) (status app 
   select_came phase (Some other) = λ here. cc
   select_came phase None = λ here. inl here
 
+  directory_came : (phase : Phase) (o app : Option ℕ) → Came phase (directory_selected o (selected app phase))
+  directory_came phase (Some sfi) app = λ here. cc
+  directory_came phase None app = select_came phase app
+
   start_came : (phase : Phase) → c.ins ≡ 0xA8 → status ≡ 0x9000 → Came phase (started phase)
   start_came (Selected other) ins good = λ here. inr (record { ins = ins; good = good; selected = ap (λ n. Selected n) (same_Some other app here) })
   start_came Idle ins good = λ here. inl here
+  start_came Directory ins good = λ here. inl here
   start_came (Started other) ins good = λ here. inl here
   start_came (Online other first sent) ins good = λ here. inl here
   start_came (Closed other) ins good = λ here. inl here
@@ -57,20 +65,22 @@ module _ (image : List AppData) (c : CommandData) (body : List ℕ) (status app 
       by_kind false = λ here. inl here
 
   cryptogram_came : (phase : Phase) → Came phase (with_cryptogram image c.body body phase)
-  cryptogram_came (Started other) = begun_came other (slice_get image other)
+  cryptogram_came (Started other) = begun_came other (slice_get image.apps other)
   cryptogram_came (Online other first sent) = λ here. inl here
   cryptogram_came Idle = λ here. inl here
+  cryptogram_came Directory = λ here. inl here
   cryptogram_came (Selected other) = λ here. inl here
   cryptogram_came (Closed other) = λ here. inl here
   cryptogram_came (Done other first) = λ here. inl here
 
-  authenticate_came : (right : Bool) (phase : Phase) → Came phase (authenticated right phase)
-  authenticate_came right (Online other first sent) = λ here. inl here
-  authenticate_came right Idle = λ here. inl here
-  authenticate_came right (Selected other) = λ here. inl here
-  authenticate_came right (Started other) = λ here. inl here
-  authenticate_came right (Closed other) = λ here. inl here
-  authenticate_came right (Done other first) = λ here. inl here
+  authenticate_came : (auth : Auth) (phase : Phase) → Came phase (authenticated auth phase)
+  authenticate_came auth (Online other first sent) = λ here. inl here
+  authenticate_came auth Idle = λ here. inl here
+  authenticate_came auth Directory = λ here. inl here
+  authenticate_came auth (Selected other) = λ here. inl here
+  authenticate_came auth (Started other) = λ here. inl here
+  authenticate_came auth (Closed other) = λ here. inl here
+  authenticate_came auth (Done other first) = λ here. inl here
 
   two_came : (b : Bool) (phase one two : Phase) → Came phase one → Came phase two → Came phase (if b then one else two)
   two_came true phase one two first second = first
@@ -86,14 +96,14 @@ module _ (image : List AppData) (c : CommandData) (body : List ℕ) (status app 
   unfolding next_phase
   next_came phase =
       two_came (c.ins == 0xA4) phase _ _
-      (if_came (is_shown status) phase _ (select_came phase (found image phase c.p2 c.body)))
+      (if_came (is_shown status) phase _ (directory_came phase (directory_asked image c.p2 c.body) (found image.apps phase c.p2 c.body)))
       (start_if (c.ins == 0xA8) (status == 0x9000) phase refl refl _
       (two_came (c.ins == 0xAE) phase _ _ (if_came (status == 0x9000) phase _ (cryptogram_came phase))
       (two_came (c.ins == 0x82) phase _ _
-      (two_came (status == 0x9000) phase _ _ (authenticate_came true phase) (if_came (status == 0x6300) phase _ (authenticate_came false phase)))
+      (two_came (status == 0x9000) phase _ _ (authenticate_came (told_by c.body) phase) (if_came (status == 0x6300) phase _ (authenticate_came Absent phase)))
       (λ here. inl here))))
 
-module _ (image : List AppData) (ds : List Decided) (session : List Exchange) (command : List ℕ) where
+module _ (image : ImageData) (ds : List Decided) (session : List Exchange) (command : List ℕ) where
   abbrev phase : Phase
   phase = phase_of image session
 

@@ -4,7 +4,7 @@ use Rattle.std.proofs.lemmas.List.{append_assoc}
 use Rattle.std.proofs.lemmas.List.Sums.{fold_push}
 use Rattle.std.proofs.lemmas.Option.{same_Some}
 use Rattle.card_app.specs.Answering.{card_answer}
-use Rattle.card_files.specs.Views.{AppData}
+use Rattle.card_files.specs.Views.{ImageData}
 use Rattle.card_pages.specs.Cuts.{Cut, Left, Dropped, Joined, Pending, left_of, kept_by, pending_by}
 use Rattle.card_pages.specs.Pages.{found_of}
 use Rattle.card_pages.specs.Replies.{CardAnswer}
@@ -27,7 +27,7 @@ pub record IsTraced (t : Taken) (kept : List Decided) (pending : Option Decided)
   pub answered : t.sure ++ others ≡ kept
   pub held : (h : Holder) → holder ≡ Some h → rest ≡ []
 
-pub record IsKept (image : List AppData) (card : CardRow) : Type 0 where
+pub record IsKept (image : ImageData) (card : CardRow) : Type 0 where
   pub prefix : Prefix card.acts
   pub traced : IsTraced (taken_in card.acts) card.kept card.pending card.holder
 
@@ -163,7 +163,7 @@ found_traced found t holder = record {
   held = λ h is. refl;
 }
 
-powered_kept : (image : List AppData) (card : CardRow) (with_it : Bool) (holder : Option Holder) → IsKept image card
+powered_kept : (image : ImageData) (card : CardRow) (with_it : Bool) (holder : Option Holder) → IsKept image card
     → IsKept image (powered card (found_of card.kept card.pending with_it) holder)
 powered_kept image card with_it holder kept =
     let found : List Decided = found_of card.kept card.pending with_it in
@@ -174,7 +174,7 @@ powered_kept image card with_it holder kept =
       traced = traced_at card.acts (Found found) found None holder (found_traced found (taken_in card.acts) holder);
     }
 
-answer_kept : (image : List AppData) (card : CardRow) (command : List ℕ) → Live image card command → IsKept image card
+answer_kept : (image : ImageData) (card : CardRow) (command : List ℕ) → Live image card command → IsKept image card
     → IsKept image (exchanged image card command (card_answer image card.kept card.session command))
 answer_kept image card command live kept =
     record {
@@ -194,7 +194,7 @@ answer_kept image card command live kept =
         subst (λ (ds : List Decided). IsTraced (taken_next (taken_in card.acts) (Answering ds)) (card.kept ++ ds) card.pending card.holder) (sym none)
         (answered_off (taken_in card.acts) card.kept card.pending card.holder kept.traced)
 
-cut_kept : (image : List AppData) (card : CardRow) (tear : Option Tear) (cut : Cut) (h : Holder) → card.holder ≡ Some h → IsKept image card
+cut_kept : (image : ImageData) (card : CardRow) (tear : Option Tear) (cut : Cut) (h : Holder) → card.holder ≡ Some h → IsKept image card
     → IsKept image (freed (torn card tear cut))
 cut_kept image card tear cut h has kept = record {
   prefix = prefix-push card.acts (Breaking (cut.before ++ cut.cut ∷ [])) kept.prefix
@@ -206,7 +206,7 @@ cut_kept image card tear cut h has kept = record {
     not_found : (ds found : List Decided) → Breaking ds ≡ Found found → ⊥
     not_found ds found same = cc
 
-freed_kept : (image : List AppData) (card : CardRow) → IsKept image card → IsKept image (freed card)
+freed_kept : (image : ImageData) (card : CardRow) → IsKept image card → IsKept image (freed card)
 freed_kept image card kept = record {
   prefix = kept.prefix;
   traced = record {
@@ -220,7 +220,7 @@ freed_kept image card kept = record {
   };
 }
 
-first_kept : (image : List AppData) → IsKept image new_card
+first_kept : (image : ImageData) → IsKept image new_card
 unfolding taken_in
 first_kept image = record {
   prefix = λ k found here. cc;

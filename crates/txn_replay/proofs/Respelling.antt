@@ -22,12 +22,12 @@ use Rattle.scenario_lanes.specs.Plan.{LaneData}
 use Rattle.scenario_lanes.specs.declared.plan.Planned.{Planned}
 use Rattle.txn_replay.specs.Changes.{exchanged, told_once, torn, lost}
 use Rattle.txn_replay.specs.Lines.{power_line, power_canned_line, power_torn_line, answer_lines, torn_lines, gone_lines, host_lines, end_line}
-use Rattle.txn_replay.specs.Part.{Part, Moved, still, settled_by, sending, on_for, cut_ends, answered, canned_by, asked_by, asked, begun, begun_by, begun_with, piece_by, piece}
+use Rattle.txn_replay.specs.Part.{Part, Moved, settled_by, sending, on_for, cut_ends, answered, canned_by, asked_by, asked, begun, begun_by, begun_with, piece_by, piece}
 use Rattle.txn_replay.specs.Payment.{Payment, payment_with, payment_of, payment_on, payment_in, is_iso, dialect_of, next_of, deal_for, end_at}
-use Rattle.txn_replay.specs.Respelled.{lanes_in, in_dialects, is_host, Respelled, same, call, reply, settle_call, settle_reply, AreRespelled, DialectsShow, WholeDialectsShow}
-use Rattle.txn_replay.specs.Run.{Place, Scheduled, Round, Finished, Reached, start, scheduled, rounds, round, again, settlement, settling, audit, auditing, finished, lane_over, all_below, all_over, balance_line, account_lines, ended_count, closing, Run}
+use Rattle.txn_replay.specs.Respelled.{lanes_in, in_dialects, same, call, reply, settle_call, settle_reply, AreRespelled, DialectsShow, WholeDialectsShow}
+use Rattle.txn_replay.specs.Run.{Place, Scheduled, Round, Finished, Reached, start, scheduled, rounds, round, again, settlement, settling, audit, auditing, finished, lane_over, all_below, all_over, balance_line, account_lines, ended_count, closing}
 use Rattle.txn_replay.specs.Steps.{After, Settlement, Check, PowersUp, Asks, part_of, moved, choice_in, turned_by, settlements, settles, checks, audits, happens, Step}
-use Rattle.txn_replay.specs.World.{Holder, CardRow, LaneRow, World, new_lane, first_world, lane_at}
+use Rattle.txn_replay.specs.World.{Holder, LaneRow, World, new_lane, first_world, lane_at}
 use Rattle.txn_replay.specs.declared.event.Event.{Event}
 use Rattle.txn_replay.specs.declared.event.Event.TheVariants.{Turn, Settle, Audit}
 use Rattle.txn_replay.proofs.Payments.{payment_facts}

@@ -5,7 +5,7 @@ use Rattle.std.proofs.lemmas.Bool.{eqb-true, and_parts}
 use Rattle.apdu_core.specs.Command.{CommandData, command_of}
 use Rattle.apdu_core.specs.Response.{response_of, response_bytes}
 use Rattle.card_app.specs.Answering.{reply_in, row_or_refusal, card_reply, card_answer}
-use Rattle.card_app.specs.Cryptograms.{amount_in, cryptogram_for, first_for, second_by, second_made, second_for, generate_in, generate_asked, generate_row}
+use Rattle.card_app.specs.Cryptograms.{sale_for, cryptogram_for, first_for, second_by, second_made, second_for, generate_in, generate_asked, generate_row}
 use Rattle.card_app.specs.OwnLists.{cdol_of}
 use Rattle.card_app.specs.Replies.{with_both}
 use Rattle.card_app.specs.Session.{Exchange, phase_of}
@@ -16,13 +16,14 @@ use Rattle.card_cryptogram.specs.Asked.{is_online, kind_asked}
 use Rattle.card_cryptogram.specs.Fields.{given_from, code_given}
 use Rattle.card_cryptogram.specs.declared.phase.First.{First as FirstData}
 use Rattle.card_cryptogram.specs.declared.phase.Phase.{Phase}
-use Rattle.card_cryptogram.specs.declared.phase.Phase.TheVariants.{Idle, Selected, Started, Online, Closed, Done}
+use Rattle.card_cryptogram.specs.declared.phase.Phase.TheVariants.{Idle, Directory, Selected, Started, Online, Closed, Done}
 use Rattle.card_files.specs.Files.{opening_of}
-use Rattle.card_files.specs.Views.{AppData}
+use Rattle.card_files.specs.Views.{AppData, ImageData}
 use Rattle.card_pages.specs.Replies.{ReplyData, refused}
 use Rattle.card_state.specs.Change.{changed}
 use Rattle.card_state.specs.Decisions.{Decided, is_start}
 use Rattle.card_state.specs.Totals.{totals}
+use Rattle.card_state.specs.declared.decision.Auth.{Auth}
 use Rattle.card_state.specs.declared.decision.Decision.{Decision}
 use Rattle.card_state.specs.declared.decision.Decision.TheVariants.{Second}
 use Rattle.card_state.specs.declared.decision.How.{How}
@@ -37,12 +38,12 @@ use Rattle.txn_replay.proofs.Counters.{counter_here, counter_stays}
 use Rattle.txn_replay.proofs.Deciding.{IsGood, refused_bad, generate_is}
 
 -- one row is given, and the answer holds its counter
-pub record OneRow (image : List AppData) (kept : List Decided) (app : Option ℕ) (holder : Holder) (answer : List ℕ) : Type 0 where
+pub record OneRow (image : ImageData) (kept : List Decided) (app : Option ℕ) (holder : Holder) (answer : List ℕ) : Type 0 where
   pub given : Given
   pub is : given_for image kept app (Some holder) ≡ given ∷ []
   pub told : IsRow image holder given answer
 
-module _ (image : List AppData) (ds : List Decided) (holder : Holder) where
+module _ (image : ImageData) (ds : List Decided) (holder : Holder) where
   abbrev state : CardState
   state = totals (opening_of image) ds
 
@@ -57,7 +58,7 @@ module _ (image : List AppData) (ds : List Decided) (holder : Holder) where
   if_told phase false x y first second = second
 
   made : (phase : Phase) (app : ℕ) (a : AppData) (s : AppState) (kind : Kind) (decision : Decision) (filled : Filled) → current phase ≡ Some app
-      → slice_get image app ≡ Some a → slice_get state.apps.items app ≡ Some s → is_start decision ≡ false
+      → slice_get image.apps app ≡ Some a → slice_get state.apps.items app ≡ Some s → is_start decision ≡ false
       → Told phase (cryptogram_for app a s kind decision filled)
   unfolding body_of
   made phase app a s kind decision filled now there has none good = record {
@@ -89,27 +90,27 @@ module _ (image : List AppData) (ds : List Decided) (holder : Holder) where
           ∙ sym (counter_stays image ds app decision none)
 
   both : (phase : Phase) (app : ℕ) (reply : AppData → AppState → ReplyData)
-      → ((a : AppData) (s : AppState) → slice_get image app ≡ Some a → slice_get state.apps.items app ≡ Some s → Told phase (reply a s))
-      → (a : Option AppData) (s : Option AppState) → slice_get image app ≡ a → slice_get state.apps.items app ≡ s → Told phase (with_both a s reply)
+      → ((a : AppData) (s : AppState) → slice_get image.apps app ≡ Some a → slice_get state.apps.items app ≡ Some s → Told phase (reply a s))
+      → (a : Option AppData) (s : Option AppState) → slice_get image.apps app ≡ a → slice_get state.apps.items app ≡ s → Told phase (with_both a s reply)
   both phase app reply told (Some a) (Some s) there has = told a s there has
   both phase app reply told (Some a) None there has = refuses phase 0x6985 (λ e. omega arith)
   both phase app reply told None s there has = refuses phase 0x6985 (λ e. omega arith)
 
-  first_told : (app : ℕ) (asked : Kind) (filled : List ℕ) (a : AppData) (s : AppState) → slice_get image app ≡ Some a
+  first_told : (app : ℕ) (asked : Kind) (filled : List ℕ) (a : AppData) (s : AppState) → slice_get image.apps app ≡ Some a
       → slice_get state.apps.items app ≡ Some s → Told (Started app) (first_for state.blocked app asked filled a s)
   unfolding first_for
   first_told app asked filled a s there has =
       if_told (Started app) _ _ _ (refuses (Started app) 0x6700 (λ e. omega arith)) (made (Started app) app a s _ _ _ refl there has refl)
 
-  second_told : (app : ℕ) (first : FirstData) (sent : Option Bool) (asked : Kind) (filled : List ℕ) (a : AppData) (s : AppState)
-      → slice_get image app ≡ Some a → slice_get state.apps.items app ≡ Some s
+  second_told : (app : ℕ) (first : FirstData) (sent : Option Auth) (asked : Kind) (filled : List ℕ) (a : AppData) (s : AppState)
+      → slice_get image.apps app ≡ Some a → slice_get state.apps.items app ≡ Some s
       → Told (Online app first sent) (second_for state.blocked app first sent asked filled a s)
   unfolding second_for
   second_told app first sent asked filled a s there has =
       if_told phase (not (length filled == total_of (cdol_of a.cdol2))) (refused 0x6700) (if is_online asked then refused 0x6A86 else reply)
       (refuses phase 0x6700 (λ e. omega arith))
       (if_told phase (is_online asked) (refused 0x6A86) reply (refuses phase 0x6A86 (λ e. omega arith))
-      (made phase app a s by.0 (Second by.0 by.1 (amount_in given)) given refl there has refl))
+      (made phase app a s by.0 (Second by.0 by.1 (sale_for a given)) given refl there has refl))
     where
       phase : Phase
       phase = Online app first sent
@@ -129,12 +130,13 @@ module _ (image : List AppData) (ds : List Decided) (holder : Holder) where
     where
       by_phase : (phase : Phase) (asked : Kind) → Told phase (generate_in image state phase asked c.body)
       by_phase (Started app) asked =
-          both (Started app) app (first_for state.blocked app asked c.body) (first_told app asked c.body) (slice_get image app)
+          both (Started app) app (first_for state.blocked app asked c.body) (first_told app asked c.body) (slice_get image.apps app)
           (slice_get state.apps.items app) refl refl
       by_phase (Online app first sent) asked =
           both (Online app first sent) app (second_for state.blocked app first sent asked c.body) (second_told app first sent asked c.body)
-          (slice_get image app) (slice_get state.apps.items app) refl refl
+          (slice_get image.apps app) (slice_get state.apps.items app) refl refl
       by_phase Idle asked = refuses Idle 0x6985 (λ e. omega arith)
+      by_phase Directory asked = refuses Directory 0x6985 (λ e. omega arith)
       by_phase (Selected app) asked = refuses (Selected app) 0x6985 (λ e. omega arith)
       by_phase (Closed app) asked = refuses (Closed app) 0x6985 (λ e. omega arith)
       by_phase (Done app first) asked = refuses (Done app first) 0x6985 (λ e. omega arith)

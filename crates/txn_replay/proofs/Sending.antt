@@ -1,6 +1,6 @@
 -- What a purchase makes of its lane beside going on and ending: it begins, and makes messages for the host; and lanes that
 -- differ at most in those messages, as settlement leaves them.
-use Rattle.std.proofs.Common.{◌≡◌, ℕ, zero, suc, Bool, ◌&&◌, List, [], length, slice_get, Option, Some, None, refl, ap, ◌∙◌}
+use Rattle.std.proofs.Common.{◌≡◌, ℕ, zero, suc, Bool, ◌&&◌, List, [], length, Option, Some, None, refl, ap, ◌∙◌}
 use Rattle.std.specs.Prelude.{is_none}
 use Rattle.std.proofs.lemmas.List.{length-set}
 use Rattle.card_state.specs.Decisions.{Decided}

@@ -5,7 +5,7 @@ use Rattle.std.specs.List.{list_any}
 use Rattle.std.proofs.lemmas.List.{get_or-set_same}
 use Rattle.std.proofs.lemmas.Option.{slice_get_within}
 use Rattle.card_app.specs.Answering.{card_answer}
-use Rattle.card_files.specs.Views.{AppData}
+use Rattle.card_files.specs.Views.{ImageData}
 use Rattle.card_pages.specs.Pages.{found_of}
 use Rattle.card_state.specs.Decisions.{Decided}
 use Rattle.kernel.specs.Ended.{EndData}
@@ -29,7 +29,7 @@ use Rattle.txn_replay.proofs.Payments.{payment_facts}
 use Rattle.txn_replay.proofs.Prefixes.{taken-push}
 use Rattle.txn_replay.proofs.Sounding.{has_card}
 
-abbrev HeldSure : List AppData → CardRow → Type 0
+abbrev HeldSure : ImageData → CardRow → Type 0
 HeldSure image card = (h : Holder) → card.holder ≡ Some h → IsSure card
 
 -- a power-up found them all
@@ -40,7 +40,7 @@ found_sure card found holder = record {
 }
 
 -- an answer makes those sure that were taken for it
-answer_sure : (image : List AppData) (card : CardRow) (command : List ℕ) → IsSure card
+answer_sure : (image : ImageData) (card : CardRow) (command : List ℕ) → IsSure card
     → IsSure (exchanged image card command (card_answer image card.kept card.session command))
 answer_sure image card command is = record {
   all = ap (λ (t : Taken). t.all) (taken-push card.acts (Answering new)) ∙ ap (λ (ds : List Decided). ds ++ new) is.all;

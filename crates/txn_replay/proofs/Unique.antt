@@ -19,8 +19,7 @@ use Rattle.txn_replay.specs.Choices.{leaves_open, leaves_choice, LeavesNone, Non
 use Rattle.txn_replay.specs.Lines.{audit_power_line}
 use Rattle.txn_replay.specs.Part.{Part, Moved, powered_up, begun, begun_by, begun_with, piece_by, piece}
 use Rattle.txn_replay.specs.Payment.{Payment, next_of}
-use Rattle.txn_replay.specs.Run.{Place, Scheduled, Round, Settling, Auditing, Finished, Reached, start, scheduled, rounds, round, again, settlement, settling, audit, auditing, finished, all_over, closing, Run}
-use Rattle.txn_replay.specs.Sound.{IsSound}
+use Rattle.txn_replay.specs.Run.{Place, Scheduled, Round, Settling, Auditing, Finished, Reached, start, scheduled, rounds, round, again, settlement, settling, audit, auditing, finished, all_over, closing}
 use Rattle.txn_replay.specs.Steps.{After, Check, PowersUp, Asks, Settlement, settlements, settles, checks, audits, with_card, part_of, moved, choice_in, turned_by, happens, Step}
 use Rattle.txn_replay.specs.World.{Holder, CardRow, LaneRow, World, new_card, first_world, card_at}
 use Rattle.txn_replay.specs.declared.event.Event.{Event}

@@ -7,7 +7,7 @@ use Rattle.apdu_core.specs.Response.{response_of}
 use Rattle.card_app.specs.Answering.{card_answer}
 use Rattle.card_app.specs.Session.{phase_of}
 use Rattle.card_cryptogram.specs.Phases.{current}
-use Rattle.card_files.specs.Views.{AppData}
+use Rattle.card_files.specs.Views.{ImageData}
 use Rattle.card_pages.specs.Cuts.{Cut, Left, Dropped, Joined, Pending, left_of, kept_by}
 use Rattle.card_pages.specs.Pages.{found_of}
 use Rattle.card_pages.specs.Replies.{CardAnswer}
@@ -28,13 +28,13 @@ IsGiven card x = (k : ℕ) × (slice_get card.given k ≡ Some x)
 
 -- no row's counter is above the application's; those with the counter of a transaction that has begun are of the
 -- purchase that has the card; and no counter serves two purchases
-pub record IsCounted (image : List AppData) (card : CardRow) : Type 0 where
+pub record IsCounted (image : ImageData) (card : CardRow) : Type 0 where
   pub low : (x : Given) → IsGiven card x → x.counter ≤ counter_of image card.kept x.app
   pub fresh : (app : ℕ) → open_app (phase_of image card.session) ≡ Some app → (h : Holder) → card.holder ≡ Some h
       → (x : Given) → IsGiven card x → x.app ≡ app → counter_of image card.kept app ≤ x.counter → x.holder ≡ h
   pub once : OneUse card.given
 
-module _ (image : List AppData) where
+module _ (image : ImageData) where
   -- decisions that join change no row
   still_low : (card : CardRow) (more : List Decided) → IsCounted image card → (x : Given) → IsGiven card x
       → x.counter ≤ counter_of image (card.kept ++ more) x.app

@@ -8,7 +8,7 @@ use Rattle.std.proofs.lemmas.Bool.Decides.{eqb_tells}
 use Rattle.std.proofs.lemmas.List.Sums.{sum_by-cons}
 use Rattle.std.proofs.lemmas.Option.{slice_get_within, slice_get_past, get_or_from_slice_get}
 use Rattle.card_files.specs.Files.{opening_of}
-use Rattle.card_files.specs.Views.{AppData}
+use Rattle.card_files.specs.Views.{ImageData}
 use Rattle.card_pages.specs.Pages.{MayStand}
 use Rattle.card_state.specs.Decisions.{Decided}
 use Rattle.emv_ports.specs.Memory.{Memory, IsBlank}
@@ -199,11 +199,11 @@ pages_are (OfApps chip) memory card row plan left is lost stands =
     subst (λ (o : Option (List (List ℕ))). PagesAre memory card row o) (sym is.0)
     (record {
       off = left.off;
-      may = subst (λ (image : List AppData). MayStand memory.cells (opening_of image) row.kept row.pending) is.1
+      may = subst (λ (image : ImageData). MayStand memory.cells image.version (opening_of image) row.kept row.pending) is.1
           (elim stands [
             | inl off ↦ left.may row.kept row.pending off
             | inr on ↦
-                subst (λ (o : Option Decided). MayStand memory.cells (opening_of chip.image) row.kept o) (sym on.1)
+                subst (λ (o : Option Decided). MayStand memory.cells chip.image.version (opening_of chip.image) row.kept o) (sym on.1)
                 (left.stands row.session row.kept plan row.made on.0)
           ]);
       losses = left.losses ∙ lost;

@@ -10,9 +10,11 @@ use Rattle.emv_ports.specs.declared.tear.TearAt.TheVariants.{Before}
 use Rattle.issuer_host.specs.declared.keys.HostKeys.{HostKeys}
 use Rattle.kernel.specs.Course.{card_step}
 use Rattle.kernel.specs.Dialogue.{dialogue}
+use Rattle.pse_directory.specs.Directory.{selecting_by}
 use Rattle.report_text.specs.declared.line.EndParts.{EndParts}
 use Rattle.report_text.specs.declared.line.Line.{Line}
 use Rattle.report_text.specs.declared.line.Line.TheVariants.{PowerCanned, PowerTorn, ToCard, Gone, End, AuditPower, Done}
+use Rattle.scenario.specs.Cards.{no_image}
 use Rattle.scenario.specs.Plan.{ScenarioData}
 use Rattle.scenario_lanes.specs.declared.plan.Link.TheVariants.{Sound}
 use Rattle.scenario_lanes.specs.declared.plan.Planned.{Planned}
@@ -74,7 +76,7 @@ abbrev cut_once : ScenarioData
 cut_once = record {
   issuer = no_keys;
   accounts = [];
-  cards = record { name = codes "c1"; image = []; canned = None } ∷ [];
+  cards = record { name = codes "c1"; image = no_image; canned = None } ∷ [];
   lanes = record {
     settings = record {
       kind = 22;
@@ -84,6 +86,7 @@ cut_once = record {
       pin_key = [];
       exceptions = [];
       aids = row ∷ [];
+      pse = false;
     };
     purchases = cut ∷ [];
     iso = false;
@@ -109,7 +112,7 @@ abbrev cut_lines : List Line
 cut_lines = PowerTorn 0 (record { items = codes "c1" }) ∷ End 0 1 nothing_found ∷ []
 
 cut_happens : (choices : List Bool) → (happens cut_once (first_world cut_once) (Turn 0) choices).lines ≡ cut_lines
-unfolding payment_in dialogue card_step listing
+unfolding payment_in dialogue card_step selecting_by listing
 cut_happens choices = refl
 
 abbrev cut_world : World
@@ -120,7 +123,7 @@ audited = (happens cut_once cut_world (Audit 0) (true ∷ [])).world
 
 -- the only turn, then the audit, which finds a card without applications, and `done 1`
 cut_runs : Run cut_once (cut_lines ++ (AuditPower (record { items = codes "c1" }) (record { items = [] }) ∷ Done 1 ∷ [])) audited
-unfolding payment_in dialogue card_step listing settlements_from checks_from totals apps_totals
+unfolding payment_in dialogue card_step selecting_by listing settlements_from checks_from totals apps_totals
 cut_runs = record {
   count = 2;
   choices = true ∷ [];
@@ -134,7 +137,7 @@ cut_runs = record {
 
 -- a card of canned answers that has none
 abbrev silent_once : ScenarioData
-silent_once = record cut_once { cards = record { name = codes "c1"; image = []; canned = Some [] } ∷ [] }
+silent_once = record cut_once { cards = record { name = codes "c1"; image = no_image; canned = Some [] } ∷ [] }
 
 -- no tear cuts its power-up: `L0 power c1 canned`
 abbrev silent_power : List Line
@@ -146,7 +149,7 @@ silent_lines =
     ToCard 0 (record { items = 0x00 ∷ 0xA4 ∷ 0x04 ∷ 0x00 ∷ 0x05 ∷ 0xA0 ∷ 0x00 ∷ 0x00 ∷ 0x00 ∷ 0x03 ∷ 0x00 ∷ [] }) ∷ Gone 0 ∷ End 0 1 nothing_found ∷ []
 
 silent_begins : (choices : List Bool) → (happens silent_once (first_world silent_once) (Turn 0) choices).lines ≡ silent_power
-unfolding payment_in dialogue card_step listing
+unfolding payment_in dialogue card_step selecting_by listing
 silent_begins choices = refl
 
 abbrev silent_on : World
@@ -157,7 +160,7 @@ silent_world = (happens silent_once silent_on (Turn 0) []).world
 
 -- both turns, then the audit, which passes the card over, and `done 1`
 silent_runs : Run silent_once (silent_power ++ silent_lines ++ (Done 1 ∷ [])) silent_world
-unfolding payment_in dialogue card_step listing settlements_from checks_from
+unfolding payment_in dialogue card_step selecting_by listing settlements_from checks_from
 silent_runs = record {
   count = 2;
   choices = [];

@@ -24,9 +24,9 @@ AreNew cards slots =
 -- what a card with applications leaves
 pub record IsGiven (chip : ChipSeen) (memory : Memory) : Type 0 where
   pub off : memory.on ≡ false
-  pub may : (kept : List Decided) (pending : Option Decided) → ChipOff chip kept pending → MayStand memory.cells (opening_of chip.image) kept pending
+  pub may : (kept : List Decided) (pending : Option Decided) → ChipOff chip kept pending → MayStand memory.cells chip.image.version (opening_of chip.image) kept pending
   pub stands : (session : List Exchange) (ds : List Decided) (plan : Option Tear) (made : ℕ) → ChipOn chip session ds plan made
-      → StandsFor memory.cells (opening_of chip.image) ds
+      → StandsFor memory.cells chip.image.version (opening_of chip.image) ds
   pub losses : memory.losses ≡ losses_of chip
 
 -- and a card, of whichever kind

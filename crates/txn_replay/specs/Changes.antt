@@ -5,7 +5,7 @@ use Rattle.apdu_core.specs.Response.{ResponseData, response_of}
 use Rattle.card_app.specs.Session.{phase_of}
 use Rattle.card_cryptogram.specs.Phases.{current}
 use Rattle.card_files.specs.Files.{opening_of}
-use Rattle.card_files.specs.Views.{AppData}
+use Rattle.card_files.specs.Views.{ImageData}
 use Rattle.card_pages.specs.Cuts.{Cut, left_of, kept_by, pending_by}
 use Rattle.card_pages.specs.Replies.{CardAnswer}
 use Rattle.card_state.specs.Decisions.{Decided}
@@ -29,17 +29,17 @@ counter_in None = 0
 counter_in (Some s) = s.counter
 
 -- the transaction counter of an application behind these decisions
-unfoldable pub counter_of : List AppData → List Decided → ℕ → ℕ
+unfoldable pub counter_of : ImageData → List Decided → ℕ → ℕ
 counter_of image ds app = counter_in (slice_get (totals (opening_of image) ds).apps.items app)
 
 -- the cryptogram of the selected application
-abbrev pub given_for : List AppData → List Decided → Option ℕ → Option Holder → List Given
+abbrev pub given_for : ImageData → List Decided → Option ℕ → Option Holder → List Given
 given_for image ds (Some app) (Some holder) = record { app = app; counter = counter_of image ds app; holder = holder } ∷ []
 given_for image ds (Some app) None = []
 given_for image ds None holder = []
 
 -- what a GENERATE AC that is answered 9000 gives
-abbrev pub given_by : List AppData → CardRow → List ℕ → CardAnswer → List Given
+abbrev pub given_by : ImageData → CardRow → List ℕ → CardAnswer → List Given
 given_by image card command said =
     if is_generate (command_of command) && is_good (response_of said.answer)
     then given_for image (card.kept ++ said.new) (current (phase_of image card.session)) card.holder else []
@@ -59,7 +59,7 @@ powered card found holder = record {
 }
 
 -- a command is answered
-abbrev pub exchanged : List AppData → CardRow → List ℕ → CardAnswer → CardRow
+abbrev pub exchanged : ImageData → CardRow → List ℕ → CardAnswer → CardRow
 exchanged image card command said = record {
   kept = card.kept ++ said.new;
   pending = card.pending;

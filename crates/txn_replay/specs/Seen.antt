@@ -118,7 +118,7 @@ IsNext v k =
 -- pages that are off, and may stand for what a card has decided
 pub record PagesStand (memory : Memory) (card : CardData) (row : CardRow) : Type 0 where
   pub off : memory.on ≡ false
-  pub may : MayStand memory.cells (opening_of card.image) row.kept row.pending
+  pub may : MayStand memory.cells card.image.version (opening_of card.image) row.kept row.pending
   pub losses : memory.losses ≡ capped row.losses
 
 -- those of a card of canned answers are blank

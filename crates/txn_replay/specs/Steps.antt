@@ -93,7 +93,7 @@ app_checks i card app =
 
 -- a card of canned answers is passed over
 abbrev pub checks_for : ℕ → CardData → Option (List (List ℕ)) → List Check
-checks_for i card None = PowersUp i card ∷ flat_map (app_checks i card) card.image
+checks_for i card None = PowersUp i card ∷ flat_map (app_checks i card) card.image.apps
 checks_for i card (Some answers) = []
 
 abbrev pub card_checks : ℕ → CardData → List Check

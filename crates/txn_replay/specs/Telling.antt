@@ -5,7 +5,7 @@ use Rattle.std.specs.List.{list_any}
 use Rattle.apdu_core.specs.Command.{command_of}
 use Rattle.apdu_core.specs.Response.{response_of, response_bytes}
 use Rattle.card_cryptogram.specs.Bodies.{body_in}
-use Rattle.card_files.specs.Views.{AppData}
+use Rattle.card_files.specs.Views.{AppData, ImageData}
 use Rattle.emv_dict.specs.declared.ending.Kind.{Kind}
 use Rattle.report_text.specs.declared.line.Line.{Line}
 use Rattle.report_text.specs.declared.line.Line.TheVariants.{ToCard, FromCard}
@@ -44,21 +44,21 @@ abbrev pub cryptograms_told : List Line → List (List ℕ)
 cryptograms_told lines = cryptograms_behind None lines
 
 -- the answer holds a cryptogram of this application with this transaction counter (EMV 4.3 Book 3 section 6.5.5.4)
-pub record HoldsCounter (image : List AppData) (app counter : ℕ) (answer : List ℕ) : Type 0 where
+pub record HoldsCounter (image : ImageData) (app counter : ℕ) (answer : List ℕ) : Type 0 where
   pub application : AppData
-  pub is : slice_get image app ≡ Some application
+  pub is : slice_get image.apps app ≡ Some application
   pub kind : Kind
   pub cryptogram : List ℕ
   pub issuer_data : List ℕ
   pub answer_is : answer ≡ response_bytes (body_in application.ac_format kind counter cryptogram issuer_data) 0x9000
 
 -- a row of a cryptogram: of this purchase, with the counter that the answer holds
-pub record IsRow (image : List AppData) (holder : Holder) (row : Given) (answer : List ℕ) : Type 0 where
+pub record IsRow (image : ImageData) (holder : Holder) (row : Given) (answer : List ℕ) : Type 0 where
   pub holder_is : row.holder ≡ holder
   pub holds : HoldsCounter image row.app row.counter answer
 
 -- one row an answer, in their order
-abbrev pub AreRows : List AppData → Holder → List Given → List (List ℕ) → Type 0
+abbrev pub AreRows : ImageData → Holder → List Given → List (List ℕ) → Type 0
 AreRows image holder [] [] = ⊤
 AreRows image holder (row ∷ rows) (answer ∷ answers) = IsRow image holder row answer × AreRows image holder rows answers
 AreRows image holder [] (answer ∷ answers) = ⊥

@@ -145,7 +145,7 @@ fn power<P: Pages>(card: &NamedCard, chip: &mut Chip<'_, P>, lines: &mut Lines)
     let Ok(()) = chip.power_up(None) else {
         unreachable!();
     };
-    add_audit_power(card.name.as_slice(), chip.totals(), lines);
+    add_audit_power(card.name.as_slice(), chip.image(), chip.totals(), lines);
 }
 
 /// A card that the audit has turned on is asked.

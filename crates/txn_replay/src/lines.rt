@@ -7,6 +7,7 @@ ghost use Rattle.txn_replay.specs.Lines as spec;
 
 use arrayvec::ArrayVec;
 use ber_tlv::append;
+use card_files::{AppImage, Image};
 use card_state::{AppState, CardState, flags};
 use emv_dict::Ac;
 use kernel::EndRecord;
@@ -17,36 +18,29 @@ pub type Lines = ArrayVec<Line, 8>;
 
 /// An application's counters.
 #[tactic(auto, unfolding(crate::specs::Lines::shown_state))]
-fn shown(app: &AppState) -> Shown
-    ensures { result ≡ spec.shown_state app.now }
+fn shown(app: &AppImage, state: &AppState) -> Shown
+    ensures { result ≡ spec.shown_state app.now state.now }
 {
     Shown {
-        counter: app.counter,
-        last_online: app.last_online,
-        count: app.count,
-        sum: app.sum,
-        tries: app.tries,
-        flags: flags(app),
+        counter: state.counter,
+        last_online: state.last_online,
+        count: state.count,
+        sum: state.sum,
+        tries: state.tries,
+        flags: flags(state),
+        sum_two: app.currency_two.and(Some(state.sum_two)),
     }
 }
 
-/// Those of each application.
-fn shown_apps(apps: &[AppState]) -> ArrayVec<Shown, 4>
-    requires { length apps.now ≤ 4 }
-    ensures { result.items ≡ map spec.shown_state apps.now }
+/// Those of each application of a card.
+pub(crate) fn shown_all(image: &Image, state: &CardState) -> ArrayVec<Shown, 4>
+    ensures { result.items ≡ spec.shown_all image.now.apps state.now }
 {
     let mut all = ArrayVec::new();
-    for app in apps {
-        all.push(shown(app));
+    for (app, counts) in image.apps().iter().zip(state.apps.as_slice()) {
+        all.push(shown(app, counts));
     }
     all
-}
-
-/// Those of a card.
-pub(crate) fn shown_all(state: &CardState) -> ArrayVec<Shown, 4>
-    ensures { result.items ≡ map spec.shown_state state.now.apps.items }
-{
-    shown_apps(state.apps.as_slice())
 }
 
 /// The counter and the cryptogram of the card's last one.
@@ -166,15 +160,15 @@ pub(crate) fn add_host(lane: u8, call: &[u8], reply: Option<&[u8]>, lines: &mut 
 }
 
 /// A card is powered up.
-pub(crate) fn add_power(lane: u8, name: &[u8], state: &CardState, lines: &mut Lines)
+pub(crate) fn add_power(lane: u8, name: &[u8], image: &Image, state: &CardState, lines: &mut Lines)
     requires room { length lines.old.items < 8 }
     requires name { length name.now ≤ 16 }
-    ensures { lines.new.items ≡ lines.old.items ++ Power lane (record { items = name.now }) (record { items = map spec.shown_state state.now.apps.items }) ∷ [] }
+    ensures { lines.new.items ≡ lines.old.items ++ Power lane (record { items = name.now }) (record { items = spec.shown_all image.now.apps state.now }) ∷ [] }
 {
     lines.push(Line::Power {
         lane,
         card: bytes_of(name),
-        apps: shown_all(state),
+        apps: shown_all(image, state),
     });
 }
 
@@ -220,14 +214,14 @@ pub(crate) fn add_settlement(lane: u8, call: &[u8], reply: &[u8], lines: &mut Li
 }
 
 /// A card is powered up for the audit.
-pub(crate) fn add_audit_power(name: &[u8], state: &CardState, lines: &mut Lines)
+pub(crate) fn add_audit_power(name: &[u8], image: &Image, state: &CardState, lines: &mut Lines)
     requires room { length lines.old.items < 8 }
     requires name { length name.now ≤ 16 }
-    ensures { lines.new.items ≡ lines.old.items ++ AuditPower (record { items = name.now }) (record { items = map spec.shown_state state.now.apps.items }) ∷ [] }
+    ensures { lines.new.items ≡ lines.old.items ++ AuditPower (record { items = name.now }) (record { items = spec.shown_all image.now.apps state.now }) ∷ [] }
 {
     lines.push(Line::AuditPower {
         card: bytes_of(name),
-        apps: shown_all(state),
+        apps: shown_all(image, state),
     });
 }
 

@@ -187,7 +187,7 @@ impl<'s, P: Pages> Slot<'s, P> {
         ensures one { length lines.new.items ≡ length lines.old.items + 1 }
     {
         match &self.0 {
-            SlotKind::App(chip) => add_power(lane, name, chip.totals(), lines),
+            SlotKind::App(chip) => add_power(lane, name, chip.image(), chip.totals(), lines),
             SlotKind::Canned(_) => add_power_canned(lane, name, lines),
         }
     }

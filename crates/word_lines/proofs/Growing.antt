@@ -6,12 +6,19 @@ use Rattle.std.proofs.lemmas.Bool.{false≢true}
 use Rattle.std.proofs.lemmas.Grind.{flat_map-append}
 use Rattle.word_lines.specs.Hex.{digit_text, pair_text}
 use Rattle.word_lines.specs.Lines.{WordsData, stage_of, opened, shown}
+use Rattle.word_lines.specs.Pieces as piece
+use Rattle.word_lines.specs.Pieces.{Tells, with_piece}
 use Rattle.word_lines.proofs.Stages.{opened-open}
 
 -- what has failed stays so: what has not failed yet has not failed before
 pub not_before : (before after : Bool) → (before ≡ true → after ≡ true) → after ≡ false → before ≡ false
 not_before false after stays none = refl
 not_before true after stays none = absurd (false≢true (sym none ∙ stays refl))
+
+-- and what has failed before has failed
+pub after_before : (before after : Bool) → (after ≡ false → before ≡ false) → before ≡ true → after ≡ true
+after_before before false stays was = absurd (false≢true (sym (stays refl) ∙ was))
+after_before before true stays was = refl
 
 -- behind these bytes a text was appended, and the line is open
 pub record IsGrown (old new : WordsData) (first text : List ℕ) : Type 0 where
@@ -44,20 +51,23 @@ grown_more old mid new first text i b within here grown bytes one failed = recor
 }
 
 -- the whole text
-pub grown_end : (old new : WordsData) (first text : List ℕ) (i : ℕ) → length text ≤ i → IsGrown old new first (take i text) → new.failed ≡ false → new.bytes ≡ first ++ map shown text
-grown_end old new first text i past grown none = grown.bytes none ∙ ap (λ (t : List ℕ). first ++ map shown t) (take_all i text past)
+pub grown_end : (old new : WordsData) (first text : List ℕ) (i : ℕ) → length text ≤ i → IsGrown old new first (take i text)
+    → new.failed ≡ false → (old.failed ≡ false) × (new.bytes ≡ first ++ map shown text)
+grown_end old new first text i past grown none =
+    (not_before old.failed new.failed grown.failed none, grown.bytes none ∙ ap (λ (t : List ℕ). first ++ map shown t) (take_all i text past))
 
 -- two digits more
 pub grown_pair : (old mid new : WordsData) (first bytes : List ℕ) (i b x y : ℕ) → i < length bytes → b ≡ get_or bytes i 0
     → IsGrown old mid first (flat_map pair_text (take i bytes)) → x ≡ digit_text (b / 16) → y ≡ digit_text (b % 16)
-    → (new.failed ≡ false → new.bytes ≡ opened mid.bytes ++ map shown (x ∷ y ∷ [])) → (new.failed ≡ false → stage_of new.bytes ≡ 2)
-    → (mid.failed ≡ true → new.failed ≡ true) → IsGrown old new first (flat_map pair_text (take (i + 1) bytes))
-grown_pair old mid new first bytes i b x y within here grown high low text one failed = record {
+    → Tells mid new (piece.text (x ∷ y ∷ [])) → (new.failed ≡ false → stage_of new.bytes ≡ 2)
+    → IsGrown old new first (flat_map pair_text (take (i + 1) bytes))
+unfolding with_piece
+grown_pair old mid new first bytes i b x y within here grown high low told one = record {
   bytes = λ none.
-      let before : mid.failed ≡ false = not_before mid.failed new.failed failed none in
+      let before : mid.failed ≡ false = (told none).0 in
       let more : take (i + 1) bytes ≡ take i bytes ++ b ∷ [] = take_more bytes i 0 within ∙ ap (λ y. take i bytes ++ y ∷ []) (sym here) in
       let pair : x ∷ y ∷ [] ≡ flat_map pair_text (b ∷ []) = ap (λ x. x ∷ y ∷ []) high ∙ ap (λ y. digit_text (b / 16) ∷ y ∷ []) low in
-      text none
+      (told none).1
       ∙ ap (λ (t : List ℕ). t ++ map shown (x ∷ y ∷ [])) (opened-open mid.bytes (grown.one before) ∙ grown.bytes before)
       ∙ append_assoc first (map shown (flat_map pair_text (take i bytes))) (map shown (x ∷ y ∷ []))
       ∙ ap (λ (t : List ℕ). first ++ t) (sym (map-append shown (flat_map pair_text (take i bytes)) (x ∷ y ∷ [])))
@@ -65,10 +75,22 @@ grown_pair old mid new first bytes i b x y within here grown high low text one f
       ∙ ap (λ (t : List ℕ). first ++ map shown t) (sym (flat_map-append pair_text (take i bytes) (b ∷ [])))
       ∙ ap (λ (t : List ℕ). first ++ map shown (flat_map pair_text t)) (sym more);
   one = one;
-  failed = λ was. failed (grown.failed was);
+  failed = λ was. after_before mid.failed new.failed (λ none. (told none).0) (grown.failed was);
 }
 
 -- no digits yet
-pub grown_none : (old new : WordsData) (first : List ℕ) → (new.failed ≡ false → new.bytes ≡ first ++ map shown []) → (new.failed ≡ false → stage_of new.bytes ≡ 2)
-    → (old.failed ≡ true → new.failed ≡ true) → IsGrown old new first []
-grown_none old new first bytes one failed = record { bytes = bytes; one = one; failed = failed }
+pub grown_none : (old new : WordsData) → Tells old new (piece.text []) → (new.failed ≡ false → stage_of new.bytes ≡ 2) → IsGrown old new (opened old.bytes) []
+unfolding with_piece
+grown_none old new told one = record {
+  bytes = λ none. (told none).1;
+  one = one;
+  failed = after_before old.failed new.failed (λ none. (told none).0);
+}
+
+-- all digits
+pub grown_end_pairs : (old new : WordsData) (first bytes : List ℕ) (i : ℕ) → length bytes ≤ i → IsGrown old new first (flat_map pair_text (take i bytes))
+    → new.failed ≡ false → (old.failed ≡ false) × (new.bytes ≡ first ++ map shown (flat_map pair_text bytes))
+grown_end_pairs old new first bytes i past grown none = (
+  not_before old.failed new.failed grown.failed none,
+  grown.bytes none ∙ ap (λ (t : List ℕ). first ++ map shown (flat_map pair_text t)) (take_all i bytes past),
+)

@@ -1,5 +1,5 @@
 -- How far a line has come behind more bytes.
-use Rattle.std.proofs.Common.{◌≡◌, ℕ, ◌≤◌, false, List, [], ◌∷◌, ◌++◌, cond, eqb, refl, sym, ap, ◌∙◌, arith, ◌⊎◌, inl, inr}
+use Rattle.std.proofs.Common.{◌≡◌, ℕ, ◌≤◌, false, List, [], ◌∷◌, ◌++◌, cond, eqb, refl, ap, ◌∙◌, arith}
 use Rattle.std.specs.List.{fold}
 use Rattle.std.proofs.lemmas.List.Sums.{fold-append}
 use Rattle.std.proofs.lemmas.Bool.Decides.{nat_tests}
@@ -47,11 +47,6 @@ closed-none xs none = ap (λ s. cond (eqb s 2) (xs ++ 10 ∷ []) xs) none
 pub stage_of-nothing : stage_of [] ≡ 0
 unfolding stage_of
 stage_of-nothing = refl
-
--- what is begun anew is as it was begun
-pub opened-again : (xs : List ℕ) → (stage_of xs ≡ 0) ⊎ (stage_of xs ≡ 2) → opened (opened xs) ≡ opened xs
-opened-again xs (inl none) = ap opened (opened-none xs none) ∙ opened-open (xs ++ 32 ∷ 32 ∷ []) (stage_begun xs none) ∙ sym (opened-none xs none)
-opened-again xs (inr begun) = ap opened (opened-open xs begun)
 
 pub ruleset stages = (stage_ended, stage_begun, stage_pushed, opened-open, opened-none, closed-open, closed-none, stage_of-nothing)
 

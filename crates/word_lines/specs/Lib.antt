@@ -1,2 +1,4 @@
-pub mod Lines
+pub mod Bits
 pub mod Hex
+pub mod Lines
+pub mod Pieces

@@ -1,6 +1,8 @@
 //! The buffer of the lines.
-ghost use Rattle.std.specs.Prelude.{◌≡◌, ◌++◌, ◌≤◌, ◌∷◌, [], map, true, false, OnOk};
+ghost use Rattle.std.specs.Prelude.{◌≡◌, ◌++◌, ◌≤◌, ◌∷◌, [], true, false, OnOk};
 ghost use Rattle.word_lines.specs.Lines.{AreWordLines, begun, closed, opened, shown, stage_of};
+ghost use Rattle.word_lines.specs.Pieces as piece;
+ghost use Rattle.word_lines.specs.Pieces.{Tells};
 
 use std::alloc::{AllocError, Global};
 use std::marker::Model;
@@ -115,8 +117,7 @@ impl WordLines {
     /// Ends the open line and begins a new one, with two blanks for each level: one level at least, nine at
     /// most.
     pub fn line(&mut self, level: u8)
-        ensures begun { self.new.failed ≡ false → self.new.bytes ≡ begun self.old.bytes level }
-        ensures failed { self.old.failed ≡ true → self.new.failed ≡ true }
+        ensures { Tells self.old self.new (piece.line level) }
     {
         self.end();
         let more = usize::from(level).saturating_sub(1).min(8);
@@ -126,9 +127,8 @@ impl WordLines {
     /// Appends characters to the open line, or to a new one. A byte that is no printable character of
     /// ASCII becomes `?`.
     pub fn text(&mut self, text: &[u8])
-        ensures text { self.new.failed ≡ false → self.new.bytes ≡ opened self.old.bytes ++ map shown text.now }
+        ensures told { Tells self.old self.new (piece.text text.now) }
         ensures one { self.new.failed ≡ false → stage_of self.new.bytes ≡ 2 }
-        ensures failed { self.old.failed ≡ true → self.new.failed ≡ true }
     {
         self.begin();
         for byte in text {
@@ -141,7 +141,7 @@ impl WordLines {
     pub fn finish(&mut self) -> Result<(), AllocError>
         ensures lines { OnOk result (AreWordLines self.new.bytes) }
         ensures ended { OnOk result (self.new.bytes ≡ closed self.old.bytes) }
-        ensures whole { OnOk result (self.new.failed ≡ false) }
+        ensures whole { OnOk result (self.old.failed ≡ false) }
     {
         self.end();
         if self.failed {

@@ -1,8 +1,8 @@
 //! Numbers and bytes as text.
-ghost use Rattle.std.specs.Prelude.{◌≡◌, ◌++◌, ◌<◌, map, true, false, decimal};
-ghost use Rattle.std.specs.List.{flat_map};
-ghost use Rattle.word_lines.specs.Lines.{opened, shown};
-ghost use Rattle.word_lines.specs.Hex.{digit_text, pair_text};
+ghost use Rattle.std.specs.Prelude.{◌≡◌, ◌<◌};
+ghost use Rattle.word_lines.specs.Hex.{digit_text};
+ghost use Rattle.word_lines.specs.Pieces as piece;
+ghost use Rattle.word_lines.specs.Pieces.{Tells};
 
 use crate::WordLines;
 use itoa::Buffer;
@@ -22,8 +22,7 @@ fn digit(number: u8) -> u8
 impl WordLines {
     /// Appends a number in decimal to the open line, or to a new one.
     pub fn number(&mut self, number: u64)
-        ensures text { self.new.failed ≡ false → self.new.bytes ≡ opened self.old.bytes ++ map shown (decimal number) }
-        ensures failed { self.old.failed ≡ true → self.new.failed ≡ true }
+        ensures { Tells self.old self.new (piece.number number) }
     {
         let mut buffer = Buffer::new();
         self.text(buffer.format(number).as_bytes());
@@ -31,8 +30,7 @@ impl WordLines {
 
     /// Appends bytes in upper-case hexadecimal to the open line, or to a new one.
     pub fn hex(&mut self, bytes: &[u8])
-        ensures text { self.new.failed ≡ false → self.new.bytes ≡ opened self.old.bytes ++ map shown (flat_map pair_text bytes.now) }
-        ensures failed { self.old.failed ≡ true → self.new.failed ≡ true }
+        ensures { Tells self.old self.new (piece.hex bytes.now) }
     {
         self.text(b"");
         for byte in bytes {

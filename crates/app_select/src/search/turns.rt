@@ -9,7 +9,8 @@ ghost use Rattle.app_select.specs.Fci.{FciData, IsShort};
 ghost use Rattle.app_select.specs.Leading.{Listed, rest_with, answers_left, HasRoom};
 ghost use Rattle.app_select.specs.Listed.{found_by, goes_on, most_occurrences};
 ghost use Rattle.app_select.specs.NextLeads.{SearchNextLeads, NextHasRoom, answers_left_next};
-ghost use Rattle.app_select.specs.Said.{Named, select_said, select_command, is_longer, is_supported};
+ghost use Rattle.app_select.specs.Named.{BeginsWith, HaveRows, all_named};
+ghost use Rattle.app_select.specs.Said.{Named, select_said};
 ghost use Rattle.app_select.specs.SeenCandidate.{seen_candidate};
 ghost use Rattle.app_select.specs.SeenSaid.{seen_fci};
 ghost use Rattle.app_select.specs.SeenState.{seen_asked, seen_course};
@@ -19,17 +20,13 @@ use super::{Asked, Choice, Pdol, Search, SearchNext};
 use crate::candidates::{Candidate, Candidates};
 use crate::course::{Course, Row};
 use crate::fci::{Fci, Said, read_select};
-use apdu_core::{Command, Out, write_command};
+use crate::naming::{Found, is_longer, is_supported};
+use crate::select::{FIRST_OCCURRENCE, NEXT_OCCURRENCE, write_select};
+use apdu_core::Out;
 use emv_dict::{AidRow, Cause, Name};
 
 /// An AID is selected at most so often.
 const MOST_OCCURRENCES: u8 = 16;
-
-/// P2 of SELECT: the first application whose name begins with the given bytes.
-const FIRST_OCCURRENCE: u8 = 0x00;
-
-/// P2 of SELECT: the next such application.
-const NEXT_OCCURRENCE: u8 = 0x02;
 
 /// Writes the SELECT that is to be answered.
 #[tactic(auto, unfolding(crate::specs::Selecting::listing))]
@@ -37,8 +34,13 @@ pub(super) fn write_asked(asked: &Asked<'_>, out: &mut Out)
     ensures { (candidates : List CandidateData) → rest_with (seen_asked asked.now) candidates [] ≡ Wants out.new.items }
 {
     match asked {
-        Asked::Listed(course) => write_select(&course.row.row.name, occurrence(course.turn), out),
-        Asked::Final(candidate) => write_select(&candidate.name, FIRST_OCCURRENCE, out),
+        Asked::Listed(course) => {
+            let name = course.row.row.name.as_slice();
+            write_select(name, occurrence(course.turn), out)
+        },
+        Asked::Final(candidate) => {
+            write_select(candidate.name.as_slice(), FIRST_OCCURRENCE, out)
+        },
     }
 }
 
@@ -51,20 +53,6 @@ fn occurrence(turn: u8) -> u8
     } else {
         NEXT_OCCURRENCE
     }
-}
-
-fn write_select(name: &Name, occurrence: u8, out: &mut Out)
-    ensures { out.new.items ≡ select_command occurrence name.now }
-{
-    let command = Command {
-        class: 0x00,
-        ins: 0xa4,
-        p1: 0x04,
-        p2: occurrence,
-        body: name.as_slice(),
-        expects: Some(0),
-    };
-    write_command(&command, out);
 }
 
 /// Takes an answer to a SELECT of the list.
@@ -135,22 +123,6 @@ fn add<'s>(row: Row<'s>, valid: bool, fci: &Fci<'_>, candidates: &mut Candidates
     }
 }
 
-/// Whether a terminal that knows a row supports an application of this name.
-fn is_supported(row: &AidRow, name: &Name) -> bool
-    ensures { result ≡ is_supported row.now.name row.now.partial name.now }
-{
-    *name == row.name || row.partial && is_longer(row, name)
-}
-
-/// Whether a name is longer than the AID and begins with it.
-fn is_longer(row: &AidRow, name: &Name) -> bool
-    ensures { result ≡ is_longer row.now.name name.now }
-{
-    let aid = row.name.as_slice();
-    let name = name.as_slice();
-    aid.len() < name.len() && name.starts_with(aid)
-}
-
 /// Whether the next occurrence of an AID is asked for behind this name.
 fn goes_on(row: &AidRow, turn: u8, name: &Name) -> bool
     requires { turn < most_occurrences }
@@ -201,8 +173,27 @@ fn next_row<'s>(
     }
 }
 
+/// Adds applications that the card named.
+pub(super) fn push_named<'s>(rows: &'s [AidRow], found: &[Found], candidates: &mut Candidates<'s>)
+    requires valid { All IsAidRow rows.now }
+    requires rows { HaveRows rows.now found.now }
+    requires room { length candidates.old + length found.now ≤ 256 }
+    ensures { candidates.new ≡ candidates.old ++ all_named rows.entry.now found.now }
+{
+    for one in found {
+        candidates.push(Candidate {
+            row: Row {
+                row: &rows[one.aid],
+            },
+            name: one.name.copy(),
+            priority: one.priority,
+        });
+    }
+}
+
 /// Goes on with the final SELECT of the first candidate.
 pub(super) fn choose<'s>(candidates: &mut Candidates<'s>) -> SearchNext<'s>
+    ensures begins { BeginsWith candidates.old result candidates.new }
     ensures leads { (whole : List (List ℕ) → Progress SelectedData) (answers : List (List ℕ))
         → Leads whole answers (opening candidates.old) → SearchNextLeads candidates.new whole answers result }
     ensures room { NextHasRoom result candidates.new }

@@ -9,7 +9,7 @@ use std::test::Fail;
 mod fields;
 
 /// The text with one text in place of another.
-fn replaced(alloc: Global, text: &str, old: &str, new: &str) -> Option<String> {
+pub(super) fn replaced(alloc: Global, text: &str, old: &str, new: &str) -> Option<String> {
     let (front, rest) = text.split_once(old)?;
     match format!(in alloc; "{front}{new}{rest}") {
         Ok(text) => Some(text),
@@ -103,13 +103,18 @@ const MORE: [(&str, &str); 3] = [
     ),
 ];
 
-/// The document with all its changes.
-fn more(alloc: Global) -> Option<String> {
+/// The document with changes.
+fn changed(alloc: Global, changes: &[(&str, &str)]) -> Option<String> {
     let mut text = format!(in alloc; "{BASE}").ok()?;
-    for (old, new) in MORE {
+    for (old, new) in changes {
         text = replaced(alloc, text.as_str(), old, new)?;
     }
     Some(text)
+}
+
+/// The document with all its changes.
+fn more(alloc: Global) -> Option<String> {
+    changed(alloc, &MORE)
 }
 
 #[test]

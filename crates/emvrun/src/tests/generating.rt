@@ -4,7 +4,7 @@ const SUMMARY: &str = "generated 1\napproved 1 declined 0 other 0\nbooked 4390\n
 
 const HUNDRED: &str = "generated 100\napproved 94 declined 3 other 3\nbooked 457669\n";
 
-const USAGE: &str = "usage: emvrun read|replay|generate N\n";
+const USAGE: &str = "usage: emvrun read|replay|generate N|check\n";
 
 /// How many purchases were approved, declined, and ended otherwise.
 fn endings(outcome: &Outcome) -> [u64; 3] {

@@ -10,7 +10,7 @@ ghost use Rattle.script_words.specs.Spelling.{IsWord};
 ghost use Rattle.issuer_host.specs.Account.{IsAccount};
 
 use emv_dict::{Digits, MOST_AMOUNT, is_pan_length, is_pin_length};
-use issuer_host::{Account, HostKeys, Ordered, Script};
+use issuer_host::{Account, HostKeys, Method, Ordered, Script, is_status};
 use script_words::{made_length, read_order};
 use std::alloc::Global;
 use std::process::Abort;
@@ -160,12 +160,19 @@ fn fit(scripts: &[Script], room: usize) -> bool
     }
 }
 
-fn account_of(rt: &impl Abort, alloc: Global, opening: &Opening) -> Result<Account, Fail>
+fn account_of(
+    rt: &impl Abort,
+    alloc: Global,
+    opening: &Opening,
+    arpc: Method,
+    status: u8,
+) -> Result<Account, Fail>
     ensures { IfOk result IsAccount }
 {
     let scripts = scripts_of(rt, alloc, opening.scripts)?;
     assert!(rt; opening.balance <= MOST_AMOUNT);
     assert!(rt; scripts.len() <= 8 && fit(&scripts, 1024));
+    assert!(rt; is_status(status));
     Ok(Account {
         pan: account_number(rt, opening.pan),
         currency: code_of(opening.currency),
@@ -173,20 +180,24 @@ fn account_of(rt: &impl Abort, alloc: Global, opening: &Opening) -> Result<Accou
         blocked: opening.blocked,
         pin: pin_of(rt, opening.pin),
         scripts,
+        arpc,
+        status,
     })
 }
 
-/// The accounts of a host.
+/// The accounts of a host, with the method and the status that all of them have.
 pub fn accounts_of(
     rt: &impl Abort,
     alloc: Global,
     openings: &[Opening],
+    arpc: Method,
+    status: u8,
 ) -> Result<Vec<Account>, Fail>
     ensures { IfOk result (λ accounts. All IsAccount accounts.items) }
 {
     let mut accounts = Vec::new(alloc);
     for opening in openings {
-        let account = account_of(rt, alloc, opening)?;
+        let account = account_of(rt, alloc, opening, arpc, status)?;
         accounts.push(account)?;
     }
     Ok(accounts)

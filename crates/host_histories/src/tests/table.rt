@@ -18,7 +18,7 @@ pub struct History {
     pub balances: &'static [(&'static str, i128)],
 }
 
-const APPROVED: &str = "e2048a023030";
+pub const APPROVED: &str = "e2048a023030";
 
 const DECLINED: &str = "e2048a023035";
 

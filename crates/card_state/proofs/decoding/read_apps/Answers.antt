@@ -1,36 +1,43 @@
-use Rattle.std.proofs.Common.{◌≡◌, ◌<◌, List, length, get_or, Some, rules, ap, arith, ◌∙◌}
-use Rattle.std.specs.List.{flat_map}
-use Rattle.std.proofs.lemmas.List.{take_all}
+use Rattle.std.proofs.lemmas.Bool.Decides.{nat_tests}
+use Rattle.std.proofs.Common.{◌≡◌, ◌<◌, ◌+◌, ◌-◌, ◌++◌, List, length, take, drop, suc, option_map, rules, sym, ap, ◌∙◌, arith}
 use Rattle.card_state.specs.declared.state.AppState.{AppState}
-use Rattle.card_state.specs.Encoding.{app_bytes}
-use Rattle.card_state.proofs.AppLists.{blank, bytes_more, this_app, count_of, apps_more}
+use Rattle.card_state.specs.Layout.{apps_in}
+use Rattle.card_state.proofs.Apps.{start_read, one_more_read, not_read, whole_read, more_left}
 use Rattle.card_state.proofs.decoding.read_apps.Goals as goal
 
-pub returns-in-None-clause-reads : goal.returns-in-None-clause-reads
-returns-in-None-clause-reads c = λ apps all same.
-    let size : length apps ≡ c.args.count = count_of apps c.args.bytes.now c.args.count all same c.requires.whole in
-    let within : c.loop-i.i < length apps = omega arith in
-    let read = c.in-None.ensures.reads (get_or apps c.loop-i.i blank) (all c.loop-i.i blank within)
-    (this_app apps c.args.bytes.now c.loop-i.i blank all same within) in
-    cc
-
-pub loop-i-preserved : goal.loop-i-preserved
-loop-i-preserved c = record {
+pub loop-i-init : goal.loop-i-init
+loop-i-init c = record {
   count = search rules;
-  bytes =
-      ap (λ (xs : List AppState). flat_map app_bytes xs) c.push.ensures.items
-      ∙ bytes_more c.loop-i.apps.items c.in-Some.app c.args.bytes.now c.loop-i.i c.loop-i.invariant.bytes c.in-Some.ensures.bytes;
-  reads = λ apps all same.
-      let size : length apps ≡ c.args.count = count_of apps c.args.bytes.now c.args.count all same c.requires.whole in
-      let within : c.loop-i.i < length apps = omega arith in
-      let read = c.in-Some.ensures.reads (get_or apps c.loop-i.i blank) (all c.loop-i.i blank within)
-      (this_app apps c.args.bytes.now c.loop-i.i blank all same within) in
-      let here : c.in-Some.app ≡ get_or apps c.loop-i.i blank = cc in
-      c.push.ensures.items ∙ apps_more c.loop-i.apps.items apps c.in-Some.app c.loop-i.i (c.loop-i.invariant.reads apps all same) within here;
+  left = start_read c.args.version c.args.count (c.args.count - 0) c.args.bytes.now c.new-apps.result.items c.new-apps.ensures (omega arith);
 }
 
-pub returns-clause-reads : goal.returns-clause-reads
-returns-clause-reads c = λ apps all same.
-    let size : length apps ≡ c.args.count = count_of apps c.args.bytes.now c.args.count all same c.requires.whole in
-    let items : c.loop-i.apps.items ≡ apps = c.loop-i.invariant.reads apps all same ∙ take_all c.loop-i.i apps (omega arith) in
-    λ i. Some (record { items = items i })
+pub loop-i-preserved : goal.loop-i-preserved
+loop-i-preserved c =
+    let n = c.args.count - (c.loop-i.i + 1) in
+    let some : c.args.count - c.loop-i.i ≡ suc n = omega arith in
+    record {
+      count = search rules;
+      left =
+          one_more_read c.args.version (apps_in c.args.version c.args.count c.args.bytes.now) c.loop-i.apps.items c.loop-i.rest.now n (c.args.count - c.loop-i.i)
+          c.size_of.result c.in-Some.app some c.in-Some.ensures.exact c.size_of.ensures c.loop-i.invariant.left
+          ∙ ap (λ (xs : List AppState). option_map (λ (ss : List AppState). xs ++ ss) (apps_in c.args.version n (take (length c.loop-i.rest.now - c.size_of.result) (drop c.size_of.result c.loop-i.rest.now)))) (sym c.push.ensures.items);
+    }
+
+pub returns-in-None : goal.returns-in-None
+returns-in-None c =
+    let n = c.args.count - (c.loop-i.i + 1) in
+    let some : c.args.count - c.loop-i.i ≡ suc n = omega arith in
+    sym (not_read c.args.version (apps_in c.args.version c.args.count c.args.bytes.now) c.loop-i.apps.items c.loop-i.rest.now n (c.args.count - c.loop-i.i)
+    some c.in-None.ensures.exact c.loop-i.invariant.left)
+
+pub returns-then-not-is_empty : goal.returns-then-not-is_empty
+returns-then-not-is_empty c =
+    let some : 0 < length c.loop-i.rest.now = grind (arith, nat_tests, c.if-not-is_empty.ensures) in
+    sym (more_left c.args.version (apps_in c.args.version c.args.count c.args.bytes.now) c.loop-i.apps.items c.loop-i.rest.now (c.args.count - c.loop-i.i)
+    (omega arith) some c.loop-i.invariant.left)
+
+pub returns : goal.returns
+returns c =
+    let none : length c.loop-i.rest.now ≡ 0 = grind (arith, nat_tests, c.if-not-is_empty.ensures) in
+    sym (whole_read c.args.version (apps_in c.args.version c.args.count c.args.bytes.now) c.loop-i.apps.items c.loop-i.rest.now (c.args.count - c.loop-i.i)
+    (omega arith) none c.loop-i.invariant.left)

@@ -1,13 +1,11 @@
-use Rattle.std.proofs.Common.{◌≡◌, ◌*◌, List, length, take, flat_map}
-use Rattle.std.specs.List.{All}
+use Rattle.std.proofs.Common.{◌≡◌, ◌-◌, ◌++◌, List, length, option_map}
 use Rattle.card_state.specs.declared.state.AppState.{AppState}
-use Rattle.card_state.specs.Encoding.{app_bytes, IsAppState}
+use Rattle.card_state.specs.Layout.{apps_in}
 use Rattle.card_state.proofs.decoding.read_apps.Given as goal
 
--- the applications so far are those of the bytes so far, and the first of any whose bytes these are
+-- the applications are those so far and those of the bytes that are left
 abbrev pub invariant-loop-i : goal.invariant-loop-i
 invariant-loop-i l = record {
   count : length l.apps.items ≡ l.i;
-  bytes : flat_map app_bytes l.apps.items ≡ take (32 * l.i) l.bytes;
-  reads : (apps : List AppState) → All IsAppState apps → flat_map app_bytes apps ≡ l.bytes → l.apps.items ≡ take l.i apps;
+  left : apps_in l.version l.count l.bytes ≡ option_map (λ (ss : List AppState). l.apps.items ++ ss) (apps_in l.version (l.count - l.i) l.rest);
 }

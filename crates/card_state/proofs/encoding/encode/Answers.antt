@@ -1,17 +1,14 @@
-use Rattle.std.proofs.Common.{List, get_or, rules, subst, arith}
-use Rattle.std.proofs.lemmas.Grind.{common_steps}
-use Rattle.std.proofs.lemmas.List.Elements.{All-more}
+use Rattle.std.proofs.Common.{rules, ap, ◌∙◌, get_or, List, arith}
 use Rattle.card_state.specs.declared.state.AppState.{AppState}
-use Rattle.card_state.specs.Encoding.{IsAppState}
-use Rattle.card_state.proofs.AppLists.{blank}
+use Rattle.card_state.specs.Encoding.{app_bytes, IsAppState}
+use Rattle.card_state.proofs.Appended.{bytes_more, all_more}
 use Rattle.card_state.proofs.encoding.encode.Goals as goal
 
 pub loop-app-preserved : goal.loop-app-preserved
-loop-app-preserved c = record {
-  items = grind (arith, common_steps);
-  len = omega arith;
-  ranges =
-      All-more IsAppState c.args.state.now.apps.items c.loop-app.app-index blank (search rules) c.loop-app.invariant.ranges
-      (subst (λ (xs : List AppState). IsAppState (get_or xs c.loop-app.app-index blank)) c.as_slice-app-items.ensures.value
-      c.append_app.ensures.ranges);
-}
+loop-app-preserved c =
+    let here = c.app-item.is ∙ ap (λ (xs : List AppState). get_or xs c.loop-app.app-index c.app-item.result) c.as_slice-app-items.ensures.value in
+    record {
+      items = bytes_more c.args.state.now.apps.items c.loop-app.app-index c.app-item.result (search rules) here app_bytes _ _ _ c.loop-app.invariant.items c.append_app.ensures.items;
+      len = omega arith;
+      ranges = all_more c.args.state.now.apps.items c.loop-app.app-index c.app-item.result (search rules) here IsAppState c.loop-app.invariant.ranges c.append_app.ensures.ranges;
+    }

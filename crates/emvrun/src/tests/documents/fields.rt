@@ -1,5 +1,6 @@
 use super::*;
 use card_files::RecordImage;
+use issuer_host::Method;
 
 /// The issuer's keys.
 const AC_KEY: [u8; 16] = [
@@ -94,6 +95,7 @@ fn the_account_is_read(rt: HostRuntime) {
     let account = scenario.accounts.first().expect(&rt, "an account");
     assert!(rt; account.pan.as_slice() == PAN.as_slice() && account.currency == [0x08, 0x40]);
     assert!(rt; account.balance == 100_000 && !account.blocked && account.scripts.is_empty());
+    assert!(rt; account.arpc == Method::One && account.status == 0);
     assert!(rt;
         account
             .pin
@@ -108,6 +110,7 @@ fn the_files_of_the_card_are_read(rt: HostRuntime) {
     let card = scenario.cards.first().expect(&rt, "a card");
     let image = card.kind.image().expect(&rt, "applications");
     assert!(rt; card.name.as_slice() == b"c1".as_slice() && image.apps().len() == 1);
+    assert!(rt; image.version() == 2 && image.directory().is_none());
     let app = image.apps().first().expect(&rt, "an application");
     assert!(rt;
         app.name.as_slice() == AID.as_slice() && app.label.as_slice() == b"CREDIT".as_slice()
@@ -149,6 +152,40 @@ fn the_cards_account_and_keys_are_read(rt: HostRuntime) {
     assert!(rt; app.currency == [0x08, 0x40] && app.tries == 3);
     assert!(rt; app.ac_key.bytes() == CARD_AC_KEY);
     assert!(rt; app.mac_key.bytes() == CARD_MAC_KEY && app.enc_key.bytes() == CARD_ENC_KEY);
+    assert!(rt; app.currency_two.is_none() && app.limit_two == 0);
+    assert!(rt; app.log == 0 && app.log_sfi == 11);
+}
+
+/// The keys of an account, a card and an application that have a default.
+const BESIDES: [(&str, &str); 3] = [
+    (
+        "balance = 100000",
+        "balance = 100000\narpc = 2\nstatus = 80",
+    ),
+    ("name = \"c1\"", "name = \"c1\"\nversion = 1\npse = 10"),
+    (
+        "tries = 3",
+        "tries = 3\ncurrency_two = \"978\"\nlimit_two = 3000\nlog = 5\nlog_sfi = 30",
+    ),
+];
+
+#[test]
+fn keys_with_a_default_are_read(rt: HostRuntime) {
+    let text = changed(rt.alloc(), &BESIDES).expect(&rt, "a document");
+    let scenario = read(rt.alloc(), text.as_str())
+        .ok()
+        .expect(&rt, "a scenario");
+    let account = scenario.accounts.first().expect(&rt, "an account");
+    assert!(rt; account.arpc == Method::Two && account.status == 80);
+    let card = scenario.cards.first().expect(&rt, "a card");
+    let image = card.kind.image().expect(&rt, "applications");
+    assert!(rt; image.version() == 1 && image.directory() == Some(10));
+    let app = image.apps().first().expect(&rt, "an application");
+    assert!(rt; app.currency_two == Some([0x09, 0x78]) && app.limit_two == 3000);
+    assert!(rt; app.log == 5 && app.log_sfi == 30);
+    let state = &app.opening;
+    assert!(rt; state.sum_two == 0 && state.limit_two == 3000);
+    assert!(rt; state.log_max == 5 && state.log.is_empty());
 }
 
 #[test]

@@ -1,13 +1,14 @@
 use Rattle.std.proofs.Common.{List, ℕ, subst}
 use Rattle.emv_ports.specs.Growth.{AppendsFront}
+use Rattle.explain.specs.Course.{way_in, stand_of}
 use Rattle.explain.specs.Told.{rest_of}
 use Rattle.explain.proofs.Coming.{so_far_flush_at}
 use Rattle.explain.proofs.told.flush.Goals as goal
 
 pub returns-in-Ok-clause-ok : goal.returns-in-Ok-clause-ok
 returns-in-Ok-clause-ok g c = λ seen first s.
-    so_far_flush_at c.args.teller.now.all c.args.teller.now.long c.args.teller.now.line.items seen c.as_slice.result.now c.clear.new.self.items first
-    (g.K.Sink.held c.args.sink.now) (g.K.Sink.held c.put_rest.new.sink) c.as_slice.ensures.value c.clear.ensures s c.in-Ok.ensures.all
+    so_far_flush_at (way_in c.args.teller.now) (stand_of c.args.teller.now) c.args.teller.now.line.items seen c.as_slice.result.now c.clear.new.self.items first
+    (g.K.Sink.held c.args.sink.now) (g.K.Sink.held c.put_rest.new.sink) c.as_slice.ensures.value c.clear.ensures c.requires s c.in-Ok.ensures.all
 
 pub returns-in-Err-clause-front : goal.returns-in-Err-clause-front
 returns-in-Err-clause-front g c =

@@ -3,7 +3,7 @@ use Rattle.app_select.specs.Leading.{rest_with}
 use Rattle.emv_dict.specs.declared.ending.Step.TheVariants as step
 use Rattle.kernel.proofs.Opened.{asks_on}
 use Rattle.kernel.proofs.opening.ask_search.Goals as goal
-use Rattle.kernel.specs.Fits.{selected_then}
+use Rattle.kernel.specs.Dialogue.{selected_then}
 use Rattle.terminal_state.specs.Table.{deal_of}
 
 pub returns-clause-stands : goal.returns-clause-stands

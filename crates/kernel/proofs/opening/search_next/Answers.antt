@@ -2,7 +2,7 @@ use Rattle.app_select.specs.Leading.{selected_with}
 use Rattle.emv_dict.specs.declared.ending.Step.TheVariants as step
 use Rattle.kernel.proofs.Opened.{done_on, stopped_on}
 use Rattle.kernel.proofs.opening.search_next.Goals as goal
-use Rattle.kernel.specs.Fits.{selected_then}
+use Rattle.kernel.specs.Dialogue.{selected_then}
 use Rattle.terminal_state.specs.Table.{deal_of}
 
 pub returns-in-Ask-clause-stands : goal.returns-in-Ask-clause-stands

@@ -2,7 +2,7 @@ use Rattle.std.proofs.Common.{◌≡◌, ◌+◌, ◌*◌, ◌-◌, ◌≤◌, L
 use Rattle.std.specs.List.{flat_map}
 use Rattle.std.specs.Prelude.{option_map}
 use Rattle.std.proofs.lemmas.List.{length-map}
-use Rattle.card_files.specs.Views.{AppData}
+use Rattle.card_files.specs.Views.{AppData, ImageData}
 use Rattle.scenario.specs.Cards.{CardData}
 use Rattle.scenario.specs.Seen.{seen_card, seen_cards}
 use Rattle.txn_replay.specs.Audited.{question_check}
@@ -43,12 +43,12 @@ returns-in-Some-question_at-clause-step c =
     let here = found_at c.args.cards.now c.loop-index.index c.index-cards-index.result c.loop-index-test.true c.index-cards-index.is in
     let kind = there_apps c.index-cards-index.result.kind c.in-Some.image.now (sym c.in-Some.ensures) in
     let canned : (seen_card c.index-cards-index.result).canned ≡ None = seen_canned c.index-cards-index.result ∙ kind.0 in
-    let image : (seen_card c.index-cards-index.result).image ≡ c.apps-apps.result.now =
-    seen_image c.index-cards-index.result ∙ kind.1 ∙ sym c.apps-apps.ensures.apps in
+    let apps : (seen_card c.index-cards-index.result).image.apps ≡ c.apps-apps.result.now =
+    ap (λ (image : ImageData). image.apps) (seen_image c.index-cards-index.result ∙ kind.1) ∙ sym c.apps-apps.ensures.apps in
     let card : CardData = seen_card c.index-cards-index.result in
     let i = c.loop-index.index in
-    let asked : slice_get (flat_map (app_checks i card) card.image) (c.loop-index.left - 1) ≡ Some (question_check i card c.in-Some-question_at.question) =
-    ap (λ (apps : List AppData). slice_get (flat_map (app_checks i card) apps) (c.loop-index.left - 1)) image
+    let asked : slice_get (flat_map (app_checks i card) card.image.apps) (c.loop-index.left - 1) ≡ Some (question_check i card c.in-Some-question_at.question) =
+    ap (λ (xs : List AppData). slice_get (flat_map (app_checks i card) xs) (c.loop-index.left - 1)) apps
     ∙ sym (c.question_at.ensures.asked i card)
     ∙ ap (option_map (question_check i card)) c.in-Some-question_at.is in
     sym (own_check (seen_cards c.args.cards.now) i card c.loop-index.left (question_check i card c.in-Some-question_at.question)
@@ -65,12 +65,12 @@ loop-index-preserved c = record {
       (let here = found_at c.args.cards.now c.loop-index.index c.index-cards-index.result c.loop-index-test.true c.index-cards-index.is in
       let kind = there_apps c.index-cards-index.result.kind c.in-Some.image.now (sym c.in-Some.ensures) in
       let canned : (seen_card c.index-cards-index.result).canned ≡ None = seen_canned c.index-cards-index.result ∙ kind.0 in
-      let image : (seen_card c.index-cards-index.result).image ≡ c.apps-apps.result.now =
-      seen_image c.index-cards-index.result ∙ kind.1 ∙ sym c.apps-apps.ensures.apps in
+      let apps : (seen_card c.index-cards-index.result).image.apps ≡ c.apps-apps.result.now =
+      ap (λ (image : ImageData). image.apps) (seen_image c.index-cards-index.result ∙ kind.1) ∙ sym c.apps-apps.ensures.apps in
       let card : CardData = seen_card c.index-cards-index.result in
-      let count : length c.apps-apps.result.now ≡ length card.image = ap (λ (apps : List AppData). length apps) (sym image) in
+      let count : length c.apps-apps.result.now ≡ length card.image.apps = ap (λ (xs : List AppData). length xs) (sym apps) in
       let behind : 3 * length c.apps-apps.result.now ≤ c.loop-index.left - 1 = c.question_at.ensures.behind c.in_default-question_at.is in
-      let enough : 1 + 3 * length card.image ≤ c.loop-index.left = omega (arith, count, behind, c.if-left-eq0.false) in
+      let enough : 1 + 3 * length card.image.apps ≤ c.loop-index.left = omega (arith, count, behind, c.if-left-eq0.false) in
       ap (λ n. slice_get (checks_from (c.loop-index.index + 1) (drop (c.loop-index.index + 1) (seen_cards c.args.cards.now))) (c.loop-index.left - (1 + 3 * n))) count
       ∙ sym (later_check (seen_cards c.args.cards.now) c.loop-index.index card c.loop-index.left
       (seen_at c.args.cards.now c.loop-index.index c.index-cards-index.result here) canned enough)

@@ -19,7 +19,7 @@ returns-in-Ok-clause-answered g c session ds plan made on =
     let body = c.answer-reply.new.out.items in
     let reply = c.answer-reply.result in
     let is : reply_data body reply ≡ reply_in shown.image shown.kept.state shown.phase c.args.command.now =
-    c.answer-reply.ensures.said ∙ ap (λ (s : CardState). reply_in shown.image s shown.phase c.args.command.now) c.state.ensures in
+    c.answer-reply.ensures.said ∙ ap (λ (s : CardState). reply_in shown.image s shown.phase c.args.command.now) c.state.ensures.value in
     let next : CardSeen = record { image = c.self.inside.image.now; kept = c.carry_out.new.kept; phase = c.in-Ok.phase } in
     subst (λ (s : CardSeen). Answered s next session ds plan made c.args.command.now c.carry_out.new.out.items) c.self.view_is
     (answered shown session ds plan made here c.args.command.now body reply is c.carry_out.new.kept c.in-Ok.phase c.carry_out.new.out.items
@@ -32,8 +32,8 @@ returns-in-Ok-clause-allowed g c session ds plan made on allowed =
     let body = c.answer-reply.new.out.items in
     let reply = c.answer-reply.result in
     let is : reply_data body reply ≡ reply_in shown.image shown.kept.state shown.phase c.args.command.now =
-    c.answer-reply.ensures.said ∙ ap (λ (s : CardState). reply_in shown.image s shown.phase c.args.command.now) c.state.ensures in
-    let state : c.state.result.now ≡ totals (opening_of shown.image) ds = c.state.ensures ∙ here.kept.state_is in
+    c.answer-reply.ensures.said ∙ ap (λ (s : CardState). reply_in shown.image s shown.phase c.args.command.now) c.state.ensures.value in
+    let state : c.state.result.now ≡ totals (opening_of shown.image) ds = c.state.ensures.value ∙ here.kept.state_is in
     let may = subst (λ (s : CardState). MayReply s reply) state c.answer-reply.ensures.may in
     let start = subst (λ (s : CardSeen). Allowed (opening_of s.image) ds) (sym c.self.view_is) allowed in
     let longer =
@@ -48,7 +48,7 @@ returns-in-Err-clause-cut g c session ds plan made on =
     let body = c.answer-reply.new.out.items in
     let reply = c.answer-reply.result in
     let is : reply_data body reply ≡ reply_in shown.image shown.kept.state shown.phase c.args.command.now =
-    c.answer-reply.ensures.said ∙ ap (λ (s : CardState). reply_in shown.image s shown.phase c.args.command.now) c.state.ensures in
+    c.answer-reply.ensures.said ∙ ap (λ (s : CardState). reply_in shown.image s shown.phase c.args.command.now) c.state.ensures.value in
     let lost = c.carry_out.new.kept.memory in
     subst (λ (s : CardSeen). CutOff s lost session ds plan made c.args.command.now) c.self.view_is
     (cut_off shown session ds plan made here c.args.command.now body reply is lost c.in-Err.ensures.cut)
@@ -60,8 +60,8 @@ returns-in-Err-clause-allowed g c session ds plan made on allowed =
     let body = c.answer-reply.new.out.items in
     let reply = c.answer-reply.result in
     let is : reply_data body reply ≡ reply_in shown.image shown.kept.state shown.phase c.args.command.now =
-    c.answer-reply.ensures.said ∙ ap (λ (s : CardState). reply_in shown.image s shown.phase c.args.command.now) c.state.ensures in
-    let state : c.state.result.now ≡ totals (opening_of shown.image) ds = c.state.ensures ∙ here.kept.state_is in
+    c.answer-reply.ensures.said ∙ ap (λ (s : CardState). reply_in shown.image s shown.phase c.args.command.now) c.state.ensures.value in
+    let state : c.state.result.now ≡ totals (opening_of shown.image) ds = c.state.ensures.value ∙ here.kept.state_is in
     let may = subst (λ (s : CardState). MayReply s reply) state c.answer-reply.ensures.may in
     let start = subst (λ (s : CardSeen). Allowed (opening_of s.image) ds) (sym c.self.view_is) allowed in
     let longer =

@@ -12,8 +12,8 @@ pub returns-clause-found : goal.returns-clause-found
 returns-clause-found g c =
     on_ok_two c.turn_on.result
     (λ found on kept pending off.
-    let here = subst (λ (k : CardSeen). MayStand k.kept.memory.cells (opening_of k.image) kept pending) (sym c.self.view_is) off.may in
-    let may = subst (λ (m : Memory). MayStand m.cells (opening_of c.self.inside.image.now) kept pending) (sym c.plan.ensures) here in
+    let here = subst (λ (k : CardSeen). MayStand k.kept.memory.cells k.image.version (opening_of k.image) kept pending) (sym c.self.view_is) off.may in
+    let may = subst (λ (m : Memory). MayStand m.cells c.self.inside.image.now.version (opening_of c.self.inside.image.now) kept pending) (sym c.plan.ensures) here in
     let one = found kept pending may in (
       one.0,
       record {

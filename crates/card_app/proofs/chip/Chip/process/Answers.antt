@@ -1,8 +1,8 @@
 -- What the card says of itself holds of its place.
-use Rattle.std.proofs.Common.{List, sym, subst}
+use Rattle.std.proofs.Common.{sym, subst}
 use Rattle.std.proofs.lemmas.Result.{on_err_weaker}
 use Rattle.card_files.specs.Files.{opening_of}
-use Rattle.card_files.specs.Views.{AppData}
+use Rattle.card_files.specs.Views.{ImageData}
 use Rattle.torn_store.proofs.Outcomes.{on_ok_two}
 use Rattle.card_pages.specs.Cuts.{left_of, kept_by, pending_by}
 use Rattle.card_pages.specs.Pages.{MayStand}
@@ -28,8 +28,8 @@ returns-clause-cut g c =
           off = one.1.left.gone.off;
           may =
               subst
-              (λ (i : List AppData). MayStand c.carry_on.new.self.kept.memory.cells (opening_of i) (kept_by (left_of plan) ds one.0) (pending_by (left_of plan) one.0))
-              (sym c.carry_on.ensures.image) one.1.left.stands;
+              (λ (i : ImageData). MayStand c.carry_on.new.self.kept.memory.cells i.version (opening_of i) (kept_by (left_of plan) ds one.0) (pending_by (left_of plan) one.0))
+              (sym c.carry_on.ensures.image) (one.1.left.stands c.args.self.now.image.version);
         };
       },
     ))

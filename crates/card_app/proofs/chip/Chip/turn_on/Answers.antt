@@ -14,15 +14,17 @@ use Rattle.card_app.proofs.chip.Chip.turn_on.Goals as goal
 pub power_up-requires-clause-stands : goal.power_up-requires-clause-stands
 power_up-requires-clause-stands g c =
     let s = c.requires.stands in
-    let may = subst (λ (k : CardSeen). MayStand k.kept.memory.cells (opening_of k.image) s.0 s.1) (sym c.self.view_is) s.2 in
-    (s.0, s.1, subst (λ (o : CardState). MayStand c.self.inside.kept.memory.cells o s.0 s.1) (sym c.opening.ensures.value) may)
+    let may = subst (λ (k : CardSeen). MayStand k.kept.memory.cells k.image.version (opening_of k.image) s.0 s.1) (sym c.self.view_is) s.2 in
+    let version = c.self.inside.image.now.version in
+    (version, s.0, s.1, subst (λ (o : CardState). MayStand c.self.inside.kept.memory.cells version o s.0 s.1) (sym c.opening.ensures.value) may)
 
 pub invariant_of-self : goal.invariant_of-self
 invariant_of-self g c on =
     let s = c.requires.stands in
-    let may = subst (λ (k : CardSeen). MayStand k.kept.memory.cells (opening_of k.image) s.0 s.1) (sym c.self.view_is) s.2 in
+    let may = subst (λ (k : CardSeen). MayStand k.kept.memory.cells k.image.version (opening_of k.image) s.0 s.1) (sym c.self.view_is) s.2 in
     let found =
-    c.in-Ok.ensures.found s.0 s.1 (subst (λ (o : CardState). MayStand c.self.inside.kept.memory.cells o s.0 s.1) (sym c.opening.ensures.value) may) in
+    c.in-Ok.ensures.found c.self.inside.image.now.version s.0 s.1
+    (subst (λ (o : CardState). MayStand c.self.inside.kept.memory.cells c.self.inside.image.now.version o s.0 s.1) (sym c.opening.ensures.value) may) in
     let list = found_of s.0 s.1 found.0 in
     record {
       apps = count_is c.self.inside.image.now list c.power_up.new.self.state (found.1.state_is ∙ ap (λ (o : CardState). totals o list) c.opening.ensures.value);
@@ -32,9 +34,10 @@ invariant_of-self g c on =
 pub returns-in-Ok-clause-found : goal.returns-in-Ok-clause-found
 unfolding phase_of
 returns-in-Ok-clause-found g c kept pending stands =
-    let may = subst (λ (k : CardSeen). MayStand k.kept.memory.cells (opening_of k.image) kept pending) (sym c.self.view_is) stands in
+    let may = subst (λ (k : CardSeen). MayStand k.kept.memory.cells k.image.version (opening_of k.image) kept pending) (sym c.self.view_is) stands in
     let found =
-    c.in-Ok.ensures.found kept pending (subst (λ (o : CardState). MayStand c.self.inside.kept.memory.cells o kept pending) (sym c.opening.ensures.value) may) in
+    c.in-Ok.ensures.found c.self.inside.image.now.version kept pending
+    (subst (λ (o : CardState). MayStand c.self.inside.kept.memory.cells c.self.inside.image.now.version o kept pending) (sym c.opening.ensures.value) may) in
     let list = found_of kept pending found.0 in
     let here = subst (λ (o : CardState). KeptOn c.power_up.new.self o list c.self.inside.kept.memory.plan 0) c.opening.ensures.value found.1 in
     let planned =

@@ -20,11 +20,18 @@ write_fci-requires-clause-pdol c =
     let kept : KeepsRules app = rw (← c.index-apps-from.is) at (c.apps.ensures.rules c.from.result app within) in
     pdol_size app.pdol kept.pdol
 
+pub write_fci-requires-clause-room : goal.write_fci-requires-clause-room
+write_fci-requires-clause-room c =
+    let app : AppData = c.index-apps-from.result in
+    let within : c.from.result < length c.apps.result.now = omega arith in
+    let kept : KeepsRules app = rw (← c.index-apps-from.is) at (c.apps.ensures.rules c.from.result app within) in
+    kept.room
+
 pub returns-clause-bytes : goal.returns-clause-bytes
 returns-clause-bytes c =
     let app : AppData = c.index-apps-from.result in
     let within : c.from.result < length c.apps.result.now = omega arith in
-    let there : slice_get c.args.self.now c.args.app ≡ Some app =
+    let there : slice_get c.args.self.now.apps c.args.app ≡ Some app =
     rw (c.apps.ensures.apps, c.from.ensures) at (lookup c.apps.result.now c.from.result app within c.index-apps-from.is) in
     rw there c.write_fci.ensures
 
@@ -32,6 +39,6 @@ pub returns-clause-read : goal.returns-clause-read
 returns-clause-read c =
     let app : AppData = c.index-apps-from.result in
     let within : c.from.result < length c.apps.result.now = omega arith in
-    let there : slice_get c.args.self.now c.args.app ≡ Some app =
+    let there : slice_get c.args.self.now.apps c.args.app ≡ Some app =
     rw (c.apps.ensures.apps, c.from.ensures) at (lookup c.apps.result.now c.from.result app within c.index-apps-from.is) in
     rw there (is_fci app _ c.write_fci.ensures)

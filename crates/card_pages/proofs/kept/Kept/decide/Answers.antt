@@ -4,9 +4,13 @@ use Rattle.card_state.specs.Change.{changed}
 use Rattle.card_state.specs.Decisions.{Decided}
 use Rattle.card_state.specs.Encoding.{encoding, IsCardState}
 use Rattle.card_state.specs.Totals.{totals}
+use Rattle.card_state.proofs.ShortLogs.{short_at}
 use Rattle.card_pages.specs.SeenKept.{KeptState}
 use Rattle.card_pages.proofs.Stands.{same_count, cut_releasing}
 use Rattle.card_pages.proofs.kept.Kept.decide.Goals as goal
+
+pub apply-requires-clause-short : goal.apply-requires-clause-short
+apply-requires-clause-short g c = short_at c.self.inside.state c.args.app c.self.invariant.1
 
 pub returns-clause-apps : goal.returns-clause-apps
 returns-clause-apps g c =

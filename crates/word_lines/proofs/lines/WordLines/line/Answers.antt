@@ -1,12 +1,13 @@
 use Rattle.std.proofs.Common.{arith}
 use Rattle.std.proofs.lemmas.Grind.{common_steps}
 use Rattle.word_lines.specs.Lines.{begun}
+use Rattle.word_lines.specs.Pieces.{with_piece}
 use Rattle.word_lines.proofs.Growing.{not_before}
 use Rattle.word_lines.proofs.lines.WordLines.line.Goals as goal
 
-pub returns-clause-begun : goal.returns-clause-begun
-unfolding begun
-returns-clause-begun c = λ none.
-    let ended = c.end.ensures.ended (not_before c.end.new.self.failed c.text.new.self.failed c.text.ensures.failed none) in
-    let text = c.text.ensures.text none in
-    grind (arith, common_steps)
+pub returns : goal.returns
+unfolding begun with_piece
+returns c = λ none.
+    let text = c.text.ensures.told none in
+    let ended = c.end.ensures.ended text.0 in
+    (not_before _ _ c.end.ensures.failed text.0, grind (arith, common_steps))

@@ -1,4 +1,5 @@
 use Rattle.std.proofs.Common.{refl}
+use Rattle.word_lines.specs.Pieces.{with_piece}
 use Rattle.word_lines.proofs.Growing.{grown_start, grown_more, grown_end}
 use Rattle.word_lines.proofs.lines.WordLines.text.Goals as goal
 
@@ -10,11 +11,9 @@ loop-byte-preserved c =
     grown_more _ c.loop-byte.self _ _ c.args.text.now c.loop-byte.byte-index _ c.loop-byte-test.true refl c.loop-byte.invariant
     c.push.ensures.shown c.push.ensures.one c.push.ensures.failed
 
-pub returns-clause-text : goal.returns-clause-text
-returns-clause-text c = grown_end c.args.self.now c.loop-byte.self _ c.args.text.now c.loop-byte.byte-index c.loop-byte-test.false c.loop-byte.invariant
+pub returns-clause-told : goal.returns-clause-told
+unfolding with_piece
+returns-clause-told c = grown_end c.args.self.now c.loop-byte.self _ c.args.text.now c.loop-byte.byte-index c.loop-byte-test.false c.loop-byte.invariant
 
 pub returns-clause-one : goal.returns-clause-one
 returns-clause-one c = c.loop-byte.invariant.one
-
-pub returns-clause-failed : goal.returns-clause-failed
-returns-clause-failed c = c.loop-byte.invariant.failed

@@ -1,0 +1,10 @@
+//! The longer phrases, each written once.
+
+/// Before the tries that a wrong PIN leaves.
+pub const WRONG_PIN: &[u8] = b"wrong PIN, tries left ";
+
+/// Of a command that has no answer.
+pub const NO_ANSWER_YET: &[u8] = b"the card was pulled out before it had answered";
+
+/// Of a command that may leave something on the card.
+pub const MAY_BE_KEPT: &[u8] = b"; its next power line tells whether that was kept";

@@ -1,0 +1,71 @@
+//! The longer phrases, each written once.
+
+/// Before the step in which the terminal ended a payment.
+pub const ENDED_AT: &[u8] = b"the terminal ended it at ";
+
+/// Before the step in which the card was pulled out.
+pub const PULLED_OUT: &[u8] = b"the card was pulled out: ";
+
+/// Before the kind of cryptogram that the card answered.
+pub const CARD_ANSWERED: &[u8] = b"; the card answered ";
+
+/// Before the kind of cryptogram that the terminal asked for.
+pub const ASKED_FOR: &[u8] = b"the terminal asked for ";
+
+/// No rule of cardholder verification was performed.
+pub const NO_RULE: &[u8] = b"no rule was performed";
+
+/// Each command of a script was carried out.
+pub const ALL_CARRIED_OUT: &[u8] = b": all commands were carried out";
+
+/// A script was not carried out.
+pub const NO_SCRIPT: &[u8] = b": not of the form of a script, or the card was gone";
+
+/// Before the sum in the second currency.
+pub const SECOND_SUM: &[u8] = b", sum in the second currency ";
+
+/// Before the application transaction counter.
+pub const TRANSACTION_COUNTER: &[u8] = b"transaction counter ";
+
+/// Before the number of offline approvals.
+pub const OFFLINE_APPROVALS: &[u8] = b", offline approvals ";
+
+/// The application is blocked.
+pub const APPLICATION_IS_BLOCKED: &[u8] = b", application blocked";
+
+/// Its last issuer authentication failed.
+pub const AUTHENTICATION_HAS_FAILED: &[u8] = b", last issuer authentication failed";
+
+/// The name of the number of offline approvals.
+pub const APPROVALS: &[u8] = b"offline approvals";
+
+/// The name of the flag of a blocked application.
+pub const BLOCKED: &[u8] = b"application blocked";
+
+/// The name of the flag of a failed issuer authentication.
+pub const FAILED: &[u8] = b"issuer authentication failed";
+
+/// Before what changed since the card's last power-up.
+pub const SINCE_LAST: &[u8] = b"since its last power-up:";
+
+/// The card was pulled out as it was powered up.
+pub const POWER_TORN: &[u8] = b"the card was pulled out while it was powered up";
+
+/// The card has canned answers.
+pub const POWER_CANNED: &[u8] = b"a card of canned answers: it has no counters";
+
+/// A card of canned answers has none left.
+pub const CARD_GONE: &[u8] = b"the card has no answer left: for the terminal it is gone";
+
+/// The issuer's reply did not come.
+pub const NO_REPLY: &[u8] = b"no reply: request or reply was lost";
+
+/// A purchase was lost with the terminal's power.
+pub const PURCHASE_LOST: &[u8] =
+    b"the terminal lost power while it wrote to its own memory: whether the purchase is kept shows at its settlement";
+
+/// Before the entry from which a trace is another one.
+pub const TRACE_DIFFERS: &[u8] = b"the trace is the terminal's up to entry ";
+
+/// Behind this entry.
+pub const OR_MISSING: &[u8] = b", counted from 0, which is another or missing";

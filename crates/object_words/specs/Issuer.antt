@@ -1,0 +1,58 @@
+-- Values that the issuer gives or reads, in words.
+use Rattle.std.specs.Prelude.{ℕ, ◌+◌, ◌*◌, ◌/◌, ◌==◌, Bool, ◌&&◌, not, nat_le, if◌then◌else◌, List, [], ◌∷◌, ◌++◌, length, map, slice_index, bit_and, codes, Option, Some, None}
+use Rattle.word_lines.specs.Pieces.{Piece, text, hex, word_or}
+use Rattle.explain_words.specs.Words.{word_in}
+use Rattle.explain_words.specs.declared.bits.TheConstants.{UPDATE_BITS}
+use Rattle.explain_words.specs.declared.codes.TheConstants.{CRYPTOGRAMS, RESPONSES}
+use Rattle.object_words.specs.Bits.{behind_comma, bit_words}
+use Rattle.object_words.specs.Plain.{told_if}
+use Rattle.object_words.specs.declared.phrases.TheConstants.{STATUS_UPDATE, REFUSED}
+
+-- the kind of cryptogram of a byte's two high bits, behind a comma (EMV 4.3 Book 3 section 6.5.5.4)
+abbrev pub kind_words : ℕ → List Piece
+kind_words byte = behind_comma (word_in (map (λ w. (w.0, w.1.now)) CRYPTOGRAMS) (byte / 64 * 64))
+
+-- cryptogram information data
+abbrev pub information_words : List ℕ → Option (List Piece)
+information_words value = told_if (length value == 1) (hex value ++ kind_words (slice_index value 0))
+
+-- a flag that is set
+abbrev pub flag_words : Bool → List ℕ → List Piece
+flag_words holds characters = (if holds then text characters else [])
+
+-- what the issuer asks of the card: four bytes (EMV 4.3 Book 3 Annex C8)
+abbrev pub approval_words : ℕ → List Piece
+approval_words byte = (if nat_le 128 byte then text (codes "approved") else text (codes "not approved"))
+
+abbrev pub update_words : List ℕ → List Piece
+update_words update =
+    text STATUS_UPDATE.now ++ hex update ++ text (codes ": ") ++ approval_words (slice_index update 0)
+    ++ bit_words (map (λ w. (w.0, w.1.now)) UPDATE_BITS) (0 ∷ bit_and (slice_index update 1) 0xF0 ∷ [])
+
+-- the words of a response code
+unfoldable pub response_word : ℕ → Option (List ℕ)
+response_word code = word_in (map (λ w. (w.0, w.1.now)) RESPONSES) code
+
+abbrev pub response_words : ℕ → List Piece
+response_words code = word_or (text (codes "not known")) (response_word code)
+
+-- what became of a message of the settlement: 00 has its own words there
+abbrev pub answer_words : ℕ → List ℕ → List Piece
+answer_words code approved =
+    if code == 0x3030 then text approved
+    else if code == 0x3035 then text REFUSED.now
+    else response_words code
+
+abbrev pub code_words : ℕ → Option (List ℕ) → List Piece
+code_words code None = response_words code
+code_words code (Some approved) = answer_words code approved
+
+-- a character of a response code
+abbrev pub is_code_character : ℕ → Bool
+is_code_character byte = nat_le 33 byte && nat_le byte 126
+
+-- a response code of two characters and its words
+abbrev pub response_code_words : List ℕ → Option (List ℕ) → Option (List Piece)
+response_code_words value approved =
+    told_if (length value == 2 && (is_code_character (slice_index value 0) && is_code_character (slice_index value 1)))
+    (text value ++ text (codes ", ") ++ code_words (slice_index value 0 * 256 + slice_index value 1) approved)

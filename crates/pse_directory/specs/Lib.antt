@@ -1,0 +1,9 @@
+pub mod Entries
+pub mod Said
+pub mod Directory
+pub mod Chosen
+pub mod Keeping
+pub mod Left
+pub mod SeenSaid
+pub mod SeenPlace
+pub mod Next
