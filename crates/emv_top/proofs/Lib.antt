@@ -7,7 +7,6 @@ pub mod DialogueShort
 pub mod ReadShort
 pub mod Objects
 pub mod Inputs
-pub mod Banks
 pub mod Answering
 pub mod Replays
 pub mod Closings

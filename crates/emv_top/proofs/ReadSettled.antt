@@ -3,16 +3,16 @@ use Rattle.std.proofs.Common.{◌≡◌, ℕ, Bool, List, [], ◌∷◌, length,
 use Rattle.std.specs.Prelude.{option_and_then}
 use Rattle.emv_top.specs.Answers.{AreSettled}
 use Rattle.emv_top.proofs.ReadRuns.{none_past, none_ended}
-use Rattle.emv_top.proofs.Uncut.{IsSettled, piece_card}
+use Rattle.emv_top.proofs.Uncut.{IsSettled, lane_card}
 use Rattle.report_text.specs.declared.line.Line.{Line}
 use Rattle.scenario.specs.Cards.{CardData}
 use Rattle.scenario.specs.Plan.{ScenarioData}
 use Rattle.scenario_lanes.specs.Plan.{LaneData}
 use Rattle.scenario_lanes.specs.declared.plan.Planned.{Planned}
-use Rattle.txn_replay.specs.Part.{piece}
 use Rattle.txn_replay.specs.Payment.{Payment, payment_with, payment_of, payment_on, payment_in, next_of}
 use Rattle.txn_replay.specs.Reading.{ReadReached, start, turned, data_at, ending_at, to_read, untorn, first_untorn, lane_untorn}
 use Rattle.txn_replay.specs.Steps.{part_of, choice_in, turned_by}
+use Rattle.txn_replay.specs.Storing.{lane_piece}
 use Rattle.txn_replay.specs.World.{Past, CardRow, World, new_card, card_at, lane_at}
 use Rattle.txn_replay.proofs.Lists.{at_set, get_or-map_const}
 
@@ -45,8 +45,9 @@ module _ (whole : ScenarioData) where
       → AllSettled (turned_by w 0 choices o).world
   turn_settled w choices None none all = all
   turn_settled w choices (Some p) none all =
-      at_set (λ (i : ℕ) (row : CardRow). IsSettled row) w.cards p.planned.card (piece p (part_of w 0 p.planned.card) (choice_in choices 0)).part.card new_card
-      (piece_card p (part_of w 0 p.planned.card) (λ apps. none p refl) (all p.planned.card) (choice_in choices 0)) all
+      at_set (λ (i : ℕ) (row : CardRow). IsSettled row) w.cards p.planned.card
+      (lane_piece p (part_of w 0 p.planned.card) (choice_in choices 0) (choice_in choices 1)).part.card new_card
+      (lane_card p (part_of w 0 p.planned.card) (λ apps. none p refl) (all p.planned.card) (choice_in choices 0) (choice_in choices 1)) all
 
   pub all_settled : (n : ℕ) (cs : List Bool) (ls : List Line) (w : World) → ReadReached (to_read whole) n cs ls w → AllSettled w
   all_settled _ _ _ _ start i = subst IsSettled (sym (get_or-map_const whole.cards i new_card)) refl

@@ -1,7 +1,8 @@
 -- What a reading gives has no value longer than an answer.
-use Rattle.std.proofs.Common.{◌≡◌, ℕ, Bool, List, [], ◌∷◌, ◌++◌, Option, Some, None, subst, sym}
+use Rattle.std.proofs.Common.{◌≡◌, ℕ, Bool, true, List, [], ◌∷◌, ◌++◌, Option, Some, None, subst, sym}
 use Rattle.std.specs.Prelude.{IfSome, option_and_then}
 use Rattle.std.specs.List.{AllByRecursion}
+use Rattle.capture_store.specs.StoreRow.{opened_to_add}
 use Rattle.emv_top.proofs.DialogueShort.{latest_short, dialogue_short}
 use Rattle.emv_top.specs.Short.{IsShort}
 use Rattle.kernel.specs.Dialogue.{dialogue}
@@ -11,16 +12,17 @@ use Rattle.report_text.specs.declared.line.Line.{Line}
 use Rattle.scenario.specs.Plan.{ScenarioData}
 use Rattle.terminal_state.specs.Marks.{moment, latest, card_of}
 use Rattle.txn_replay.proofs.Lists.{at_set, get_or-map_const}
-use Rattle.txn_replay.specs.Part.{Part, piece}
+use Rattle.txn_replay.specs.Part.{Part, loses}
 use Rattle.txn_replay.specs.Payment.{Payment, deal_for, end_at, next_of}
 use Rattle.txn_replay.specs.Reading.{ReadReached, start, turned, data_at, data_by, last_past, past_card}
 use Rattle.txn_replay.specs.Steps.{part_of, choice_in, turned_by}
+use Rattle.txn_replay.specs.Storing.{part_with, lane_lost, lane_piece}
 use Rattle.txn_replay.specs.World.{Past, CardRow, LaneRow, World, new_lane, lane_at}
-use Rattle.txn_replay.proofs.Exchanging.{Tells, piece_tells}
+use Rattle.txn_replay.proofs.Exchanging.{Tells, StoreTells, lane_tells}
 use Rattle.txn_replay.proofs.Sending.{Later, later_ended}
 
 abbrev pub IsShortPast : Past → Type 0
-IsShortPast past = IfSome past.end.card IsShort
+IsShortPast past = IfSome (past_card past) IsShort
 
 abbrev pub LaneShort : LaneRow → Type 0
 LaneShort row = AllByRecursion IsShortPast row.ended
@@ -59,7 +61,7 @@ module _ (p : Payment) (part : Part) (before : LaneShort part.lane) where
     still = before;
     goes = λ lane later replies card messages lines came. later_short lane later;
     ends = λ lane later replies card messages lines came end is.
-        push_short lane.ended (record { began = lane.began; replies = replies; end = end }) (later_short lane later) (end_short p replies end is);
+        push_short lane.ended (record { began = lane.began; replies = replies; end = Some end; lost = loses p lane.store end.capture }) (later_short lane later) (end_short p replies end is);
     powers = λ rests free apps choice. tt;
     power_cut = λ rests free apps is. tt;
     powers_canned = λ rests free answers canned. tt;
@@ -70,6 +72,21 @@ module _ (p : Payment) (part : Part) (before : LaneShort part.lane) where
     hosts = λ replies runs message asks reply is. tt;
   }
 
+module _ (p : Payment) (part : Part) (before : LaneShort part.lane) where
+  -- a purchase that is lost before it begins has no card's data
+  lost_short : LaneShort (lane_lost part.lane)
+  lost_short = push_short part.lane.ended (record { began = None; replies = []; end = None; lost = true }) before tt
+
+  store_short : StoreTells p part (Came p part before) (Behind p part before)
+  store_short = record {
+    own = tells_short p part before;
+    again = λ one at off. tells_short p (part_with (opened_to_add part.lane.store one) part) before;
+    opened = λ one at off. before;
+    lost = λ at cut. lost_short;
+    sent = λ at message. before;
+    sent_lost = λ at message cut. lost_short;
+  }
+
 abbrev pub AllLanesShort : World → Type 0
 AllLanesShort w = (l : ℕ) → LaneShort (lane_at w l)
 
@@ -77,8 +94,8 @@ turn_short : (s : ScenarioData) (w : World) (choices : List Bool) (o : Option Pa
 turn_short s w choices None all = all
 turn_short s w choices (Some p) all =
     let part : Part = part_of w 0 p.planned.card in
-    at_set (λ (l : ℕ) (row : LaneRow). LaneShort row) w.lanes 0 (piece p part (choice_in choices 0)).part.lane new_lane
-    (piece_tells p part (Came p part (all 0)) (Behind p part (all 0)) (tells_short p part (all 0)) (choice_in choices 0)) all
+    at_set (λ (l : ℕ) (row : LaneRow). LaneShort row) w.lanes 0 (lane_piece p part (choice_in choices 0) (choice_in choices 1)).part.lane new_lane
+    (lane_tells p part (Came p part (all 0)) (Behind p part (all 0)) (store_short p part (all 0)) (choice_in choices 0) (choice_in choices 1)) all
 
 lanes_short : (s : ScenarioData) (n : ℕ) (cs : List Bool) (ls : List Line) (w : World) → ReadReached s n cs ls w → AllLanesShort w
 lanes_short s _ _ _ _ start l = subst LaneShort (sym (get_or-map_const s.lanes l new_lane)) tt

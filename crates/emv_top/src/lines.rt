@@ -59,14 +59,14 @@ pub fn write_lines<K: Sink>(lines: &[Line], text: &mut Text, sink: &mut K) -> Re
     Ok(())
 }
 
-/// Hands a line to the sink that a reading shows: all but the end line.
+/// Hands a line to the sink that a reading shows: all but an end line.
 fn emit_shown<K: Sink>(line: &Line, text: &mut Text, sink: &mut K) -> Result<(), Stop>
     ensures all { OnOk result (Appends (K.held sink.old) (K.held sink.new) (text_of (without_end line.now))) }
     ensures front { OnErr result (AppendsFront (K.held sink.old) (K.held sink.new) (text_of (without_end line.now))) }
     ensures stop { HasStop (K.faults sink.old) (K.faults sink.new) result }
 {
     match line {
-        Line::End { .. } => Ok(()),
+        Line::End { .. } | Line::EndLost { .. } => Ok(()),
         other => emit(other, text, sink),
     }
 }

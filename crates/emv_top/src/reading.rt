@@ -133,7 +133,6 @@ pub fn read_through<P: Pages, K: Sink>(
         → Completes (ReadRun s) (WorldStands world.new) (K.held sink.old) (K.held sink.new)) }
     ensures err { OnErr result (Stopped scenario.now shown_lines (Reads scenario.now) (WorldStands world.new) (K.held sink.old) (K.held sink.new)) }
     ensures told { world.new.scenario ≡ scenario.now }
-    ensures spare { world.new.spare ≡ world.old.spare }
     ensures stop { HasStop (K.faults sink.old) (K.faults sink.new) result }
 {
     let mut room = Room::new();

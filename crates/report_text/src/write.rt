@@ -39,6 +39,7 @@ pub fn write_line(line: &Line, out: &mut Text)
             number,
             parts,
         } => end(out, *lane, *number, parts),
+        Line::EndLost { lane, number } => end_lost(out, *lane, *number),
         Line::SettleCall { lane, bytes } => exchange(out, b"S", *lane, b" > ", bytes.as_slice()),
         Line::SettleReply { lane, bytes } => exchange(out, b"S", *lane, b" < ", bytes.as_slice()),
         Line::AuditPower { card, apps } => audit_power(out, card.as_slice(), apps.as_slice()),
@@ -118,6 +119,18 @@ fn end(out: &mut Text, lane: u8, purchase: u32, parts: &EndParts)
     number(out, u64::from(purchase));
     append(out, b" ");
     end_parts(out, parts);
+    append(out, b"\n");
+}
+
+fn end_lost(out: &mut Text, lane: u8, purchase: u32)
+    ensures { out.new.items ≡ codes "L" ++ decimal lane ++ codes " end " ++ decimal purchase ++ codes " lost" ++ newline }
+{
+    out.clear();
+    append(out, b"L");
+    number(out, u64::from(lane));
+    append(out, b" end ");
+    number(out, u64::from(purchase));
+    append(out, b" lost");
     append(out, b"\n");
 }
 

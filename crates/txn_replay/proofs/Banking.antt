@@ -1,14 +1,29 @@
 -- The pages that cards take and give back.
-use Rattle.std.proofs.Common.{◌≡◌, ℕ, zero, suc, ◌+◌, ◌-◌, ◌≤◌, ◌<◌, List, [], ◌∷◌, ◌++◌, length, map, drop, take, get_or, slice_get, Some, refl, sym, ap, ◌∙◌, subst, inl, inr, arith}
-use Rattle.std.specs.List.{All}
+use Rattle.std.proofs.Common.{◌≡◌, ℕ, zero, suc, ◌+◌, ◌-◌, ◌≤◌, ◌<◌, cond, List, [], ◌∷◌, ◌++◌, length, map, drop, take, get_or, slice_get, Some, refl, sym, ap, ◌∙◌, subst, inl, inr, arith}
+use Rattle.std.specs.List.{All, remove, take-map}
+use Rattle.std.specs.Prelude.{is_some}
 use Rattle.std.proofs.lemmas.Bool.{cases_eq}
-use Rattle.std.proofs.lemmas.List.{drop-map}
-use Rattle.std.proofs.lemmas.List.Elements.{All-drop}
+use Rattle.std.proofs.lemmas.List.{drop-map, map-append}
+use Rattle.std.proofs.lemmas.List.Elements.{All-append, All-drop, All-take}
+use Rattle.std.proofs.lemmas.List.Sums.{sum_by-append, sum_by-cons}
 use Rattle.std.proofs.lemmas.Option.{same_Some, slice_get_within}
+use Rattle.capture_store.specs.SeenShelf.{ShelfSeen}
 use Rattle.emv_ports.specs.Memory.{Memory, IsBlank}
 use Rattle.scenario.specs.Cards.{CardData}
-use Rattle.txn_replay.specs.Banked.{IsNew, AreNew, IsLeft, AreGiven}
+use Rattle.scenario_lanes.specs.Plan.{LaneData}
+use Rattle.txn_replay.specs.Banked.{IsNew, AreNew, IsNewStore, AreNewStores, stores_in, IsLeft, AreGiven}
 use Rattle.txn_replay.specs.Slot.{SlotSeen}
+
+-- the new element of a longer list, and the others
+at_end : {A : Type 0} (xs : List A) (x y : A) → slice_get (xs ++ x ∷ []) (length xs) ≡ Some y → x ≡ y
+at_end [] x y at = same_Some x y at
+at_end (z ∷ zs) x y at = at_end zs x y at
+
+in_front : {A : Type 0} (xs : List A) (x y : A) (i : ℕ) → (i ≡ length xs → ⊥) → slice_get (xs ++ x ∷ []) i ≡ Some y → slice_get xs i ≡ Some y
+in_front [] x y zero other at = absurd (other refl)
+in_front [] x y (suc i) other at = cc
+in_front (z ∷ zs) x y zero other at = at
+in_front (z ∷ zs) x y (suc i) other at = in_front zs x y i (λ same. other (ap (λ n. suc n) same)) at
 
 -- one card more
 pub one_new : (cards : List CardData) (slots : List SlotSeen) (card : CardData) (slot : SlotSeen) → AreNew cards slots
@@ -21,16 +36,40 @@ one_new cards slots card slot before here new = λ i other found wanted there.
           subst (λ (x : CardData). IsNew x found) its (subst (λ (x : SlotSeen). IsNew card x) slot_is new)
       | inr differs ↦ before i other found wanted (in_front slots slot found i differs there)
     ]
-  where
-    at_end : (xs : List SlotSeen) (x y : SlotSeen) → slice_get (xs ++ x ∷ []) (length xs) ≡ Some y → x ≡ y
-    at_end [] x y at = same_Some x y at
-    at_end (z ∷ zs) x y at = at_end zs x y at
 
-    in_front : (xs : List SlotSeen) (x y : SlotSeen) (i : ℕ) → (i ≡ length xs → ⊥) → slice_get (xs ++ x ∷ []) i ≡ Some y → slice_get xs i ≡ Some y
-    in_front [] x y zero other at = absurd (other refl)
-    in_front [] x y (suc i) other at = cc
-    in_front (z ∷ zs) x y zero other at = at
-    in_front (z ∷ zs) x y (suc i) other at = in_front zs x y i (λ same. other (ap (λ n. suc n) same)) at
+-- one store more, or one lane without a store
+pub one_new_store : (lanes : List LaneData) (shelves : List ShelfSeen) (lane : LaneData) (shelf : ShelfSeen) → AreNewStores lanes shelves
+    → slice_get lanes (length shelves) ≡ Some lane → IsNewStore shelf lane.durable → AreNewStores lanes (shelves ++ shelf ∷ [])
+one_new_store lanes shelves lane shelf before here new = λ i other found wanted there.
+    elim (cases_eq i (length shelves)) [
+      | inl same ↦
+          let its : lane ≡ other = same_Some lane other (sym here ∙ ap (λ n. slice_get lanes n) (sym same) ∙ wanted) in
+          let shelf_is : shelf ≡ found = at_end shelves shelf found (ap (λ n. slice_get (shelves ++ shelf ∷ []) n) (sym same) ∙ there) in
+          subst (λ (x : LaneData). IsNewStore found x.durable) its (subst (λ (x : ShelfSeen). IsNewStore x lane.durable) shelf_is new)
+      | inr differs ↦ before i other found wanted (in_front shelves shelf found i differs there)
+    ]
+
+pub stores_more : (shelves : List ShelfSeen) (shelf : ShelfSeen) → stores_in (shelves ++ shelf ∷ []) ≡ stores_in shelves + cond (is_some shelf) 1 0
+stores_more shelves shelf =
+    let both : stores_in (shelves ++ shelf ∷ []) ≡ stores_in shelves + stores_in (shelf ∷ []) = sum_by-append (λ (x : ShelfSeen). cond (is_some x) 1 0) shelves (shelf ∷ []) in
+    let one : stores_in (shelf ∷ []) ≡ cond (is_some shelf) 1 0 + 0 = sum_by-cons (λ (x : ShelfSeen). cond (is_some x) 1 0) shelf [] in
+    omega (arith, both, one)
+
+-- the pages that are left are still blank, and those that are taken were
+pub left_blank : {A : Type 0} (f : A → Memory) (xs : List A) (i : ℕ) → All IsBlank (map f xs) → All IsBlank (map f (remove xs i))
+left_blank {A} f xs i blank =
+    subst (λ (ms : List Memory). All IsBlank ms) (sym (map-append f (take i xs) (drop (suc i) xs)))
+    (All-append IsBlank (map f (take i xs)) (map f (drop (suc i) xs))
+    (subst (λ (ms : List Memory). All IsBlank ms) (take-map f i xs) (All-take IsBlank i (map f xs) blank))
+    (subst (λ (ms : List Memory). All IsBlank ms) (drop-map f (suc i) xs) (All-drop IsBlank (suc i) (map f xs) blank)))
+
+pub taken_blank : {A : Type 0} (f : A → Memory) (xs : List A) (i : ℕ) (x : A) → i < length xs → x ≡ get_or xs i x → All IsBlank (map f xs) → IsBlank (f x)
+taken_blank {A} f xs i x within is blank = by xs i within is blank
+  where
+    by : (ys : List A) (k : ℕ) → k < length ys → x ≡ get_or ys k x → All IsBlank (map f ys) → IsBlank (f x)
+    by [] k below at all = absurd (omega (arith, below))
+    by (y ∷ ys) zero below at all = subst (λ (z : A). IsBlank (f z)) (sym at) (all 0 (f y) (omega arith))
+    by (y ∷ ys) (suc k) below at all = by ys k (omega (arith, below)) at (λ n d inside. all (suc n) d (omega (arith, inside)))
 
 -- the last of the cards has left its pages
 pub one_given : (slots : List SlotSeen) (n : ℕ) (bank : List Memory) (slot : SlotSeen) (memory : Memory) → slice_get slots n ≡ Some slot → IsLeft slot memory

@@ -23,7 +23,7 @@ use Rattle.txn_replay.proofs.Following.{index_of, first_powers, asks_follow}
 use Rattle.txn_replay.proofs.Lists.{set_other, set_here}
 use Rattle.txn_replay.proofs.Payments.{payment_facts}
 use Rattle.txn_replay.proofs.Sounding.{card_sound}
-use Rattle.txn_replay.proofs.Turning.{below_over, over_next}
+use Rattle.txn_replay.proofs.Waiting.{below_over, over_next}
 use Rattle.txn_replay.proofs.Sending.{LanesLike}
 use Rattle.txn_replay.proofs.Waiting.{stays_over}
 

@@ -1,9 +1,11 @@
 //! Laws over every run, whatever its scenario.
 ghost use Rattle.txn_replay.specs.Bounds.{WorldsAreFew, SettlementsAreFew, ChecksAreFew};
+ghost use Rattle.txn_replay.specs.Captured.{CapturesAreSent, LostAreTold};
 ghost use Rattle.txn_replay.specs.Choices.{NoneIsOpen, RunIsOne};
 ghost use Rattle.txn_replay.specs.Laws.{RunsAreFair, WholeRunsAreFair, WorldsAreSound, IdleLanesStay, LanesStayApart, LossesAreTold, StuckIsOver, CalmIsOver};
 ghost use Rattle.txn_replay.specs.PagesTell.{PagesTellTotals};
 ghost use Rattle.txn_replay.specs.Respelled.{DialectsShow, WholeDialectsShow};
+ghost use Rattle.txn_replay.specs.Stored.{StoresAreKept, SettlementGoesThrough, StoresAreEmptied};
 ghost use Rattle.txn_replay.specs.Telling.{GivenIsTold, GivenIsLeft, HeldIsSure, AnsweredIsSure};
 ghost use Rattle.txn_replay.specs.Told.{RunsTellLosses, WholeRunsTellLosses, RunsTellReplies, RunsTellMessages, PastsEnd};
 
@@ -75,7 +77,7 @@ pub fn losses_are_told()
 {}
 
 /// Where no tear of a scenario leaves a choice, no card of a world that a run comes to has a decision that may be
-/// kept or not, and there is one run.
+/// kept or not, no store has a lost call, and there is one run.
 pub fn run_is_one()
     ensures closed { NoneIsOpen }
     ensures one { RunIsOne }
@@ -85,4 +87,20 @@ pub fn run_is_one()
 /// with applications, whatever their lines.
 pub fn pages_tell_totals()
     ensures { PagesTellTotals }
+{}
+
+/// Of a lane that keeps its captures durably, each capture of a purchase that wasn't lost is sent whole, in the
+/// order of the purchases; that of a lost purchase is sent whole or never; one that is sent again is, because its
+/// drop was lost. A lane has lost as many purchases as its lines tell.
+pub fn captures_are_sent()
+    ensures sent { CapturesAreSent }
+    ensures lost { LostAreTold }
+{}
+
+/// A store never holds more than seven messages, and has room while a purchase runs. The settlement goes through
+/// what its opening has found, and behind it nothing is left in a store and no call is lost.
+pub fn stores_are_emptied()
+    ensures kept { StoresAreKept }
+    ensures through { SettlementGoesThrough }
+    ensures emptied { StoresAreEmptied }
 {}

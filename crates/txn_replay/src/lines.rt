@@ -65,9 +65,8 @@ fn results_of(results: &ArrayVec<[u8; 5], 8>) -> ArrayVec<[u8; 5], 8>
 }
 
 /// The end line of a lane's purchase of this number.
-pub(crate) fn add_end(lane: u8, number: u32, ended: &EndRecord, lines: &mut Lines)
-    requires { length lines.old.items < 8 }
-    ensures { (end : EndData) → ended.now ≡ shown_end end → lines.new.items ≡ lines.old.items ++ spec.end_line lane number end ∷ [] }
+pub(crate) fn end_line(lane: u8, number: u32, ended: &EndRecord) -> Line
+    ensures { (end : EndData) → ended.now ≡ shown_end end → result ≡ spec.end_line lane number end }
 {
     let parts = EndParts {
         ending: ended.ending,
@@ -78,11 +77,11 @@ pub(crate) fn add_end(lane: u8, number: u32, ended: &EndRecord, lines: &mut Line
         atc_ac: last_of(&ended.last),
         scripts: results_of(&ended.scripts),
     };
-    lines.push(Line::End {
+    Line::End {
         lane,
         number,
         parts,
-    });
+    }
 }
 
 /// The bytes of a line.

@@ -30,6 +30,7 @@ returns-in_default-clause-ok g c = λ w stands.
       scenario = c.self.inside.scenario.now;
       slots = c.self.inside.slots.items;
       lanes = c.self.inside.lanes.items;
+      shelves = c.self.inside.shelves.items;
       host = c.self.inside.host;
       tally = c.self.inside.tally;
       spare = map g.P.Pages.memory c.self.inside.spare.items;
@@ -51,6 +52,7 @@ returns-in_default-clause-idle g c = λ one w stands.
       scenario = c.self.inside.scenario.now;
       slots = c.self.inside.slots.items;
       lanes = c.self.inside.lanes.items;
+      shelves = c.self.inside.shelves.items;
       host = c.self.inside.host;
       tally = c.self.inside.tally;
       spare = map g.P.Pages.memory c.self.inside.spare.items;
@@ -71,6 +73,7 @@ returns-then-is_held-clause-ok g c = λ w stands.
       scenario = c.self.inside.scenario.now;
       slots = c.self.inside.slots.items;
       lanes = c.self.inside.lanes.items;
+      shelves = c.self.inside.shelves.items;
       host = c.self.inside.host;
       tally = c.self.inside.tally;
       spare = map g.P.Pages.memory c.self.inside.spare.items;
@@ -104,6 +107,7 @@ returns-then-is_held-clause-idle g c = λ one w stands.
       scenario = c.self.inside.scenario.now;
       slots = c.self.inside.slots.items;
       lanes = c.self.inside.lanes.items;
+      shelves = c.self.inside.shelves.items;
       host = c.self.inside.host;
       tally = c.self.inside.tally;
       spare = map g.P.Pages.memory c.self.inside.spare.items;
@@ -137,6 +141,7 @@ exchange-requires-clause-few g c =
       scenario = c.self.inside.scenario.now;
       slots = c.self.inside.slots.items;
       lanes = c.self.inside.lanes.items;
+      shelves = c.self.inside.shelves.items;
       host = c.self.inside.host;
       tally = c.self.inside.tally;
       spare = map g.P.Pages.memory c.self.inside.spare.items;
@@ -169,6 +174,7 @@ exchange-requires-clause-fits g c =
       scenario = c.self.inside.scenario.now;
       slots = c.self.inside.slots.items;
       lanes = c.self.inside.lanes.items;
+      shelves = c.self.inside.shelves.items;
       host = c.self.inside.host;
       tally = c.self.inside.tally;
       spare = map g.P.Pages.memory c.self.inside.spare.items;
@@ -187,6 +193,7 @@ exchange-requires-clause-stands g c =
       scenario = c.self.inside.scenario.now;
       slots = c.self.inside.slots.items;
       lanes = c.self.inside.lanes.items;
+      shelves = c.self.inside.shelves.items;
       host = c.self.inside.host;
       tally = c.self.inside.tally;
       spare = map g.P.Pages.memory c.self.inside.spare.items;
@@ -207,10 +214,14 @@ exchange-requires-clause-stands g c =
     (let below : p.planned.card < length v.scenario.cards = c.in-Some.ensures.card in
     let count : length v.slots ≡ length v.scenario.cards = c.self.invariant.0.slot_count in omega arith) in
     let lane_there : slice_get v.lanes l ≡ Some c.index_mut.result.now = found_at v.lanes l c.index_mut.result.now within c.index_mut.ensures.value in
-    let slot_there : slice_get v.slots p.planned.card ≡ Some c.index_mut-2.result.now =
-    found_at v.slots p.planned.card c.index_mut-2.result.now card_within c.index_mut-2.ensures.value in
-    let part : PartStands p c.index_mut.result.now c.index_mut-2.result.now (part_of w l p.planned.card) =
-    part_stands v w seen l p is c.index_mut.result.now c.index_mut-2.result.now lane_there slot_there in
+    let slot_there : slice_get v.slots p.planned.card ≡ Some c.index_mut-3.result.now =
+    found_at v.slots p.planned.card c.index_mut-3.result.now card_within c.index_mut-3.ensures.value in
+    let shelf_within : l < length v.shelves =
+    (let below : l < length v.scenario.lanes = subst (λ (x : WorldSeen). l < length x.scenario.lanes) (sym c.self.view_is) c.requires.lane in
+    let count : length v.shelves ≡ length v.scenario.lanes = c.self.invariant.0.shelf_count in omega arith) in
+    let shelf_there : slice_get v.shelves l ≡ Some c.index_mut-2.result.now = found_at v.shelves l c.index_mut-2.result.now shelf_within c.index_mut-2.ensures.value in
+    let part : PartStands p c.index_mut.result.now c.index_mut-2.result.now c.index_mut-3.result.now (part_of w l p.planned.card) =
+    part_stands v w seen l p is c.index_mut.result.now c.index_mut-2.result.now c.index_mut-3.result.now lane_there shelf_there slot_there in
     (part_of w l p.planned.card, part, seen.messages)
 
 pub invariant_of-self : goal.invariant_of-self
@@ -220,6 +231,7 @@ invariant_of-self g c =
       scenario = c.self.inside.scenario.now;
       slots = c.self.inside.slots.items;
       lanes = c.self.inside.lanes.items;
+      shelves = c.self.inside.shelves.items;
       host = c.self.inside.host;
       tally = c.self.inside.tally;
       spare = map g.P.Pages.memory c.self.inside.spare.items;
@@ -240,36 +252,47 @@ invariant_of-self g c =
     (let below : p.planned.card < length v.scenario.cards = c.in-Some.ensures.card in
     let count : length v.slots ≡ length v.scenario.cards = c.self.invariant.0.slot_count in omega arith) in
     let lane_there : slice_get v.lanes l ≡ Some c.index_mut.result.now = found_at v.lanes l c.index_mut.result.now within c.index_mut.ensures.value in
-    let slot_there : slice_get v.slots p.planned.card ≡ Some c.index_mut-2.result.now =
-    found_at v.slots p.planned.card c.index_mut-2.result.now card_within c.index_mut-2.ensures.value in
-    let part : PartStands p c.index_mut.result.now c.index_mut-2.result.now (part_of w l p.planned.card) =
-    part_stands v w seen l p is c.index_mut.result.now c.index_mut-2.result.now lane_there slot_there in
+    let slot_there : slice_get v.slots p.planned.card ≡ Some c.index_mut-3.result.now =
+    found_at v.slots p.planned.card c.index_mut-3.result.now card_within c.index_mut-3.ensures.value in
+    let shelf_within : l < length v.shelves =
+    (let below : l < length v.scenario.lanes = subst (λ (x : WorldSeen). l < length x.scenario.lanes) (sym c.self.view_is) c.requires.lane in
+    let count : length v.shelves ≡ length v.scenario.lanes = c.self.invariant.0.shelf_count in omega arith) in
+    let shelf_there : slice_get v.shelves l ≡ Some c.index_mut-2.result.now = found_at v.shelves l c.index_mut-2.result.now shelf_within c.index_mut-2.ensures.value in
+    let part : PartStands p c.index_mut.result.now c.index_mut-2.result.now c.index_mut-3.result.now (part_of w l p.planned.card) =
+    part_stands v w seen l p is c.index_mut.result.now c.index_mut-2.result.now c.index_mut-3.result.now lane_there shelf_there slot_there in
     let err = c.in_err-exchange.ensures.err in
     let same : WorldStands (record v {
       slots = slice_set v.slots p.planned.card c.exchange.new.slot;
       lanes = slice_set v.lanes l c.exchange.new.lane;
+      shelves = slice_set v.shelves l c.exchange.new.shelf;
       host = c.exchange.new.host;
       tally = c.exchange.new.tally;
     }) w =
     subst (λ (h : HostData). WorldStands (record v {
       slots = slice_set v.slots p.planned.card c.exchange.new.slot;
       lanes = slice_set v.lanes l c.exchange.new.lane;
+      shelves = slice_set v.shelves l c.exchange.new.shelf;
       host = h;
       tally = c.exchange.new.tally;
-    }) w) (sym err.2)
+    }) w) (sym err.3)
     (subst (λ (t : Counts). WorldStands (record v {
       slots = slice_set v.slots p.planned.card c.exchange.new.slot;
       lanes = slice_set v.lanes l c.exchange.new.lane;
+      shelves = slice_set v.shelves l c.exchange.new.shelf;
       tally = t;
-    }) w) (sym err.3)
-    (same_stands v w seen l p.planned.card c.index_mut.result.now c.exchange.new.lane c.index_mut-2.result.now c.exchange.new.slot lane_there slot_there err.0 err.1)) in (
+    }) w) (sym err.4)
+    (same_stands v w seen l p.planned.card c.index_mut.result.now c.exchange.new.lane c.index_mut-2.result.now c.exchange.new.shelf
+    c.index_mut-3.result.now c.exchange.new.slot lane_there shelf_there slot_there err.0 err.1 err.2)) in (
       record {
         scenario = c.self.invariant.0.scenario;
         slot_count = length-set v.slots p.planned.card c.exchange.new.slot ∙ c.self.invariant.0.slot_count;
         lane_count = length-set v.lanes l c.exchange.new.lane ∙ c.self.invariant.0.lane_count;
+        shelf_count = length-set v.shelves l c.exchange.new.shelf ∙ c.self.invariant.0.shelf_count;
         fits = All-set LaneFits v.lanes l c.exchange.new.lane c.exchange.ensures.fits c.self.invariant.0.fits;
         keys = c.exchange.ensures.keys ∙ c.self.invariant.0.keys;
         accounts = c.exchange.ensures.accounts ∙ c.self.invariant.0.accounts;
+        blank = c.self.invariant.0.blank;
+        pages = c.self.invariant.0.pages;
         standing = (w, same);
       },
       c.self.invariant.1,
@@ -282,6 +305,7 @@ returns-in_err-exchange-clause-err g c =
       scenario = c.self.inside.scenario.now;
       slots = c.self.inside.slots.items;
       lanes = c.self.inside.lanes.items;
+      shelves = c.self.inside.shelves.items;
       host = c.self.inside.host;
       tally = c.self.inside.tally;
       spare = map g.P.Pages.memory c.self.inside.spare.items;
@@ -302,29 +326,37 @@ returns-in_err-exchange-clause-err g c =
     (let below : p.planned.card < length v.scenario.cards = c.in-Some.ensures.card in
     let count : length v.slots ≡ length v.scenario.cards = c.self.invariant.0.slot_count in omega arith) in
     let lane_there : slice_get v.lanes l ≡ Some c.index_mut.result.now = found_at v.lanes l c.index_mut.result.now within c.index_mut.ensures.value in
-    let slot_there : slice_get v.slots p.planned.card ≡ Some c.index_mut-2.result.now =
-    found_at v.slots p.planned.card c.index_mut-2.result.now card_within c.index_mut-2.ensures.value in
-    let part : PartStands p c.index_mut.result.now c.index_mut-2.result.now (part_of w l p.planned.card) =
-    part_stands v w seen l p is c.index_mut.result.now c.index_mut-2.result.now lane_there slot_there in
+    let slot_there : slice_get v.slots p.planned.card ≡ Some c.index_mut-3.result.now =
+    found_at v.slots p.planned.card c.index_mut-3.result.now card_within c.index_mut-3.ensures.value in
+    let shelf_within : l < length v.shelves =
+    (let below : l < length v.scenario.lanes = subst (λ (x : WorldSeen). l < length x.scenario.lanes) (sym c.self.view_is) c.requires.lane in
+    let count : length v.shelves ≡ length v.scenario.lanes = c.self.invariant.0.shelf_count in omega arith) in
+    let shelf_there : slice_get v.shelves l ≡ Some c.index_mut-2.result.now = found_at v.shelves l c.index_mut-2.result.now shelf_within c.index_mut-2.ensures.value in
+    let part : PartStands p c.index_mut.result.now c.index_mut-2.result.now c.index_mut-3.result.now (part_of w l p.planned.card) =
+    part_stands v w seen l p is c.index_mut.result.now c.index_mut-2.result.now c.index_mut-3.result.now lane_there shelf_there slot_there in
     let err = c.in_err-exchange.ensures.err in
     let same : WorldStands (record v {
       slots = slice_set v.slots p.planned.card c.exchange.new.slot;
       lanes = slice_set v.lanes l c.exchange.new.lane;
+      shelves = slice_set v.shelves l c.exchange.new.shelf;
       host = c.exchange.new.host;
       tally = c.exchange.new.tally;
     }) w =
     subst (λ (h : HostData). WorldStands (record v {
       slots = slice_set v.slots p.planned.card c.exchange.new.slot;
       lanes = slice_set v.lanes l c.exchange.new.lane;
+      shelves = slice_set v.shelves l c.exchange.new.shelf;
       host = h;
       tally = c.exchange.new.tally;
-    }) w) (sym err.2)
+    }) w) (sym err.3)
     (subst (λ (t : Counts). WorldStands (record v {
       slots = slice_set v.slots p.planned.card c.exchange.new.slot;
       lanes = slice_set v.lanes l c.exchange.new.lane;
+      shelves = slice_set v.shelves l c.exchange.new.shelf;
       tally = t;
-    }) w) (sym err.3)
-    (same_stands v w seen l p.planned.card c.index_mut.result.now c.exchange.new.lane c.index_mut-2.result.now c.exchange.new.slot lane_there slot_there err.0 err.1)) in
+    }) w) (sym err.4)
+    (same_stands v w seen l p.planned.card c.index_mut.result.now c.exchange.new.lane c.index_mut-2.result.now c.exchange.new.shelf
+    c.index_mut-3.result.now c.exchange.new.slot lane_there shelf_there slot_there err.0 err.1 err.2)) in
     same)
 
 pub invariant_of-self-2 : goal.invariant_of-self-2
@@ -334,6 +366,7 @@ invariant_of-self-2 g c =
       scenario = c.self.inside.scenario.now;
       slots = c.self.inside.slots.items;
       lanes = c.self.inside.lanes.items;
+      shelves = c.self.inside.shelves.items;
       host = c.self.inside.host;
       tally = c.self.inside.tally;
       spare = map g.P.Pages.memory c.self.inside.spare.items;
@@ -354,33 +387,42 @@ invariant_of-self-2 g c =
     (let below : p.planned.card < length v.scenario.cards = c.in-Some.ensures.card in
     let count : length v.slots ≡ length v.scenario.cards = c.self.invariant.0.slot_count in omega arith) in
     let lane_there : slice_get v.lanes l ≡ Some c.index_mut.result.now = found_at v.lanes l c.index_mut.result.now within c.index_mut.ensures.value in
-    let slot_there : slice_get v.slots p.planned.card ≡ Some c.index_mut-2.result.now =
-    found_at v.slots p.planned.card c.index_mut-2.result.now card_within c.index_mut-2.ensures.value in
-    let part : PartStands p c.index_mut.result.now c.index_mut-2.result.now (part_of w l p.planned.card) =
-    part_stands v w seen l p is c.index_mut.result.now c.index_mut-2.result.now lane_there slot_there in
+    let slot_there : slice_get v.slots p.planned.card ≡ Some c.index_mut-3.result.now =
+    found_at v.slots p.planned.card c.index_mut-3.result.now card_within c.index_mut-3.ensures.value in
+    let shelf_within : l < length v.shelves =
+    (let below : l < length v.scenario.lanes = subst (λ (x : WorldSeen). l < length x.scenario.lanes) (sym c.self.view_is) c.requires.lane in
+    let count : length v.shelves ≡ length v.scenario.lanes = c.self.invariant.0.shelf_count in omega arith) in
+    let shelf_there : slice_get v.shelves l ≡ Some c.index_mut-2.result.now = found_at v.shelves l c.index_mut-2.result.now shelf_within c.index_mut-2.ensures.value in
+    let part : PartStands p c.index_mut.result.now c.index_mut-2.result.now c.index_mut-3.result.now (part_of w l p.planned.card) =
+    part_stands v w seen l p is c.index_mut.result.now c.index_mut-2.result.now c.index_mut-3.result.now lane_there shelf_there slot_there in
     let lane_is : c.index-2.result.now ≡ c.index_mut.result.now =
     same_Some c.index-2.result.now c.index_mut.result.now (sym (found_at v.lanes l c.index-2.result.now within c.index-2.ensures) ∙ lane_there) in
-    let slot_is : c.index-3.result.now ≡ c.index_mut-2.result.now =
-    same_Some c.index-3.result.now c.index_mut-2.result.now (sym (found_at v.slots p.planned.card c.index-3.result.now card_within c.index-3.ensures) ∙ slot_there) in
-    let free : (is_none c.index_mut.result.now.running && is_on c.index_mut-2.result.now) ≡ false =
+    let slot_is : c.index-3.result.now ≡ c.index_mut-3.result.now =
+    same_Some c.index-3.result.now c.index_mut-3.result.now (sym (found_at v.slots p.planned.card c.index-3.result.now card_within c.index-3.ensures) ∙ slot_there) in
+    let free : (is_none c.index_mut.result.now.running && is_on c.index_mut-3.result.now) ≡ false =
     (λ i. is_none (sym lane_is i).running && is_on (sym slot_is i)) ∙ sym c.is_held.ensures.exact ∙ c.if-is_held.false in
     let led = c.in_ok-exchange.ensures.led (part_of w l p.planned.card) part seen.messages in
     let goes : Goes (record v {
       slots = slice_set v.slots p.planned.card c.exchange.new.slot;
       lanes = slice_set v.lanes l c.exchange.new.lane;
+      shelves = slice_set v.shelves l c.exchange.new.shelf;
       host = c.exchange.new.host;
       tally = c.exchange.new.tally;
     }) w (event.Turn l) c.exchange.new.lines.items =
-    turn_goes v w seen l p is c.index_mut.result.now c.index_mut-2.result.now lane_there slot_there c.exchange.new.lane c.exchange.new.slot c.exchange.new.host
-    c.exchange.new.tally c.exchange.new.lines.items led.0 led.1 led.2
-    (free_holder v w seen l p is c.index_mut.result.now c.index_mut-2.result.now lane_there slot_there part free) in (
+    turn_goes v w seen l p is c.index_mut.result.now c.index_mut-2.result.now c.index_mut-3.result.now lane_there shelf_there slot_there
+    c.exchange.new.lane c.exchange.new.shelf c.exchange.new.slot c.exchange.new.host c.exchange.new.tally c.exchange.new.lines.items
+    led.0 led.1 led.2 led.3
+    (free_holder v w seen l p is c.index_mut.result.now c.index_mut-3.result.now c.index_mut-2.result.now part free) in (
       record {
         scenario = c.self.invariant.0.scenario;
         slot_count = length-set v.slots p.planned.card c.exchange.new.slot ∙ c.self.invariant.0.slot_count;
         lane_count = length-set v.lanes l c.exchange.new.lane ∙ c.self.invariant.0.lane_count;
+        shelf_count = length-set v.shelves l c.exchange.new.shelf ∙ c.self.invariant.0.shelf_count;
         fits = All-set LaneFits v.lanes l c.exchange.new.lane c.exchange.ensures.fits c.self.invariant.0.fits;
         keys = c.exchange.ensures.keys ∙ c.self.invariant.0.keys;
         accounts = c.exchange.ensures.accounts ∙ c.self.invariant.0.accounts;
+        blank = c.self.invariant.0.blank;
+        pages = c.self.invariant.0.pages;
         standing = (goes.after, goes.stands);
       },
       c.self.invariant.1,
@@ -392,6 +434,7 @@ returns-clause-ok g c = λ w stands.
       scenario = c.self.inside.scenario.now;
       slots = c.self.inside.slots.items;
       lanes = c.self.inside.lanes.items;
+      shelves = c.self.inside.shelves.items;
       host = c.self.inside.host;
       tally = c.self.inside.tally;
       spare = map g.P.Pages.memory c.self.inside.spare.items;
@@ -412,24 +455,30 @@ returns-clause-ok g c = λ w stands.
     (let below : p.planned.card < length v.scenario.cards = c.in-Some.ensures.card in
     let count : length v.slots ≡ length v.scenario.cards = c.self.invariant.0.slot_count in omega arith) in
     let lane_there : slice_get v.lanes l ≡ Some c.index_mut.result.now = found_at v.lanes l c.index_mut.result.now within c.index_mut.ensures.value in
-    let slot_there : slice_get v.slots p.planned.card ≡ Some c.index_mut-2.result.now =
-    found_at v.slots p.planned.card c.index_mut-2.result.now card_within c.index_mut-2.ensures.value in
-    let part : PartStands p c.index_mut.result.now c.index_mut-2.result.now (part_of w l p.planned.card) =
-    part_stands v w seen l p is c.index_mut.result.now c.index_mut-2.result.now lane_there slot_there in
+    let slot_there : slice_get v.slots p.planned.card ≡ Some c.index_mut-3.result.now =
+    found_at v.slots p.planned.card c.index_mut-3.result.now card_within c.index_mut-3.ensures.value in
+    let shelf_within : l < length v.shelves =
+    (let below : l < length v.scenario.lanes = subst (λ (x : WorldSeen). l < length x.scenario.lanes) (sym c.self.view_is) c.requires.lane in
+    let count : length v.shelves ≡ length v.scenario.lanes = c.self.invariant.0.shelf_count in omega arith) in
+    let shelf_there : slice_get v.shelves l ≡ Some c.index_mut-2.result.now = found_at v.shelves l c.index_mut-2.result.now shelf_within c.index_mut-2.ensures.value in
+    let part : PartStands p c.index_mut.result.now c.index_mut-2.result.now c.index_mut-3.result.now (part_of w l p.planned.card) =
+    part_stands v w seen l p is c.index_mut.result.now c.index_mut-2.result.now c.index_mut-3.result.now lane_there shelf_there slot_there in
     let lane_is : c.index-2.result.now ≡ c.index_mut.result.now =
     same_Some c.index-2.result.now c.index_mut.result.now (sym (found_at v.lanes l c.index-2.result.now within c.index-2.ensures) ∙ lane_there) in
-    let slot_is : c.index-3.result.now ≡ c.index_mut-2.result.now =
-    same_Some c.index-3.result.now c.index_mut-2.result.now (sym (found_at v.slots p.planned.card c.index-3.result.now card_within c.index-3.ensures) ∙ slot_there) in
-    let free : (is_none c.index_mut.result.now.running && is_on c.index_mut-2.result.now) ≡ false =
+    let slot_is : c.index-3.result.now ≡ c.index_mut-3.result.now =
+    same_Some c.index-3.result.now c.index_mut-3.result.now (sym (found_at v.slots p.planned.card c.index-3.result.now card_within c.index-3.ensures) ∙ slot_there) in
+    let free : (is_none c.index_mut.result.now.running && is_on c.index_mut-3.result.now) ≡ false =
     (λ i. is_none (sym lane_is i).running && is_on (sym slot_is i)) ∙ sym c.is_held.ensures.exact ∙ c.if-is_held.false in
     let led = c.in_ok-exchange.ensures.led (part_of w l p.planned.card) part seen.messages in
     let goes : Goes (record v {
       slots = slice_set v.slots p.planned.card c.exchange.new.slot;
       lanes = slice_set v.lanes l c.exchange.new.lane;
+      shelves = slice_set v.shelves l c.exchange.new.shelf;
       host = c.exchange.new.host;
       tally = c.exchange.new.tally;
     }) w (event.Turn l) c.exchange.new.lines.items =
-    turn_goes v w seen l p is c.index_mut.result.now c.index_mut-2.result.now lane_there slot_there c.exchange.new.lane c.exchange.new.slot c.exchange.new.host
-    c.exchange.new.tally c.exchange.new.lines.items led.0 led.1 led.2
-    (free_holder v w seen l p is c.index_mut.result.now c.index_mut-2.result.now lane_there slot_there part free) in
+    turn_goes v w seen l p is c.index_mut.result.now c.index_mut-2.result.now c.index_mut-3.result.now lane_there shelf_there slot_there
+    c.exchange.new.lane c.exchange.new.shelf c.exchange.new.slot c.exchange.new.host c.exchange.new.tally c.exchange.new.lines.items
+    led.0 led.1 led.2 led.3
+    (free_holder v w seen l p is c.index_mut.result.now c.index_mut-3.result.now c.index_mut-2.result.now part free) in
     goes
