@@ -1,7 +1,10 @@
 //! A run as `emvrun replay` makes it, and then on standard error what it left: for `scripts/check-refusals`,
-//! which refuses it memory. A line for each card whose pages are not those of a blank card, as a power-up finds
-//! them, and a line for the tally.
+//! which refuses it memory, and `scripts/check-tears`, which reads a card's log. Two lines for each card whose
+//! pages are not those of a blank card, as a power-up finds them, the second with the bytes of its home, and a
+//! line for the tally.
 #![tactic(auto)]
+
+ghost use Rattle.std.specs.Prelude.{◌≡◌, ◌<◌, true};
 
 use emv_ports::{Held, MemoryPages, Pages, StdinSource, StdoutSink};
 use emv_top::run;
@@ -30,10 +33,19 @@ fn sum_over(bytes: &[u8; 64], before: u64) -> u64 {
     sum
 }
 
-/// What the pages show once they are turned on.
-fn shown_by(pages: MemoryPages) -> Shown {
+/// The pages as a power-up finds them.
+fn turned_on(pages: MemoryPages) -> MemoryPages
+    ensures { result.memory.on ≡ true }
+{
     let mut pages = pages;
     pages.power_up();
+    pages
+}
+
+/// What the pages show.
+fn shown_by(pages: &MemoryPages) -> Shown
+    requires { pages.now.memory.on ≡ true }
+{
     let mut sum = 0xcbf2_9ce4_8422_2325;
     for page in 0..64 {
         sum = sum_over(&pages.read(page), sum);
@@ -44,15 +56,36 @@ fn shown_by(pages: MemoryPages) -> Shown {
     }
 }
 
+/// Tells the bytes of a page.
+fn tell_page(rt: &HostRuntime, bytes: &[u8; 64]) -> io::Result<()> {
+    for byte in bytes {
+        eprint!(rt; "{byte:02x}")?;
+    }
+    Ok(())
+}
+
+/// Tells the home pages of a card, which begin with the length of its state.
+fn tell_home(rt: &HostRuntime, card: u32, pages: &MemoryPages) -> io::Result<()>
+    requires { pages.now.memory.on ≡ true }
+{
+    eprint!(rt; "card {card} home ")?;
+    for page in 1..18 {
+        tell_page(rt, &pages.read(page))?;
+    }
+    eprintln!(rt)
+}
+
 /// Tells what a run left.
 fn tell(rt: &HostRuntime, bank: Vec<Held<MemoryPages>>, tally: &Tally) -> io::Result<()> {
-    let blank = shown_by(MemoryPages::blank());
+    let blank = shown_by(&turned_on(MemoryPages::blank()));
     let mut card: u32 = 0;
     for pages in bank {
-        let shown = shown_by(pages.into_inner());
+        let pages = turned_on(pages.into_inner());
+        let shown = shown_by(&pages);
         if shown != blank {
             let Shown { marks, sum } = shown;
             eprintln!(rt; "card {card} marks {marks} pages {sum:016x}")?;
+            tell_home(rt, card, &pages)?;
         }
         card = card.saturating_add(1);
     }

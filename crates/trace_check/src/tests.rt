@@ -120,8 +120,8 @@ fn a_terminal_asks_for_the_directory_first(rt: HostRuntime) -> Result<(), Fail> 
     let parts = [NO_DIRECTORY, OPENING, COUNTER, CRYPTOGRAM, END];
     assert_eq!(rt; verdict_with(alloc, DIRECTORY, &parts)?, Verdict::Same);
     assert_eq!(rt; verdict(alloc, &parts)?, Verdict::Differs(0));
-    let [_, list @ ..] = &parts;
-    assert_eq!(rt; verdict_with(alloc, DIRECTORY, list)?, Verdict::Differs(0));
+    let list = [OPENING, COUNTER, CRYPTOGRAM, END];
+    assert_eq!(rt; verdict_with(alloc, DIRECTORY, &list)?, Verdict::Differs(0));
     Ok(())
 }
 

@@ -52,6 +52,11 @@ RunStands (Some kernel) p (Some replies) = KernelStands kernel.value replies × 
 RunStands None p (Some replies) = ⊥
 RunStands (Some kernel) p None = ⊥
 
+-- a terminal that runs, and has taken some replies
+abbrev pub HasTaken : Option (Box KernelData) → Type 0
+HasTaken None = ⊥
+HasTaken (Some kernel) = (replies : List Reply) × KernelStands kernel.value replies
+
 -- what reading gave in the dialogue that ended last
 abbrev pub card_in : Option (Box KernelData) → Option ReadCard
 card_in None = None

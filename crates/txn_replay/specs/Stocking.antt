@@ -1,5 +1,6 @@
 -- What becomes of a store as a purchase's capture joins it.
-use Rattle.std.specs.Prelude.{◌≡◌, ℕ, ◌+◌, Bool, true, false, if◌then◌else◌, List, Option, Some, None}
+use Rattle.std.specs.Prelude.{◌≡◌, ◌≢◌, ℕ, Bool, true, false, slice_index, List, Option, option_to_list}
+use Rattle.std.specs.List.{All}
 use Rattle.capture_store.specs.SeenShelf.{ShelfSeen, ShelfOn, ShelfOff, losses_of}
 use Rattle.capture_store.specs.StoreRow.{StoreRow, ended_by}
 use Rattle.emv_ports.specs.Causes.{one_more}
@@ -7,6 +8,10 @@ use Rattle.emv_ports.specs.declared.tear.Tear.{Tear}
 use Rattle.txn_replay.specs.Part.{loses_by}
 use Rattle.txn_replay.specs.declared.lane.Outcome.{Outcome}
 use Rattle.txn_replay.specs.declared.lane.Outcome.TheVariants.{Told, Lost}
+
+-- what is captured is no request
+abbrev pub IsNoRequest : Option (List ℕ) → Type 0
+IsNoRequest capture = All (λ message. slice_index message 0 ≢ 0xE1) (option_to_list capture)
 
 abbrev pub is_lost : Outcome → Bool
 is_lost Told = false

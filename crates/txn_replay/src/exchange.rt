@@ -17,7 +17,7 @@ ghost use Rattle.txn_replay.specs.Part as step;
 ghost use Rattle.scenario_lanes.specs.Plan.{IsPlanned};
 ghost use Rattle.txn_replay.specs.Part.{Part};
 ghost use Rattle.txn_replay.specs.Payment.{Payment as Paid, deal_for};
-ghost use Rattle.txn_replay.specs.Standing.{PartRests, NextRests, PartRuns, PartStands, Led, SameLane, LaneStands, rank_in, MovedTo, IsCounted, LaneFits, RunStands, lane_left, is_ended, is_over as over_test, HasRoom, shelf_left, seen_payment};
+ghost use Rattle.txn_replay.specs.Standing.{PartRests, NextRests, PartRuns, PartStands, Led, SameLane, LaneStands, rank_in, MovedTo, IsCounted, LaneFits, RunStands, lane_left, is_ended, is_over as over_test, HasRoom, HasTaken, shelf_left, seen_payment};
 ghost use Rattle.txn_replay.specs.Slot.{SlotOff, is_on as has_power};
 ghost use Rattle.txn_replay.specs.Storing.{lane_piece};
 ghost use Rattle.txn_replay.specs.World.{LaneRow};
@@ -66,6 +66,7 @@ fn settle<'s, P: Pages>(
     requires amount { at.now.planned.now.purchase.amount ≤ most_amount }
     requires amounts { All (λ logged. logged.amount ≤ most_amount) lane.old.log.items }
     requires room { HasRoom shelf.old at.now.durable }
+    requires taken { HasTaken lane.old.running }
     requires fresh { IsSomeAnd lane.old.running (λ kernel. kernel.value.is_spent ≡ false) }
     requires on { has_power slot.old ≡ true }
     requires lines { length lines.old.items < 8 }
@@ -101,6 +102,7 @@ fn ask_card<'s, P: Pages>(
     requires amount { at.now.planned.now.purchase.amount ≤ most_amount }
     requires amounts { All (λ logged. logged.amount ≤ most_amount) lane.old.log.items }
     requires room { HasRoom shelf.old at.now.durable }
+    requires taken { HasTaken lane.old.running }
     requires waits { IsSomeAnd lane.old.running (λ kernel. next_of kernel.value ≡ next.ToCard) }
     requires on { has_power slot.old ≡ true }
     requires lines { lines.old.items ≡ [] }
@@ -207,6 +209,7 @@ fn ask_host<'s, P: Pages>(
     requires amount { at.now.planned.now.purchase.amount ≤ most_amount }
     requires amounts { All (λ logged. logged.amount ≤ most_amount) lane.old.log.items }
     requires room { HasRoom shelf.old at.now.durable }
+    requires taken { HasTaken lane.old.running }
     requires waits { IsSomeAnd lane.old.running (λ kernel. next_of kernel.value ≡ next.ToHost) }
     requires on { has_power slot.old ≡ true }
     requires lines { lines.old.items ≡ [] }

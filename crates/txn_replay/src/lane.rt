@@ -17,12 +17,12 @@ ghost use Rattle.capture_store.specs.SeenShelf.{is_on as has_power, count_of};
 ghost use Rattle.emv_ports.specs.declared.tear.Tear.{Tear as Plan};
 ghost use Rattle.report_text.specs.declared.line.Line.TheVariants.{EndLost};
 ghost use Rattle.txn_replay.specs.Lines.{outcome_line};
-ghost use Rattle.txn_replay.specs.Stocking.{IsStoredBy};
+ghost use Rattle.txn_replay.specs.Stocking.{IsStoredBy, IsNoRequest};
 ghost use Rattle.txn_replay.specs.Part.{lane_ended, loses, approval};
 ghost use Rattle.txn_replay.specs.declared.lane.Outcome.TheVariants as outcome;
 ghost use Rattle.txn_replay.specs.Payment.{end_at};
 ghost use Rattle.scenario_lanes.specs.Plan.{IsPlanned};
-ghost use Rattle.txn_replay.specs.Standing.{SameLane, card_in, LaneKeeps, LaneStands, ShelfStands, HasRoom, lane_left, shelf_left, seen_payment};
+ghost use Rattle.txn_replay.specs.Standing.{SameLane, card_in, LaneKeeps, LaneStands, ShelfStands, HasRoom, HasTaken, lane_left, shelf_left, seen_payment};
 ghost use Rattle.txn_replay.specs.Storing.{lane_lost};
 ghost use Rattle.txn_replay.specs.Seen.{IsNewLane, done_below, is_lane_done};
 ghost use Rattle.txn_replay.specs.World.{LaneRow};
@@ -102,6 +102,7 @@ pub(crate) fn finish<'s, P: Pages>(
     requires amount { at.now.planned.now.purchase.amount ≤ most_amount }
     requires amounts { All (λ logged. logged.amount ≤ most_amount) lane.old.log.items }
     requires room { HasRoom shelf.old at.now.durable }
+    requires taken { HasTaken lane.old.running }
     requires lines { length lines.old.items < 8 }
     ensures stands { (issuer : HostKeys) (accounts : List AccountData) (replies : List Reply) (row : LaneRow)
         → LaneStands lane.old (seen_payment issuer accounts at.now) (record row { running = Some replies })
@@ -156,6 +157,7 @@ fn keep_capture<P: Pages>(
 ) -> Outcome
     requires captures { vec_len captures.old < vec_capacity captures.old }
     requires room { HasRoom shelf.old at.now.durable }
+    requires settles { IsNoRequest capture }
     ensures waits { map (λ message. message.items) captures.new.items
         ≡ map (λ message. message.items) captures.old.items ++ (if at.now.durable then [] else option_to_list capture) }
     ensures read { All IsMessage (option_to_list capture) }
@@ -173,6 +175,7 @@ fn keep_capture<P: Pages>(
 fn store_capture<P: Pages>(shelf: &mut Shelf<P>, capture: Option<Capture>) -> Outcome
     requires on { has_power shelf.old ≡ true }
     requires room { count_of shelf.old < 7 }
+    requires settles { IsNoRequest capture }
     ensures stored { (plan : Option Plan) → IsStoredBy shelf.old shelf.new plan capture result }
     ensures read { All IsMessage (option_to_list capture) }
 {

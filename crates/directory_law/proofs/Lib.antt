@@ -1,0 +1,9 @@
+mod Courses
+mod Reading
+mod ListSteps
+mod Finding
+mod Names
+mod Order
+mod Owned
+mod Firsts
+mod Agreed
