@@ -58,6 +58,7 @@ pub mod Hearing
 pub mod Messaging
 pub mod Losing
 pub mod Capturing
+pub mod Requests
 pub mod Respelling
 pub mod Lost
 pub mod Unique

@@ -1,6 +1,5 @@
 -- What becomes of a store as a purchase's capture joins it.
-use Rattle.std.specs.Prelude.{◌≡◌, ◌≢◌, ℕ, Bool, true, false, slice_index, List, Option, option_to_list}
-use Rattle.std.specs.List.{All}
+use Rattle.std.specs.Prelude.{◌≡◌, ◌≢◌, ℕ, Bool, true, false, slice_index, List, Option, IfSome}
 use Rattle.capture_store.specs.SeenShelf.{ShelfSeen, ShelfOn, ShelfOff, losses_of}
 use Rattle.capture_store.specs.StoreRow.{StoreRow, ended_by}
 use Rattle.emv_ports.specs.Causes.{one_more}
@@ -11,7 +10,7 @@ use Rattle.txn_replay.specs.declared.lane.Outcome.TheVariants.{Told, Lost}
 
 -- what is captured is no request
 abbrev pub IsNoRequest : Option (List ℕ) → Type 0
-IsNoRequest capture = All (λ message. slice_index message 0 ≢ 0xE1) (option_to_list capture)
+IsNoRequest capture = IfSome capture (λ message. slice_index message 0 ≢ 0xE1)
 
 abbrev pub is_lost : Outcome → Bool
 is_lost Told = false

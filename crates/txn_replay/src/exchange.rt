@@ -184,6 +184,7 @@ fn hear(lane: &mut Lane<'_>, reply: Option<&[u8]>)
         → LaneStands lane.old p (record row { running = Some replies })
         → LaneStands lane.new p (record row { running = Some (replies ++ from_host (option_map (λ reply. reply.now) reply.entry) ∷ []) }) }
     ensures same { IsSomeAnd lane.new.running (λ kernel. lane.new ≡ record lane.old { running = Some kernel; place = lane.new.place }) }
+    ensures taken { HasTaken lane.old.running → HasTaken lane.new.running }
     ensures fresh { IsSomeAnd lane.new.running (λ kernel. kernel.value.is_spent ≡ false) }
     ensures nearer { lane_left lane.new < lane_left lane.old }
 {
@@ -341,6 +342,7 @@ fn start<'s>(at: &Payment<'s>, lane: &mut Lane<'s>)
     ensures fresh { IsSomeAnd lane.new.running (λ kernel. kernel.value.is_spent ≡ false) }
     ensures told { (issuer : HostKeys) (accounts : List AccountData)
         → RunStands lane.new.running (seen_payment issuer accounts at.now) (Some []) }
+    ensures taken { HasTaken lane.new.running }
     ensures waits { IsSomeAnd lane.new.running (λ kernel. next_of kernel.value ≡ next.ToCard) }
     ensures few { rank_in lane.new.running ≤ 20015 }
 {
@@ -359,6 +361,7 @@ fn lose(lane: &mut Lane<'_>)
     ensures fresh { IsSomeAnd lane.new.running (λ kernel. kernel.value.is_spent ≡ false) }
     ensures told { (p : Paid) (replies : List Reply) → RunStands lane.old.running p (Some replies)
         → RunStands lane.new.running p (Some (replies ++ CardGone ∷ [])) }
+    ensures taken { HasTaken lane.old.running → HasTaken lane.new.running }
     ensures over { IsSomeAnd lane.new.running (λ kernel. next_of kernel.value ≡ next.Ended) }
     ensures nearer { rank_in lane.new.running < rank_in lane.old.running }
 {

@@ -7,6 +7,7 @@ use Rattle.report_text.specs.declared.line.Line.{Line}
 use Rattle.terminal_state.specs.Terminal.{Deal}
 use Rattle.txn_replay.proofs.Endings.{runs_as}
 use Rattle.txn_replay.proofs.Exchanges.{lane_on, answered_part, asked_answered, runs_on, gone_moved, gone_counted}
+use Rattle.txn_replay.proofs.Requests.{taken_as}
 use Rattle.txn_replay.proofs.exchange.ask_card.Goals as goal
 use Rattle.txn_replay.specs.Called.{IsAnswered, IsGone, no_answer_lines}
 use Rattle.txn_replay.specs.Lines.{answer_lines, outcome_line}
@@ -116,3 +117,13 @@ returns-in-Err-clause-counted g c = λ issuer accounts replies part runs.
     (lane_on p c.args.lane.now part.lane replies (replies ++ CardGone ∷ []) _ runs.lane_is told (c.take_gone.ensures.deal ∙ was.1)) runs.shelf_is in
     gone_counted p c.args.lane.now c.args.shelf.now c.args.slot.now c.process.new.self replies part command runs is done.0 gone done.1
     c.args.tally.now c.finish.new.tally done.5
+
+pub settle-requires-clause-taken : goal.settle-requires-clause-taken
+settle-requires-clause-taken g c =
+    let was = taken_as c.args.lane.now.running c.in-Some.place c.deref_mut-kernel.result.now c.in-Some.is c.deref_mut-kernel.ensures.value c.requires.taken in
+    (was.0 ++ CardSaid c.as_slice-in-Ok.result.now c.as_slice-in-Ok-2.result.now ∷ [], c.take_card.ensures.stands was.0 was.1)
+
+pub finish-requires-clause-taken : goal.finish-requires-clause-taken
+finish-requires-clause-taken g c =
+    let was = taken_as c.args.lane.now.running c.in-Some.place c.deref_mut-kernel.result.now c.in-Some.is c.deref_mut-kernel.ensures.value c.requires.taken in
+    (was.0 ++ CardGone ∷ [], c.take_gone.ensures.stands was.0 was.1)

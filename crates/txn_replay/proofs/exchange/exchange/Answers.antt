@@ -8,10 +8,11 @@ use Rattle.kernel.specs.declared.kernel.Next.TheVariants as next
 use Rattle.txn_replay.specs.Part.{Moved}
 use Rattle.txn_replay.specs.Payment.{deal_for}
 use Rattle.txn_replay.specs.Slot.{is_on}
-use Rattle.txn_replay.specs.Standing.{NextRests, SameLane, Led, seen_payment}
+use Rattle.txn_replay.specs.Standing.{HasTaken, NextRests, SameLane, Led, seen_payment}
 use Rattle.txn_replay.specs.declared.lane.Lane.{Lane}
 use Rattle.txn_replay.proofs.Pieces.{Running, piece_card, piece_host, card_messages, none_runs, some_runs, waits_same, free_from, rests_from, runs_from}
 use Rattle.txn_replay.proofs.Preparing.{runs_through}
+use Rattle.txn_replay.proofs.Requests.{taken_from}
 use Rattle.txn_replay.proofs.exchange.exchange.Goals as goal
 
 pub begin_next-requires-clause-stands : goal.begin_next-requires-clause-stands
@@ -84,3 +85,19 @@ returns-in_ok-ask_host-in-Some-ToHost-clause-led g c = λ part stands stood.
       subst (λ (ms : List (List ℕ)). HostStands c.ask_host.new.host ms) (sym (ap (λ (m : Moved). m.part.messages) is))
           (c.in_ok-ask_host-in-Some-ToHost.ensures.messages run.replies part run.runs stood),
     )
+
+pub ask_card-requires-clause-taken : goal.ask_card-requires-clause-taken
+ask_card-requires-clause-taken g c =
+    let p = seen_payment c.args.host.now.keys c.args.host.now.accounts c.args.at.now in
+    let later : Lane = c.make_room.new.lane in
+    let same : SameLane c.args.lane.now later = c.make_room.ensures.same in
+    let kernel = some_runs c.args.lane.now.running next_of next.ToCard (waits_same c.args.lane.now.running later.running same.running ∙ sym c.waits_for.ensures.exact ∙ c.in-Some-ToCard.is ∙ ap (λ (n : Next). Some n) c.in-Some-ToCard.field-0-is) in
+    subst HasTaken (sym same.running) (taken_from c.args.lane.now.running p c.requires.stands.0.lane.running kernel.0 kernel.1 c.requires.stands.1.lane_is.running)
+
+pub ask_host-requires-clause-taken : goal.ask_host-requires-clause-taken
+ask_host-requires-clause-taken g c =
+    let p = seen_payment c.args.host.now.keys c.args.host.now.accounts c.args.at.now in
+    let later : Lane = c.make_room.new.lane in
+    let same : SameLane c.args.lane.now later = c.make_room.ensures.same in
+    let kernel = some_runs c.args.lane.now.running next_of next.ToHost (waits_same c.args.lane.now.running later.running same.running ∙ sym c.waits_for.ensures.exact ∙ c.in-Some-ToHost.is ∙ ap (λ (n : Next). Some n) c.in-Some-ToHost.field-0-is) in
+    subst HasTaken (sym same.running) (taken_from c.args.lane.now.running p c.requires.stands.0.lane.running kernel.0 kernel.1 c.requires.stands.1.lane_is.running)

@@ -17,14 +17,22 @@ use Rattle.txn_replay.specs.Lines.{end_line, outcome_line}
 use Rattle.txn_replay.specs.Part.{approval, loses}
 use Rattle.txn_replay.specs.Payment.{end_at}
 use Rattle.txn_replay.specs.Standing.{seen_payment}
-use Rattle.txn_replay.specs.Stocking.{is_lost, IsStoredBy}
+use Rattle.txn_replay.specs.Stocking.{is_lost, IsNoRequest, IsStoredBy}
 use Rattle.txn_replay.proofs.Endings.{some_shown, runs_as}
 use Rattle.txn_replay.proofs.Finishing.{Finishes, finished}
+use Rattle.txn_replay.proofs.Requests.{no_request, taken_as}
 use Rattle.txn_replay.proofs.Storings.{ending_shelf}
 use Rattle.txn_replay.proofs.lane.finish.Goals as goal
 
 -- The names of the steps below are those that the goals of this function had before its store, and what follows from its code:
 -- they haven't been compared with a check yet.
+
+pub keep_capture-requires-clause-settles : goal.keep_capture-requires-clause-settles
+keep_capture-requires-clause-settles g c =
+    let was = taken_as c.args.lane.now.running c.in-Some.kernel c.deref_mut.result.now (sym c.take.ensures.value ∙ c.in-Some.is) c.deref_mut.ensures.value c.requires.taken in
+    let one = some_shown (end_of (deal_in c.deref_mut.result.now) (dialogue (deal_in c.deref_mut.result.now) was.0)) c.end-ended.result (c.end-ended.ensures.ends.end was.0 was.1) in
+    let capture : c.ended.inside.capture ≡ one.0.capture = ap (λ (x : EndShown). x.capture) c.ended.view_is ∙ ap (λ (x : EndShown). x.capture) (sym one.2) in
+    subst IsNoRequest (sym capture) (no_request (deal_in c.deref_mut.result.now) (dialogue (deal_in c.deref_mut.result.now) was.0) one.0 one.1)
 
 pub returns-in-Told-clause-stands : goal.returns-in-Told-clause-stands
 returns-in-Told-clause-stands g c = λ issuer accounts replies row stands shelf_is.
