@@ -1,7 +1,9 @@
 -- What comes before a purchase, way by way, and what it leaves of the store and of the lost purchases.
-use Rattle.std.proofs.Common.{◌≡◌, ℕ, ◌+◌, ◌-◌, ◌≤◌, ◌<◌, ◌^◌, Bool, true, false, cond, List, [], ◌∷◌, ◌++◌, length, drop, replicate, slice_get, Option, Some, None, refl, sym, ap, ◌∙◌, subst, inl, inr, arith, length-append}
+use Rattle.std.proofs.Common.{◌≡◌, ℕ, ◌+◌, ◌*◌, ◌-◌, ◌≤◌, ◌<◌, ◌^◌, Bool, true, false, cond, List, [], ◌∷◌, ◌++◌, length, drop, replicate, slice_get, Option, Some, None, refl, sym, ap, ◌∙◌, subst, inl, inr, arith, length-append, length-drop}
 use Rattle.std.specs.List.{All}
 use Rattle.std.specs.Prelude.{min, ◌==◌, if◌then◌else◌, not, ◌&&◌, is_some, option_map, option_and_then, option_to_list}
+use Rattle.std.proofs.lemmas.Bool.{eqb-true}
+use Rattle.std.proofs.lemmas.Bool.Decides.{nat_tests}
 use Rattle.std.proofs.lemmas.List.Elements.{All-append, All-drop}
 use Rattle.std.proofs.lemmas.List.Sums.{sum_by-append, sum_by-cons}
 use Rattle.auth_message.specs.Whole.{IsMessage}
@@ -20,7 +22,7 @@ use Rattle.txn_replay.specs.Part.{Part, Moved, loses_by, loses, lane_ended}
 use Rattle.txn_replay.specs.Payment.{Payment}
 use Rattle.txn_replay.specs.Prepared.{StoreRests, IsEnded, IsReady, PreparedBy}
 use Rattle.txn_replay.specs.Reading.{past_card, last_past}
-use Rattle.txn_replay.specs.Standing.{LaneKeeps, StorePlace, StoreStands, ShelfFor, ShelfStands, HasRoom, shelf_left, stock_left}
+use Rattle.txn_replay.specs.Standing.{LaneKeeps, StorePlace, StoreStands, ShelfFor, ShelfStands, HasRoom, lane_left, rank_in, shelf_left, stock_left}
 use Rattle.txn_replay.specs.Stored.{IsOpen, IsStored, StoredBy}
 use Rattle.txn_replay.specs.Storing.{part_with, lane_lost, lost_with, copy_lines, lane_copied, copied, dropped_by, delivers_first, delivers, Before, Ends, Begins, OpensAndBegins, opened_for, opens_by, goes_through, stored_by, free_by, runs_by, before_by, before}
 use Rattle.txn_replay.specs.World.{Holder, LaneRow, Past, with_store}
@@ -382,3 +384,81 @@ ending_shelf p row replies end shelf behind outcome stands room kept plain = by 
       plain_shelf p row replies end shelf behind is stands (plain is).1,
       ap is_lost (plain is).0 ∙ sym (ap (λ (b : Bool). b && loses_by p.planned.terminal_tear row.store end.capture) is),
     )
+
+-- a store that is on lets the purchase begin where it has room
+module _ (p : Payment) (lane : Lane) (shelf : ShelfSeen) (part : Part) (rests : StoreRests p lane shelf part) (durable : p.durable ≡ true)
+    (power : has_power shelf ≡ true) where
+  pub open_store : ShelfOn shelf part.lane.store p.planned.terminal_tear
+  open_store = store_on p lane shelf part rests durable power
+
+  open_stored : IsStored part.lane
+  open_stored = subst (λ (b : Bool). StoredBy b part.lane) durable rests.stored
+
+  open_so : IsOpen part.lane.store
+  open_so = open_stored.clean (ap is_some (on_some shelf part.lane.store p.planned.terminal_tear open_store).1)
+
+  pub before_roomy : (one : Bool) → (count_of shelf == 7) ≡ false → before p part one ≡ Begins part
+  before_roomy one roomy =
+      before_on p lane shelf part rests durable one (on_some shelf part.lane.store p.planned.terminal_tear open_store).0
+      (on_some shelf part.lane.store p.planned.terminal_tear open_store).1
+      ∙ ap (λ (b : Bool). goes_through p part b)
+      (open_so.due rests.before ∙ ap (λ n. n == 7) (sym (count_is shelf part.lane.store p.planned.terminal_tear open_store)) ∙ roomy)
+
+  pub open_messages : All IsMessage part.lane.store.list
+  open_messages = subst (λ (o : Option Call). All IsMessage (found_by part.lane.store.list o true)) open_so.none (rests.keeps.stored true)
+
+  pub few_in : count_of shelf ≤ 7
+  few_in =
+      let few : length part.lane.store.list ≤ 7 = subst (λ (o : Option Call). length (found_by part.lane.store.list o true) ≤ 7) open_so.none (open_stored.few true) in
+      omega (arith, few, count_is shelf part.lane.store p.planned.terminal_tear open_store)
+
+-- how many exchanges a store has left
+pub left_one : (shelf : ShelfSeen) → has_power shelf ≡ true → (count_of shelf == 7) ≡ true → shelf_left shelf ≡ 1
+left_one None on full = cc
+left_one (Some seen) on full = ap (λ (b : Bool). stock_left b (length seen.list == 7)) on ∙ ap (λ (b : Bool). stock_left true b) full
+
+pub left_none : (shelf : ShelfSeen) → has_power shelf ≡ true → (count_of shelf == 7) ≡ false → shelf_left shelf ≡ 0
+left_none None on roomy = cc
+left_none (Some seen) on roomy = ap (λ (b : Bool). stock_left b (length seen.list == 7)) on ∙ ap (λ (b : Bool). stock_left true b) roomy
+
+pub left_off : (shelf : ShelfSeen) (store : StoreRow) → ShelfOff shelf store → shelf_left shelf ≡ 2
+left_off None store off = absurd off
+left_off (Some seen) store off = ap (λ (b : Bool). stock_left b (length seen.list == 7)) off.off
+
+pub left_few : (shelf : ShelfSeen) → shelf_left shelf ≤ 2
+left_few None = omega arith
+left_few (Some seen) = by seen.memory.on (length seen.list == 7)
+  where
+    by : (on full : Bool) → stock_left on full ≤ 2
+    by false full = omega arith
+    by true true = omega arith
+    by true false = omega arith
+
+-- fewer than seven
+pub has_room : (n : ℕ) → n ≤ 7 → (n == 7) ≡ false → n < 7
+has_room n few other = grind (arith, nat_tests)
+
+pub seven_is : (n : ℕ) → (n == 7) ≡ true → n ≡ 7
+seven_is n full = eqb-true n 7 full
+
+-- a full store whose first message was dropped has none left to deliver
+pub less_behind : (behind : ShelfSeen) (store : StoreRow) (plan : Option Tear) → has_power behind ≡ true → is_cut plan store ≡ false
+    → ShelfOn behind (call_by plan store Drops) plan → (count : ℕ) → count ≡ length store.list → (count == 7) ≡ true → shelf_left behind ≡ 0
+less_behind behind store plan power spared on count is full =
+    left_none behind power (ap (λ n. n == 7) (count_is behind (call_by plan store Drops) plan on ∙ six))
+  where
+    seven : length store.list ≡ 7
+    seven = sym is ∙ seven_is count full
+
+    six : length (call_by plan store Drops).list ≡ 6
+    six =
+        ap (λ (b : Bool). length (if b then cut_call plan store Drops else made_call store Drops).list) spared
+        ∙ length-drop 1 store.list ∙ ap (λ n. n - 1) seven
+
+-- a purchase that is lost brings its lane nearer to its end, whatever its store is then
+pub lane_nearer : (before later : Lane) (shelf behind : ShelfSeen) → before.ended < 10000 → before.running ≡ None → later.running ≡ None
+    → later.ended ≡ before.ended + 1 → lane_left later + shelf_left behind < lane_left before + shelf_left shelf
+lane_nearer before later shelf behind few rests still more =
+    let first : lane_left before ≡ 20103 * (10000 - before.ended) + 20099 = ap (λ o. 20103 * (10000 - before.ended) + rank_in o) rests in
+    let second : lane_left later ≡ 20103 * (10000 - later.ended) + 20099 = ap (λ o. 20103 * (10000 - later.ended) + rank_in o) still in
+    omega (arith, first, second, more, few, left_few behind)

@@ -138,10 +138,12 @@ fn deliver_first<P: Pages>(
     copy_first(shelf, &mut message);
     send_copies(at, message.as_slice(), host, lines)?;
     match shelf.drop_first() {
-        Ok(()) => {}
-        Err(Gone) => lose_purchase(at, lane, lines),
+        Ok(()) => Ok(()),
+        Err(Gone) => {
+            lose_purchase(at, lane, lines);
+            Ok(())
+        }
     }
-    Ok(())
 }
 
 /// The oldest message of a store that has one, in place of what `out` held.
