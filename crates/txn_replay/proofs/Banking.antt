@@ -1,5 +1,5 @@
 -- The pages that cards take and give back.
-use Rattle.std.proofs.Common.{◌≡◌, ℕ, zero, suc, ◌+◌, ◌-◌, ◌≤◌, ◌<◌, cond, List, [], ◌∷◌, ◌++◌, length, map, drop, take, get_or, slice_get, Some, refl, sym, ap, ◌∙◌, subst, inl, inr, arith}
+use Rattle.std.proofs.Common.{◌≡◌, ℕ, zero, suc, ◌+◌, ◌-◌, ◌≤◌, ◌<◌, cond, List, [], ◌∷◌, ◌++◌, length, map, drop, take, get_or, slice_get, Bool, true, false, Some, None, refl, sym, ap, ◌∙◌, subst, inl, inr, arith}
 use Rattle.std.specs.List.{All, remove, take-map}
 use Rattle.std.specs.Prelude.{is_some}
 use Rattle.std.proofs.lemmas.Bool.{cases_eq}
@@ -7,7 +7,8 @@ use Rattle.std.proofs.lemmas.List.{drop-map, map-append}
 use Rattle.std.proofs.lemmas.List.Elements.{All-append, All-drop, All-take}
 use Rattle.std.proofs.lemmas.List.Sums.{sum_by-append, sum_by-cons}
 use Rattle.std.proofs.lemmas.Option.{same_Some, slice_get_within}
-use Rattle.capture_store.specs.SeenShelf.{ShelfSeen}
+use Rattle.capture_store.specs.SeenShelf.{ShelfSeen, ShelfOff}
+use Rattle.capture_store.specs.StoreRow.{new_store}
 use Rattle.emv_ports.specs.Memory.{Memory, IsBlank}
 use Rattle.scenario.specs.Cards.{CardData}
 use Rattle.scenario_lanes.specs.Plan.{LaneData}
@@ -54,6 +55,45 @@ stores_more shelves shelf =
     let both : stores_in (shelves ++ shelf ∷ []) ≡ stores_in shelves + stores_in (shelf ∷ []) = sum_by-append (λ (x : ShelfSeen). cond (is_some x) 1 0) shelves (shelf ∷ []) in
     let one : stores_in (shelf ∷ []) ≡ cond (is_some shelf) 1 0 + 0 = sum_by-cons (λ (x : ShelfSeen). cond (is_some x) 1 0) shelf [] in
     omega (arith, both, one)
+
+pub store_is_some : (shelf : ShelfSeen) → ShelfOff shelf new_store → is_some shelf ≡ true
+store_is_some None off = absurd off
+store_is_some (Some seen) off = refl
+
+pub one_store : (shelf : ShelfSeen) → is_some shelf ≡ true → stores_in (shelf ∷ []) ≡ 1
+one_store shelf some =
+    let one : stores_in (shelf ∷ []) ≡ cond (is_some shelf) 1 0 + 0 = sum_by-cons (λ (x : ShelfSeen). cond (is_some x) 1 0) shelf [] in
+    let is : cond (is_some shelf) 1 0 ≡ 1 = ap (λ b. cond b 1 0) some in
+    omega (arith, one, is)
+
+pub no_store : (shelf : ShelfSeen) → shelf ≡ None → stores_in (shelf ∷ []) ≡ 0
+no_store shelf none =
+    let one : stores_in (shelf ∷ []) ≡ cond (is_some shelf) 1 0 + 0 = sum_by-cons (λ (x : ShelfSeen). cond (is_some x) 1 0) shelf [] in
+    let is : cond (is_some shelf) 1 0 ≡ 0 = ap (λ (x : ShelfSeen). cond (is_some x) 1 0) none in
+    omega (arith, one, is)
+
+pub single : (shelf : ShelfSeen) → stores_in (shelf ∷ []) ≡ cond (is_some shelf) 1 0
+single shelf =
+    let one : stores_in (shelf ∷ []) ≡ cond (is_some shelf) 1 0 + 0 = sum_by-cons (λ (x : ShelfSeen). cond (is_some x) 1 0) shelf [] in
+    omega (arith, one)
+
+pub one_of : (shelf : ShelfSeen) → cond (is_some shelf) 1 0 ≤ 1
+one_of None = omega arith
+one_of (Some seen) = omega arith
+
+-- a store takes none of the pages that the cards need
+pub room_left : (cards index before now stores : ℕ) (shelf : ShelfSeen) (durable : Bool) → is_some shelf ≡ durable → before + stores ≡ 64 → stores ≤ index
+    → index < 16 → now + cond (is_some shelf) 1 0 ≡ before → cards ≤ before → (durable ≡ true → cards ≤ 63 - index) → cards ≤ now
+room_left cards index before now stores shelf durable is whole few within taken fits room = by durable is room
+  where
+    by : (b : Bool) → is_some shelf ≡ b → (b ≡ true → cards ≤ 63 - index) → cards ≤ now
+    by true some own =
+        let one : cond (is_some shelf) 1 0 ≡ 1 = ap (λ b. cond b 1 0) some in
+        let enough : cards ≤ 63 - index = own refl in
+        omega (arith, one, enough, whole, few, within, taken)
+    by false none own =
+        let zero_of : cond (is_some shelf) 1 0 ≡ 0 = ap (λ b. cond b 1 0) none in
+        omega (arith, zero_of, taken, fits)
 
 -- the pages that are left are still blank, and those that are taken were
 pub left_blank : {A : Type 0} (f : A → Memory) (xs : List A) (i : ℕ) → All IsBlank (map f xs) → All IsBlank (map f (remove xs i))

@@ -79,7 +79,7 @@ returns-in-Ok-clause-nearer g c =
     let on = open_store p c.args.lane.now c.args.shelf.now part c.requires.stands.1 c.requires.durable full.0 in
     let less = less_behind c.drop_first.new.self part.lane.store p.planned.terminal_tear c.in-Ok.ensures.on
     (c.in-Ok.ensures.spared part.lane.store p.planned.terminal_tear on) (c.in-Ok.ensures.made part.lane.store p.planned.terminal_tear on)
-    (count_is c.args.shelf.now part.lane.store p.planned.terminal_tear on) full.1 in
+    _ (count_is c.args.shelf.now part.lane.store p.planned.terminal_tear on) full.1 in
     omega (arith, less, c.requires.full)
 
 pub returns-in-Err-clause-nearer : goal.returns-in-Err-clause-nearer
