@@ -1,6 +1,6 @@
 -- The pages that cards take and give back.
-use Rattle.std.proofs.Common.{◌≡◌, ℕ, zero, suc, ◌+◌, ◌-◌, ◌≤◌, ◌<◌, cond, List, [], ◌∷◌, ◌++◌, length, map, drop, take, get_or, slice_get, Bool, true, false, Some, None, refl, sym, ap, ◌∙◌, subst, inl, inr, arith}
-use Rattle.std.specs.List.{All, remove, take-map}
+use Rattle.std.proofs.Common.{◌≡◌, ℕ, zero, suc, ◌+◌, ◌-◌, ◌≤◌, ◌<◌, cond, List, [], ◌∷◌, ◌++◌, length, map, drop, take, get_or, slice_get, Option, Bool, true, false, Some, None, refl, sym, ap, ◌∙◌, subst, inl, inr, arith}
+use Rattle.std.specs.List.{All, insert, remove, take-map}
 use Rattle.std.specs.Prelude.{is_some}
 use Rattle.std.proofs.lemmas.Bool.{cases_eq}
 use Rattle.std.proofs.lemmas.List.{drop-map, map-append}
@@ -12,7 +12,7 @@ use Rattle.capture_store.specs.StoreRow.{new_store}
 use Rattle.emv_ports.specs.Memory.{Memory, IsBlank}
 use Rattle.scenario.specs.Cards.{CardData}
 use Rattle.scenario_lanes.specs.Plan.{LaneData}
-use Rattle.txn_replay.specs.Banked.{IsNew, AreNew, IsNewStore, AreNewStores, stores_in, IsLeft, AreGiven}
+use Rattle.txn_replay.specs.Banked.{IsNew, AreNew, IsNewStore, AreNewStores, stores_in, IsLeft, AreGiven, IsStoreLeft, IsStoreGiven, StoresAreGiven, with_pages, with_stores}
 use Rattle.txn_replay.specs.Slot.{SlotSeen}
 
 -- the new element of a longer list, and the others
@@ -80,6 +80,27 @@ single shelf =
 pub one_of : (shelf : ShelfSeen) → cond (is_some shelf) 1 0 ≤ 1
 one_of None = omega arith
 one_of (Some seen) = omega arith
+
+-- no more stores than shelves
+pub stores_few : (shelves : List ShelfSeen) → stores_in shelves ≤ length shelves
+stores_few [] = omega arith
+stores_few (shelf ∷ shelves) =
+    let more : stores_in (shelf ∷ shelves) ≡ cond (is_some shelf) 1 0 + stores_in shelves = sum_by-cons (λ (x : ShelfSeen). cond (is_some x) 1 0) shelf shelves in
+    omega (arith, more, one_of shelf, stores_few shelves)
+
+-- pages put back among others
+pub map_insert : {A : Type 0} (f : A → Memory) (xs : List A) (i : ℕ) (x : A) → map f (insert xs i x) ≡ insert (map f xs) i (f x)
+map_insert {A} f xs i x =
+    map-append f (take i xs) (x ∷ drop i xs) ∙ ap (λ ys. ys ++ f x ∷ map f (drop i xs)) (sym (take-map f i xs)) ∙ ap (λ ys. take i (map f xs) ++ f x ∷ ys) (sym (drop-map f i xs))
+
+-- what a shelf leaves
+pub left_given : (shelf : ShelfSeen) (memory : Memory) → is_some shelf ≡ true → IsStoreLeft shelf memory → IsStoreGiven shelf (Some memory)
+left_given None memory none left = cc
+left_given (Some seen) memory some left = left
+
+pub none_left : (shelf : ShelfSeen) → is_some shelf ≡ false → IsStoreGiven shelf None
+none_left None none = tt
+none_left (Some seen) none = cc
 
 -- a store takes none of the pages that the cards need
 pub room_left : (cards index before now stores : ℕ) (shelf : ShelfSeen) (durable : Bool) → is_some shelf ≡ durable → before + stores ≡ 64 → stores ≤ index
@@ -155,3 +176,10 @@ take_less zero m xs within = refl
 take_less (suc n) zero xs within = absurd (omega arith)
 take_less (suc n) (suc m) [] within = refl
 take_less {A} (suc n) (suc m) (x ∷ xs) within = ap (λ (ys : List A). x ∷ ys) (take_less n m xs (omega arith))
+
+-- the last of the shelves has left its pages
+pub shelf_given : (shelves : List ShelfSeen) (n : ℕ) (shelf : ShelfSeen) (page : Option Memory) (pages : List (Option Memory)) → slice_get shelves n ≡ Some shelf
+    → IsStoreGiven shelf page → StoresAreGiven (drop (n + 1) shelves) pages → StoresAreGiven (drop n shelves) (page ∷ pages)
+shelf_given [] n shelf page pages there given others = cc
+shelf_given (x ∷ shelves) zero shelf page pages there given others = (subst (λ (y : ShelfSeen). IsStoreGiven y page) (sym (same_Some x shelf there)) given, others)
+shelf_given (x ∷ shelves) (suc n) shelf page pages there given others = shelf_given shelves n shelf page pages there given others

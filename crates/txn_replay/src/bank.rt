@@ -103,7 +103,7 @@ pub(crate) fn give_stores<P: Pages>(shelves: Vec<Shelf<P>>, bank: Vec<P>) -> Vec
 /// A store's pages stand at this place again, where there is a store.
 fn put_back<P: Pages>(shelf: Shelf<P>, place: usize, bank: &mut Vec<P>)
     requires place { place ≤ vec_len bank.old }
-    requires room { vec_len bank.old < vec_capacity bank.old }
+    requires room { vec_len bank.old + stores_in (shelf ∷ []) ≤ vec_capacity bank.old }
     ensures given { (pages : Option Memory) × IsStoreGiven shelf pages × (map P.memory bank.new.items ≡ with_pages place pages (map P.memory bank.old.items)) }
     ensures length { vec_len bank.new ≡ vec_len bank.old + stores_in (shelf ∷ []) }
     ensures capacity { vec_capacity bank.old ≤ vec_capacity bank.new }

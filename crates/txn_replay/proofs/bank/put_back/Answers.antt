@@ -1,0 +1,16 @@
+use Rattle.std.proofs.Common.{◌≡◌, ◌+◌, ◌≤◌, map, Option, Some, None, true, false, sym, ap, ◌∙◌, arith}
+use Rattle.std.specs.Prelude.{is_some}
+use Rattle.capture_store.specs.SeenShelf.{ShelfSeen}
+use Rattle.emv_ports.specs.Memory.{Memory}
+use Rattle.txn_replay.specs.Banked.{stores_in}
+use Rattle.txn_replay.proofs.Banking.{left_given, none_left, map_insert, single, one_store, no_store}
+use Rattle.txn_replay.proofs.bank.put_back.Goals as goal
+
+pub returns-in-Some-clause-given : goal.returns-in-Some-clause-given
+returns-in-Some-clause-given g c =
+    let some : is_some c.args.shelf ≡ true = sym c.in-Some.ensures.there in (
+      Some (g.P.Pages.memory c.in-Some.pages),
+      left_given c.args.shelf (g.P.Pages.memory c.in-Some.pages) some
+          (record { off = c.in-Some.ensures.off; may = c.in-Some.ensures.may; stands = c.in-Some.ensures.stands; losses = c.in-Some.ensures.losses }),
+      ap (λ xs. map g.P.Pages.memory xs) c.in-Ok.ensures.items ∙ map_insert g.P.Pages.memory c.args.bank.now.items c.args.place c.in-Some.pages,
+    )
