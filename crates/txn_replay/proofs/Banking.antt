@@ -179,7 +179,7 @@ take_less {A} (suc n) (suc m) (x ∷ xs) within = ap (λ (ys : List A). x ∷ ys
 
 -- the last of the shelves has left its pages
 pub shelf_given : (shelves : List ShelfSeen) (n : ℕ) (shelf : ShelfSeen) (page : Option Memory) (pages : List (Option Memory)) → slice_get shelves n ≡ Some shelf
-    → IsStoreGiven shelf page → StoresAreGiven (drop (n + 1) shelves) pages → StoresAreGiven (drop n shelves) (page ∷ pages)
+    → IsStoreGiven shelf page → StoresAreGiven (drop (suc n) shelves) pages → StoresAreGiven (drop n shelves) (page ∷ pages)
 shelf_given [] n shelf page pages there given others = cc
 shelf_given (x ∷ shelves) zero shelf page pages there given others = (subst (λ (y : ShelfSeen). IsStoreGiven y page) (sym (same_Some x shelf there)) given, others)
 shelf_given (x ∷ shelves) (suc n) shelf page pages there given others = shelf_given shelves n shelf page pages there given others
