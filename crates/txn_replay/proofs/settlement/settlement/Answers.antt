@@ -16,7 +16,7 @@ returns-then-left-steps c = λ rows are.
     let keeps = are.keeps l lane row.0 here row.1 in
     let copies : c.loop-index.copies ≡ s.copies = c.loop-index.invariant.copies in
     let within : c.loop-index.left < steps_of lane (durable_of s l) s.copies = omega arith in
-    let step = step_found s l lane row.0 c.loop-index.left c.step_in.result c.requires.scenario.one_copy lane.captures.ok.0 keeps within c.step_in.ensures in
+    let step = step_found s l lane row.0 c.loop-index.left c.step_in.result c.requires.scenario.tables.one_copy lane.captures.ok.0 keeps within c.step_in.ensures in
     subst (λ (o : Option Settlement). IsStepOf (durable_of s) o (Some c.step_in.result))
     (sym (own_step s rows l row.0 c.loop-index.left step.0 row.1 step.1) ∙ c.loop-index.invariant.same rows are) step.2
 
@@ -30,7 +30,7 @@ loop-index-preserved c = record {
       let row = some_at rows l (omega (arith, are.count, c.loop-index-test.true)) in
       let keeps = are.keeps l lane row.0 here row.1 in
       let count : c.steps_of-steps.result ≡ length (lane_settlements s.copies l row.0 (durable_of s l)) =
-      c.steps_of-steps.ensures ∙ steps_count s.copies l lane row.0 (durable_of s l) c.requires.scenario.one_copy lane.captures.ok.0 keeps in
+      c.steps_of-steps.ensures ∙ steps_count s.copies l lane row.0 (durable_of s l) c.requires.scenario.tables.one_copy lane.captures.ok.0 keeps in
       ap (λ n. slice_get (settlements_from s (l + 1) (drop (l + 1) rows)) (c.loop-index.left - n)) count
       ∙ sym (later_step s rows l row.0 c.loop-index.left row.1 (omega (arith, count)))
       ∙ c.loop-index.invariant.same rows are);

@@ -202,9 +202,12 @@ invariant_of-self g c =
         scenario = c.self.invariant.0.scenario;
         slot_count = length-set v.slots i c.carry_out.new.slot ∙ c.self.invariant.0.slot_count;
         lane_count = c.self.invariant.0.lane_count;
+        shelf_count = c.self.invariant.0.shelf_count;
         fits = c.self.invariant.0.fits;
         keys = c.self.invariant.0.keys;
         accounts = c.self.invariant.0.accounts;
+        blank = c.self.invariant.0.blank;
+        pages = c.self.invariant.0.pages;
         standing = (goes.after, goes.stands);
       },
       c.self.invariant.1,
