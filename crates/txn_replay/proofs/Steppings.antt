@@ -11,7 +11,7 @@ use Rattle.std.proofs.Math.Nat.{div-eq_of_lt, add-div_left}
 use Rattle.arrayvec.specs.declared.array_vec.ArrayVec.{ArrayVec}
 use Rattle.scenario.specs.Plan.{ScenarioData}
 use Rattle.txn_replay.specs.Payment.{durable_of}
-use Rattle.txn_replay.specs.Settling.{steps_of, step_in, IsStep}
+use Rattle.txn_replay.specs.Settling.{steps_of, step_in, IsStep, IsStepOf}
 use Rattle.txn_replay.specs.Standing.{LaneKeeps}
 use Rattle.txn_replay.specs.Steps.{Settlement, Opens, Sends, copies_of, dropped_copies, lane_settlements, settlements_from}
 use Rattle.txn_replay.specs.World.{LaneRow}
@@ -141,3 +141,42 @@ no_steps s rows l n past = ap (λ xs. slice_get (settlements_from s l xs) n) (dr
     none : (k : ℕ) → slice_get (settlements_from s l []) k ≡ None
     none zero = refl
     none (suc k) = refl
+
+-- what the step of a settlement is, by the one that was found
+pub none_is : (durable : ℕ → Bool) (o : Option Settlement) → IsStepOf durable o None → o ≡ None
+none_is durable None is = refl
+none_is durable (Some at) is = absurd is
+
+pub opens_is : (durable : ℕ → Bool) (o : Option Settlement) (lane : ℕ) → IsStepOf durable o (Some (settling.Opens lane)) → o ≡ Some (Opens lane)
+opens_is durable None lane is = absurd is
+opens_is durable (Some (Opens l)) lane is = ap (λ n. Some (Opens n)) is
+opens_is durable (Some (Sends l message drops)) lane is = absurd is
+
+-- a message of a lane without a store
+pub record IsPlain (durable : ℕ → Bool) (o : Option Settlement) (lane : ℕ) (message : List ℕ) : Type 0 where
+  pub here : o ≡ Some (Sends lane message false)
+  pub off : durable lane ≡ false
+
+-- and of a store
+pub record IsStores (durable : ℕ → Bool) (o : Option Settlement) (lane : ℕ) (drops : Bool) : Type 0 where
+  pub message : List ℕ
+  pub here : o ≡ Some (Sends lane message drops)
+  pub on : durable lane ≡ true
+
+pub plain_is : (durable : ℕ → Bool) (o : Option Settlement) (lane : ℕ) (sent : ArrayVec ℕ 2048 ⊤) → IsStepOf durable o (Some (settling.Sends lane (record { now = sent })))
+    → IsPlain durable o lane sent.items
+plain_is durable None lane sent is = absurd is
+plain_is durable (Some (Opens l)) lane sent is = absurd is
+plain_is durable (Some (Sends l message drops)) lane sent is = record {
+  here = (λ i. Some (Sends (is.0 i) (is.1 i) (is.2 i)));
+  off = ap durable (sym is.0) ∙ is.3;
+}
+
+pub stores_is : (durable : ℕ → Bool) (o : Option Settlement) (lane : ℕ) (drops : Bool) → IsStepOf durable o (Some (settling.Drains lane drops)) → IsStores durable o lane drops
+stores_is durable None lane drops is = absurd is
+stores_is durable (Some (Opens l)) lane drops is = absurd is
+stores_is durable (Some (Sends l message last)) lane drops is = record {
+  message = message;
+  here = (λ i. Some (Sends (is.0 i) message (is.1 i)));
+  on = ap durable (sym is.0) ∙ is.2;
+}
