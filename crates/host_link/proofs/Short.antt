@@ -1,6 +1,6 @@
 -- A message of a terminal that isn't a request has at most 139 bytes.
-use Rattle.std.proofs.Common.{◌≡◌, ◌≢◌, ℕ, zero, suc, ◌+◌, ◌*◌, ◌==◌, ◌≤◌, ◌<◌, Bool, true, false, if◌then◌else◌, ◌&&◌, nat_le, nat_lt, List, [], ◌∷◌, ◌++◌, length, get_or, Option, Some, None, IfSome, Result, Ok, Err, refl, sym, ap, ◌∙◌, subst, arith, length-append}
-use Rattle.std.proofs.lemmas.Bool.{eqb-true, ltb-false, lt-ltb}
+use Rattle.std.proofs.Common.{◌≡◌, ◌≢◌, ℕ, ◌+◌, ◌*◌, ◌/◌, ◌%◌, ◌==◌, ◌≤◌, ◌<◌, Bool, true, false, if◌then◌else◌, ◌&&◌, nat_le, nat_lt, List, [], ◌∷◌, ◌++◌, length, get_or, Option, Some, None, IfSome, Result, Ok, Err, refl, sym, ap, ◌∙◌, subst, arith, length-append}
+use Rattle.std.proofs.lemmas.Bool.{eqb-true}
 use Rattle.std.proofs.lemmas.Bool.Decides.{nat_tests}
 use Rattle.ber_tlv.specs.Item.{ItemData}
 use Rattle.ber_tlv.specs.Written.{written, tag_bytes, length_bytes}
@@ -165,9 +165,7 @@ pan_short digits right =
 -- the bytes of a field
 field_size : (tag : ℕ) (value : List ℕ) (n : ℕ) → length value ≡ n → length (written tag value) ≡ length (tag_bytes tag) + (length (length_bytes n) + n)
 unfolding written
-field_size tag value n is =
-    length-append (tag_bytes tag) (length_bytes (length value) ++ value)
-    ∙ ap (λ k. length (tag_bytes tag) + k) (length-append (length_bytes (length value)) value ∙ ap (λ k. length (length_bytes k) + k) is)
+field_size tag value n is = simp length-append (rw is (omega arith))
 
 lengths_short : (n : ℕ) → n < 256 → length (length_bytes n) ≤ 2
 lengths_short n few = by (nat_lt n 128) (nat_lt n 256) refl
@@ -175,10 +173,14 @@ lengths_short n few = by (nat_lt n 128) (nat_lt n 256) refl
     by : (p q : Bool) → nat_lt n 256 ≡ q → length (if p then n ∷ [] else if q then 129 ∷ n ∷ [] else 130 ∷ (n / 256) ∷ (n % 256) ∷ []) ≤ 2
     by true q is = omega arith
     by false true is = omega arith
-    by false false is = absurd (omega (arith, ltb-false n 256 is, few))
+    by false false is = (let never : 256 ≤ n = grind (arith, nat_tests) in absurd (omega (arith, never, few)))
 
 length_short : (n : ℕ) → n < 128 → length (length_bytes n) ≡ 1
-length_short n few = rw (lt-ltb n 128 few) refl
+length_short n few = by (nat_lt n 128) (nat_lt n 256) refl
+  where
+    by : (p q : Bool) → nat_lt n 128 ≡ p → length (if p then n ∷ [] else if q then 129 ∷ n ∷ [] else 130 ∷ (n / 256) ∷ (n % 256) ∷ []) ≡ 1
+    by true q is = refl
+    by false q is = (let never : 128 ≤ n = grind (arith, nat_tests) in absurd (omega (arith, never, few)))
 
 field_short : (tag : ℕ) (value : List ℕ) (most : ℕ) → length value ≤ most → most < 128 → length (written tag value) ≤ length (tag_bytes tag) + (1 + most)
 field_short tag value most short few =
