@@ -6,7 +6,7 @@ use Rattle.ber_tlv.specs.Written.{written}
 use Rattle.auth_message.specs.Data.{PresentData}
 use Rattle.auth_message.specs.Spelling.{present_bytes, reversal_bytes}
 use Rattle.auth_message.specs.declared.reversal.ReversalFields.{ReversalFields}
-use Rattle.emv_dict.specs.Views.{AcData}
+use Rattle.emv_dict.specs.Views.{AcData, SettingsData, PurchaseData}
 use Rattle.emv_dict.specs.declared.ending.Ending.{Ending}
 use Rattle.emv_dict.specs.declared.ending.Ending.TheVariants.{Approved, Declined, Terminated, CutOff}
 use Rattle.kernel.specs.Course.{Standing}
@@ -14,7 +14,7 @@ use Rattle.kernel.specs.Ended.{EndData, results_behind, code_or_zeros, presentme
 use Rattle.kernel.specs.Kernel.{KernelData, KernelStands}
 use Rattle.kernel.specs.Reply.{Reply, Deed, ToCard, ToHost, Over}
 use Rattle.object_lists.specs.CardRead.{ReadCard}
-use Rattle.online_step.specs.Captures.{presentment_of, reversal_of}
+use Rattle.online_step.specs.Captures.{presentment_data, presentment_of, reversal_data, reversal_of}
 use Rattle.terminal_state.specs.Marks.{Mark, MomentData, moment, latest, card_of}
 use Rattle.terminal_state.specs.Terminal.{Deal}
 use Rattle.txn_replay.specs.Payment.{Payment}
@@ -29,25 +29,35 @@ reversal_first : (f : ReversalFields) → get_or (reversal_bytes f) 0 0 ≢ 0xE1
 unfolding reversal_bytes written
 reversal_first f same = omega (arith, same)
 
+presented_first : (card : ReadCard) (settings : SettingsData) (purchase : PurchaseData) (tvr : ℕ) (ac : AcData) (code : List ℕ)
+    → get_or (presentment_of card settings purchase tvr ac code) 0 0 ≢ 0xE1
+unfolding presentment_of
+presented_first card settings purchase tvr ac code = presentment_first (presentment_data card settings purchase tvr ac code)
+
+reversed_first : (card : ReadCard) (settings : SettingsData) (purchase : PurchaseData) (counter : ℕ) (code : List ℕ)
+    → get_or (reversal_of card settings purchase counter code) 0 0 ≢ 0xE1
+unfolding reversal_of
+reversed_first card settings purchase counter code = reversal_first (reversal_data card settings purchase counter code)
+
 presented : (deal : Deal) (card : ReadCard) (at : MomentData) → IsNoRequest (presentment deal card at)
-unfolding presentment presentment_of
+unfolding presentment
 presented deal card at = by at.last
   where
     by : (o : Option AcData)
         → IsNoRequest (option_map (λ ac. presentment_of card deal.settings deal.purchase
         (results_behind card at.tvr_when_first at.tvr_when_second) ac (code_or_zeros at.code)) o)
     by None = tt
-    by (Some ac) = presentment_first _
+    by (Some ac) = presented_first card deal.settings deal.purchase (results_behind card at.tvr_when_first at.tvr_when_second) ac (code_or_zeros at.code)
 
 reversed : (deal : Deal) (card : ReadCard) (at : MomentData) → IsNoRequest (reversal deal card at)
-unfolding reversal reversal_of
+unfolding reversal
 reversed deal card at = by at.is_open at.counter
   where
     by : (open : Bool) (o : Option ℕ)
         → IsNoRequest (if open then option_map (λ counter. reversal_of card deal.settings deal.purchase counter (code_or_zeros at.code)) o else None)
     by false o = tt
     by true None = tt
-    by true (Some counter) = reversal_first _
+    by true (Some counter) = reversed_first card deal.settings deal.purchase counter (code_or_zeros at.code)
 
 captured : (deal : Deal) (ending : Ending) (card : Option ReadCard) (at : MomentData) → IsNoRequest (capture deal ending card at)
 captured deal ending None at = tt
