@@ -421,6 +421,13 @@ pub left_none : (shelf : ShelfSeen) → has_power shelf ≡ true → (count_of s
 left_none None on roomy = cc
 left_none (Some seen) on roomy = ap (λ (b : Bool). stock_left b (length seen.list == 7)) on ∙ ap (λ (b : Bool). stock_left true b) roomy
 
+pub left_on : (shelf : ShelfSeen) → has_power shelf ≡ true → shelf_left shelf ≤ 1
+left_on shelf on = by (count_of shelf == 7) refl
+  where
+    by : (full : Bool) → (count_of shelf == 7) ≡ full → shelf_left shelf ≤ 1
+    by true is = omega (arith, left_one shelf on is)
+    by false is = omega (arith, left_none shelf on is)
+
 pub left_off : (shelf : ShelfSeen) (store : StoreRow) → ShelfOff shelf store → shelf_left shelf ≡ 2
 left_off None store off = absurd off
 left_off (Some seen) store off = ap (λ (b : Bool). stock_left b (length seen.list == 7)) off.off
@@ -433,6 +440,10 @@ left_few (Some seen) = by seen.memory.on (length seen.list == 7)
     by false full = omega arith
     by true true = omega arith
     by true false = omega arith
+
+pub not_so : (b : Bool) → not b ≡ true → b ≡ false
+not_so false is = refl
+not_so true is = cc
 
 -- fewer than seven
 pub has_room : (n : ℕ) → n ≤ 7 → (n == 7) ≡ false → n < 7
