@@ -20,3 +20,9 @@ returns-clause-waits g c =
 
 pub returns-clause-stored : goal.returns-clause-stored
 returns-clause-stored g c = λ durable. (let never : true ≡ false = sym durable ∙ c.if-at.false in cc)
+
+pub store_capture-requires-clause-on : goal.store_capture-requires-clause-on
+store_capture-requires-clause-on g c = (c.requires.room c.if-at.true).0
+
+pub store_capture-requires-clause-room : goal.store_capture-requires-clause-room
+store_capture-requires-clause-room g c = (c.requires.room c.if-at.true).1
