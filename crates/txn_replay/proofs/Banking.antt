@@ -63,13 +63,13 @@ store_is_some (Some seen) off = refl
 pub one_store : (shelf : ShelfSeen) → is_some shelf ≡ true → stores_in (shelf ∷ []) ≡ 1
 one_store shelf some =
     let one : stores_in (shelf ∷ []) ≡ cond (is_some shelf) 1 0 + 0 = sum_by-cons (λ (x : ShelfSeen). cond (is_some x) 1 0) shelf [] in
-    let is : cond (is_some shelf) 1 0 ≡ 1 = ap (λ b. cond b 1 0) some in
+    let is : cond (is_some shelf) 1 0 + 0 ≡ 1 = ap (λ (b : Bool). cond b 1 0 + 0) some in
     omega (arith, one, is)
 
 pub no_store : (shelf : ShelfSeen) → shelf ≡ None → stores_in (shelf ∷ []) ≡ 0
 no_store shelf none =
     let one : stores_in (shelf ∷ []) ≡ cond (is_some shelf) 1 0 + 0 = sum_by-cons (λ (x : ShelfSeen). cond (is_some x) 1 0) shelf [] in
-    let is : cond (is_some shelf) 1 0 ≡ 0 = ap (λ (x : ShelfSeen). cond (is_some x) 1 0) none in
+    let is : cond (is_some shelf) 1 0 + 0 ≡ 0 = ap (λ (x : ShelfSeen). cond (is_some x) 1 0 + 0) none in
     omega (arith, one, is)
 
 pub single : (shelf : ShelfSeen) → stores_in (shelf ∷ []) ≡ cond (is_some shelf) 1 0
@@ -109,11 +109,11 @@ room_left cards index before now stores shelf durable is whole few within taken 
   where
     by : (b : Bool) → is_some shelf ≡ b → (b ≡ true → cards ≤ 63 - index) → cards ≤ now
     by true some own =
-        let one : cond (is_some shelf) 1 0 ≡ 1 = ap (λ b. cond b 1 0) some in
+        let one : cond (is_some shelf) 1 0 + 0 ≡ 1 = ap (λ (x : Bool). cond x 1 0 + 0) some in
         let enough : cards ≤ 63 - index = own refl in
         omega (arith, one, enough, whole, few, within, taken)
     by false none own =
-        let zero_of : cond (is_some shelf) 1 0 ≡ 0 = ap (λ b. cond b 1 0) none in
+        let zero_of : cond (is_some shelf) 1 0 + 0 ≡ 0 = ap (λ (x : Bool). cond x 1 0 + 0) none in
         omega (arith, zero_of, taken, fits)
 
 -- the pages that are left are still blank, and those that are taken were

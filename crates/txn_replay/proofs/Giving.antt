@@ -176,10 +176,10 @@ given_count (shelf ∷ shelves) [] given = absurd given
 given_count (shelf ∷ shelves) (page ∷ pages) given =
     let rest = given_count shelves pages given.1 in
     let more : stores_in (shelf ∷ shelves) ≡ cond (is_some shelf) 1 0 + stores_in shelves = sum_by-cons (λ (x : ShelfSeen). cond (is_some x) 1 0) shelf shelves in
-    let both : cond (is_some page) 1 0 ≡ cond (is_some shelf) 1 0 = same shelf page given.0 in
+    let both : cond (is_some page) 1 0 + 0 ≡ cond (is_some shelf) 1 0 + 0 = same shelf page given.0 in
     (ap (λ n. suc n) rest.0, omega (arith, pages_more page pages, more, both, rest.1))
   where
-    same : (x : ShelfSeen) (y : Option Memory) → IsStoreGiven x y → cond (is_some y) 1 0 ≡ cond (is_some x) 1 0
+    same : (x : ShelfSeen) (y : Option Memory) → IsStoreGiven x y → cond (is_some y) 1 0 + 0 ≡ cond (is_some x) 1 0 + 0
     same None None is = refl
     same (Some seen) (Some memory) is = refl
     same None (Some memory) is = absurd is
@@ -224,7 +224,7 @@ stores_count (lane ∷ lanes) [] count each = absurd (omega (arith, count))
 stores_count (lane ∷ lanes) (shelf ∷ shelves) count each =
     let first : stores_in (shelf ∷ shelves) ≡ cond (is_some shelf) 1 0 + stores_in shelves = sum_by-cons (λ (x : ShelfSeen). cond (is_some x) 1 0) shelf shelves in
     let second : durable_count (lane ∷ lanes) ≡ cond lane.durable 1 0 + durable_count lanes = sum_by-cons (λ (x : LaneData). cond x.durable 1 0) lane lanes in
-    let own : cond (is_some shelf) 1 0 ≡ cond lane.durable 1 0 = ap (λ (b : Bool). cond b 1 0) (each 0 lane shelf refl refl) in
+    let own : cond (is_some shelf) 1 0 + 0 ≡ cond lane.durable 1 0 + 0 = ap (λ (b : Bool). cond b 1 0 + 0) (each 0 lane shelf refl refl) in
     let others : stores_in shelves ≡ durable_count lanes =
     stores_count lanes shelves (omega (arith, count)) (λ l x y there at. each (suc l) x y there at) in
     omega (arith, first, second, own, others)

@@ -59,6 +59,9 @@ last_copy copies n message messages is =
       whole = λ drops. omega (arith, before, is);
     }
 
+suc_first : (a b : ℕ) → suc (a + b) ≡ suc a + b
+suc_first a b = omega arith
+
 -- one message further
 later_copy : (copies n m l : ℕ) (message : List ℕ) (messages : List (List ℕ)) (at : Settlement) → 1 ≤ copies → n ≡ copies + m → IsCopy copies l messages m at
     → IsCopy copies l (message ∷ messages) n at
@@ -75,7 +78,7 @@ later_copy copies n m l message messages (Sends lane sent drops) some is one =
       one.0,
       record {
         there = ap (λ q. slice_get (message ∷ messages) q) quotient ∙ one.1.there;
-        next = next ∙ ap (λ q. suc q) one.1.next ∙ sym (ap (λ q. q + (if drops then 1 else 0)) quotient);
+        next = next ∙ ap (λ q. suc q) one.1.next ∙ suc_first (m / copies) (if drops then 1 else 0) ∙ sym (ap (λ q. q + (if drops then 1 else 0)) quotient);
         last = one.1.last ∙ sym (ap (λ r. r == 0) rest);
         rest = rest ∙ one.1.rest ∙ ap (λ k. if drops then 0 else k + 1) (sym before);
         whole = λ ends. ap (λ k. k + 1) before ∙ one.1.whole ends;

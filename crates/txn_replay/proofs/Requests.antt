@@ -53,8 +53,8 @@ reversed : (deal : Deal) (card : ReadCard) (at : MomentData) → IsNoRequest (re
 unfolding reversal
 reversed deal card at = by at.is_open at.counter
   where
-    by : (open : Bool) (o : Option ℕ)
-        → IsNoRequest (if open then option_map (λ counter. reversal_of card deal.settings deal.purchase counter (code_or_zeros at.code)) o else None)
+    by : (may : Bool) (o : Option ℕ)
+        → IsNoRequest (if may then option_map (λ counter. reversal_of card deal.settings deal.purchase counter (code_or_zeros at.code)) o else None)
     by false o = tt
     by true None = tt
     by true (Some counter) = reversed_first card deal.settings deal.purchase counter (code_or_zeros at.code)

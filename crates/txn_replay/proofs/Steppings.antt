@@ -43,8 +43,8 @@ steps_count copies l lane row true some ok keeps =
 
 -- a place is within the first copies, or behind them
 data Where (n copies : ℕ) : Type 0 where
-  inside : n < copies → Where n copies
-  behind : (m : ℕ) → n ≡ copies + m → Where n copies
+  is_within : n < copies → Where n copies
+  is_past : (m : ℕ) → n ≡ copies + m → Where n copies
 
 -- the message of a plain step
 plain_message : (copies l : ℕ) (messages : List (List ℕ)) (n : ℕ) (message : List ℕ) → 1 ≤ copies → slice_get messages (n / copies) ≡ Some message
@@ -54,9 +54,9 @@ plain_message copies l (first ∷ messages) n message some here = by (λ (m : �
   where
     below : (k : ℕ) → Where n copies
     below k = elim (cases_order n copies) [
-      | inl same ↦ behind 0 (omega (arith, same))
-      | inr (inl less) ↦ inside less
-      | inr (inr more) ↦ behind (n - copies) (omega (arith, more))
+      | inl same ↦ is_past 0 (omega (arith, same))
+      | inr (inl less) ↦ is_within less
+      | inr (inr more) ↦ is_past (n - copies) (omega (arith, more))
     ]
 
     copy_at : (c k : ℕ) (x : Settlement) → k < c → slice_get (replicate c x) k ≡ Some x
@@ -66,11 +66,11 @@ plain_message copies l (first ∷ messages) n message some here = by (λ (m : �
 
     by : ((m : ℕ) → slice_get messages (m / copies) ≡ Some message → slice_get (flat_map (copies_of copies l) messages) m ≡ Some (Sends l message false))
         → Where n copies → slice_get (copies_of copies l first ++ flat_map (copies_of copies l) messages) n ≡ Some (Sends l message false)
-    by later (inside less) =
+    by later (is_within less) =
         let is : first ≡ message = same_Some first message (ap (λ q. slice_get (first ∷ messages) q) (sym (div-eq_of_lt less)) ∙ here) in
         append_first (copies_of copies l first) (flat_map (copies_of copies l) messages) n (Sends l message false)
         (ap (λ x. slice_get (replicate copies (Sends l x false)) n) is ∙ copy_at copies n (Sends l message false) less)
-    by later (behind m is) =
+    by later (is_past m is) =
         let quotient : n / copies ≡ suc (m / copies) =
         ap (λ x. x / copies) is ∙ add-div_left m (omega (arith, some)) ∙ (let e : m / copies + 1 ≡ suc (m / copies) = omega arith in e) in
         let place : n ≡ length (copies_of copies l first) + m = is ∙ ap (λ c. c + m) (sym (length-replicate copies (Sends l first false))) in
@@ -163,11 +163,17 @@ pub record IsStores (durable : ℕ → Bool) (o : Option Settlement) (lane : ℕ
   pub here : o ≡ Some (Sends lane message drops)
   pub on : durable lane ≡ true
 
-pub plain_is : (durable : ℕ → Bool) (o : Option Settlement) (lane : ℕ) (sent : ArrayVec ℕ 2048 ⊤) → IsStepOf durable o (Some (settling.Sends lane (record { now = sent })))
-    → IsPlain durable o lane sent.items
-plain_is durable None lane sent is = absurd is
-plain_is durable (Some (Opens l)) lane sent is = absurd is
-plain_is durable (Some (Sends l message drops)) lane sent is = record {
+abbrev pub PlainBy : Settling → (ℕ → Bool) → Option Settlement → Type 0
+PlainBy (settling.Sends lane message) durable o = IsPlain durable o lane message.now.items
+PlainBy (settling.Opens lane) durable o = Unit {0}
+PlainBy (settling.Drains lane drops) durable o = Unit {0}
+
+pub plain_is : (durable : ℕ → Bool) (o : Option Settlement) (found : Settling) → IsStepOf durable o (Some found) → PlainBy found durable o
+plain_is durable None found is = absurd is
+plain_is durable (Some at) (settling.Opens lane) is = tt
+plain_is durable (Some at) (settling.Drains lane drops) is = tt
+plain_is durable (Some (Opens l)) (settling.Sends lane message) is = absurd is
+plain_is durable (Some (Sends l bytes drops)) (settling.Sends lane message) is = record {
   here = (λ i. Some (Sends (is.0 i) (is.1 i) (is.2 i)));
   off = ap durable (sym is.0) ∙ is.3;
 }

@@ -42,14 +42,14 @@ pub one_lost_more : (ended : List Past) (past : Past) → past.lost ≡ true →
 one_lost_more ended past lost =
     let more : lost_count (ended ++ past ∷ []) ≡ lost_count ended + lost_count (past ∷ []) = sum_by-append (λ (x : Past). cond x.lost 1 0) ended (past ∷ []) in
     let one : lost_count (past ∷ []) ≡ cond past.lost 1 0 + 0 = sum_by-cons (λ (x : Past). cond x.lost 1 0) past [] in
-    let is : cond past.lost 1 0 ≡ 1 = ap (λ (b : Bool). cond b 1 0) lost in
+    let is : cond past.lost 1 0 + 0 ≡ 1 = ap (λ (b : Bool). cond b 1 0 + 0) lost in
     omega (arith, more, one, is)
 
 pub none_lost_more : (ended : List Past) (past : Past) → past.lost ≡ false → capped (lost_count ended) ≡ capped (lost_count (ended ++ past ∷ []))
 none_lost_more ended past told =
     let more : lost_count (ended ++ past ∷ []) ≡ lost_count ended + lost_count (past ∷ []) = sum_by-append (λ (x : Past). cond x.lost 1 0) ended (past ∷ []) in
     let one : lost_count (past ∷ []) ≡ cond past.lost 1 0 + 0 = sum_by-cons (λ (x : Past). cond x.lost 1 0) past [] in
-    let is : cond past.lost 1 0 ≡ 0 = ap (λ (b : Bool). cond b 1 0) told in
+    let is : cond past.lost 1 0 + 0 ≡ 0 = ap (λ (b : Bool). cond b 1 0 + 0) told in
     omega (arith, more, one, is)
 
 -- what a lane keeps once a purchase was lost before its card was powered up

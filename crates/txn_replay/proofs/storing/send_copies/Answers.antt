@@ -1,4 +1,5 @@
-use Rattle.std.proofs.Common.{◌≡◌, ℕ, zero, suc, ◌+◌, ◌*◌, ◌≤◌, ◌<◌, Bool, true, false, List, [], ◌∷◌, ◌++◌, length, replicate, refl, sym, ap, ◌∙◌, subst, arith, append-nil}
+use Rattle.std.proofs.Common.{◌≡◌, ℕ, zero, suc, ◌+◌, ◌*◌, ◌≤◌, ◌<◌, Bool, true, false, List, [], ◌∷◌, ◌++◌, length, replicate, Result, Ok, Err, refl, sym, ap, ◌∙◌, subst, arith, append-nil}
+use Rattle.std.specs.Prelude.{OnErr}
 use Rattle.auth_message.specs.Message.{message_of}
 use Rattle.host_link.proofs.Again.{not_new}
 use Rattle.issuer_host.specs.History.{HostData, HostStands, host_reply, is_new}
@@ -49,9 +50,13 @@ loop-copy-preserved c =
       first = λ none. absurd (omega (arith, none));
     }
 
+on_err : {A E : Type 0} {Q : Type 0} (r : Result A E) → Q → OnErr r Q
+on_err (Ok value) holds = tt
+on_err (Err fault) holds = holds
+
 -- only the first of them can want memory
 pub returns-in_err-send-clause-err : goal.returns-in_err-send-clause-err
-returns-in_err-send-clause-err c = by c.loop-copy._copy refl
+returns-in_err-send-clause-err c = on_err c.from_residual.result (by c.loop-copy._copy refl)
   where
     by : (n : ℕ) → c.loop-copy._copy ≡ n → (c.send.new.host ≡ c.args.host.now) × (c.send.new.lines.items ≡ [])
     by zero is =
