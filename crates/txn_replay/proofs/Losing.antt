@@ -55,7 +55,7 @@ other_lane : (k l : ℕ) → k ≢ l → one_if (l == k) ≡ 0
 unfolding one_if
 other_lane k l other = by (l == k) refl
   where
-    by : (b : Bool) → (l == k) ≡ b → cond b 1 0 ≡ 0
+    by : (b : Bool) → (l == k) ≡ b → ◌≡◌ {A = ℕ} (cond b 1 0) 0
     by true is = absurd (other (sym (eqb-true l k is)))
     by false is = refl
 
