@@ -66,6 +66,12 @@ one_store shelf some =
     let is : cond (is_some shelf) 1 0 + 0 ≡ 1 = ap (λ (b : Bool). cond b 1 0 + 0) some in
     omega (arith, one, is)
 
+pub zero_store : (shelf : ShelfSeen) → is_some shelf ≡ false → stores_in (shelf ∷ []) ≡ 0
+zero_store shelf none =
+    let one : stores_in (shelf ∷ []) ≡ cond (is_some shelf) 1 0 + 0 = sum_by-cons (λ (x : ShelfSeen). cond (is_some x) 1 0) shelf [] in
+    let is : cond (is_some shelf) 1 0 + 0 ≡ 0 = ap (λ (b : Bool). cond b 1 0 + 0) none in
+    omega (arith, one, is)
+
 pub no_store : (shelf : ShelfSeen) → shelf ≡ None → stores_in (shelf ∷ []) ≡ 0
 no_store shelf none =
     let one : stores_in (shelf ∷ []) ≡ cond (is_some shelf) 1 0 + 0 = sum_by-cons (λ (x : ShelfSeen). cond (is_some x) 1 0) shelf [] in

@@ -1,9 +1,9 @@
-use Rattle.std.proofs.Common.{◌≡◌, ◌+◌, ◌≤◌, map, Option, Some, None, true, false, sym, ap, ◌∙◌, arith}
+use Rattle.std.proofs.Common.{◌≡◌, ◌+◌, ◌≤◌, map, Option, Some, None, true, false, refl, sym, ap, ◌∙◌, arith}
 use Rattle.std.specs.Prelude.{is_some}
 use Rattle.capture_store.specs.SeenShelf.{ShelfSeen}
 use Rattle.emv_ports.specs.Memory.{Memory}
 use Rattle.txn_replay.specs.Banked.{stores_in}
-use Rattle.txn_replay.proofs.Banking.{left_given, none_left, map_insert, single, one_store, no_store}
+use Rattle.txn_replay.proofs.Banking.{left_given, none_left, map_insert, one_store, zero_store}
 use Rattle.txn_replay.proofs.bank.put_back.Goals as goal
 
 pub returns-in-Some-clause-given : goal.returns-in-Some-clause-given
@@ -14,3 +14,12 @@ returns-in-Some-clause-given g c =
           (record { off = c.in-Some.ensures.off; may = c.in-Some.ensures.may; stands = c.in-Some.ensures.stands; losses = c.in-Some.ensures.losses }),
       ap (λ xs. map g.P.Pages.memory xs) c.in-Ok.ensures.items ∙ map_insert g.P.Pages.memory c.args.bank.now.items c.args.place c.in-Some.pages,
     )
+
+pub returns-in-Some-clause-length : goal.returns-in-Some-clause-length
+returns-in-Some-clause-length g c = omega (arith, c.in-Ok.ensures.len, one_store c.args.shelf (sym c.in-Some.ensures.there))
+
+pub returns-in_default-clause-given : goal.returns-in_default-clause-given
+returns-in_default-clause-given g c = (None, none_left c.args.shelf (sym c.in_default.ensures.there), refl)
+
+pub returns-in_default-clause-length : goal.returns-in_default-clause-length
+returns-in_default-clause-length g c = omega (arith, zero_store c.args.shelf (sym c.in_default.ensures.there))

@@ -7,10 +7,28 @@ use Rattle.txn_replay.proofs.Banking.{one_new_store, stores_more, single, one_of
 use Rattle.txn_replay.proofs.Lists.{found_at}
 use Rattle.txn_replay.proofs.bank.take_stores.Goals as goal
 
+pub loop-index-init : goal.loop-index-init
+loop-index-init g c = record {
+  new = subst (λ (xs : List ShelfSeen). AreNewStores c.args.terminals.now xs) (sym c.requires.none) (λ l lane shelf here there. cc);
+  count = omega (arith, c.args.shelves.now.ok.0, ap (λ (xs : List ShelfSeen). length xs) c.requires.none);
+  fits = c.requires.room;
+  lanes = c.requires.few;
+  within = omega arith;
+  pages = omega (arith, c.requires.pages, ap (λ (xs : List ShelfSeen). stores_in xs) c.requires.none);
+  few = omega (arith, ap (λ (xs : List ShelfSeen). stores_in xs) c.requires.none);
+  left = λ cards most room. omega (arith, most, c.requires.pages);
+  blank = c.requires.blank;
+  capacity = refl;
+}
+
+pub take_store-requires-clause-place : goal.take_store-requires-clause-place
+take_store-requires-clause-place g c = λ durable.
+    omega (arith, c.loop-index.invariant.pages, c.loop-index.invariant.few, c.loop-index.invariant.lanes, c.loop-index-test.true)
+
 pub loop-index-preserved : goal.loop-index-preserved
 loop-index-preserved g c =
-    let lane = c.loop-index-item.result in
-    let here : slice_get c.args.terminals.now c.loop-index.index ≡ Some lane = found_at c.args.terminals.now c.loop-index.index lane c.loop-index-test.true c.loop-index-item.is in
+    let lane = c.index-terminals-index.result in
+    let here : slice_get c.args.terminals.now c.loop-index.index ≡ Some lane = found_at c.args.terminals.now c.loop-index.index lane c.loop-index-test.true c.index-terminals-index.is in
     let more : c.push.new.self.items ≡ c.loop-index.shelves.items ++ c.take_store-shelf.result ∷ [] = c.in-Ok.ensures.items in
     let count : stores_in c.push.new.self.items ≡ stores_in c.loop-index.shelves.items + cond (is_some c.take_store-shelf.result) 1 0 =
     ap (λ (xs : List ShelfSeen). stores_in xs) more ∙ stores_more c.loop-index.shelves.items c.take_store-shelf.result in
