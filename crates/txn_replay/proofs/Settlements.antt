@@ -1,7 +1,8 @@
 -- A value and its world behind a step of the settlement.
-use Rattle.std.proofs.Common.{◌≡◌, ℕ, ◌+◌, ◌-◌, ◌/◌, ◌≤◌, ◌<◌, Bool, true, false, List, [], ◌∷◌, ◌++◌, length, drop, set, slice_get, Option, Some, None, refl, sym, ap, ◌∙◌, subst, inl, inr, arith, append-nil}
+use Rattle.std.proofs.Common.{◌≡◌, ℕ, zero, suc, ◌&&◌, ◌+◌, ◌-◌, ◌/◌, ◌≤◌, ◌<◌, Bool, true, false, List, [], ◌∷◌, ◌++◌, length, drop, set, slice_get, Option, Some, None, refl, sym, ap, ◌∙◌, subst, inl, inr, arith, append-nil}
 use Rattle.std.specs.List.{All}
 use Rattle.std.specs.Prelude.{is_some, option_map, unwrap_or}
+use Rattle.std.proofs.lemmas.Bool.{cases_eq}
 use Rattle.std.proofs.lemmas.List.Elements.{All-drop}
 use Rattle.std.proofs.lemmas.Option.{same_Some, slice_get_within, get_or_from_slice_get}
 use Rattle.auth_message.specs.Whole.{IsMessage}
@@ -13,21 +14,22 @@ use Rattle.issuer_host.specs.History.{HostData, HostStands, host_reply}
 use Rattle.report_text.specs.declared.line.Line.{Line}
 use Rattle.scenario.specs.Cards.{CardData}
 use Rattle.scenario.specs.Plan.{ScenarioData, IsScenario}
+use Rattle.scenario_lanes.specs.Plan.{LaneData}
 use Rattle.txn_replay.specs.Counting.{counts}
 use Rattle.txn_replay.specs.Lines.{settle_lines}
 use Rattle.txn_replay.specs.Payment.{Payment, payment_in, dialect_of, durable_of}
 use Rattle.txn_replay.specs.Run.{all_over}
-use Rattle.txn_replay.specs.Seen.{WorldSeen, SlotStands, terminal_plan, ShelfAt, RunFor, LaneAt, WorldStands, Goes}
+use Rattle.txn_replay.specs.Seen.{WorldSeen, SlotStands, terminal_plan, ShelfAt, RunFor, LaneAt, WorldStands, Goes, is_lane_done, done_below}
 use Rattle.txn_replay.specs.Settling.{AreRows}
 use Rattle.txn_replay.specs.Slot.{SlotSeen}
-use Rattle.txn_replay.specs.Standing.{LaneKeeps, StorePlace, StoreStands, ShelfFor}
+use Rattle.txn_replay.specs.Standing.{LaneKeeps, LaneFits, StorePlace, StoreStands, ShelfFor}
 use Rattle.txn_replay.specs.Steps.{After, Settlement, Opens, Sends, choice_in, settlements, settled_store, lane_settled, settles, nothing, happens}
 use Rattle.txn_replay.specs.Stored.{IsUnopened, IsThrough, IsSettledTo}
 use Rattle.txn_replay.specs.World.{LaneRow, World, new_lane, card_at, lane_at, with_store}
 use Rattle.txn_replay.specs.declared.event.Event.TheVariants.{Settle}
 use Rattle.txn_replay.specs.declared.lane.Lane.{Lane}
 use Rattle.txn_replay.proofs.Few.{like_few, few_of, settlements_few}
-use Rattle.txn_replay.proofs.Lists.{at_set, set_both, drop_at}
+use Rattle.txn_replay.proofs.Lists.{at_set, set_both, set_other, drop_at}
 use Rattle.txn_replay.proofs.Places.{OpensAt, StoreSends, SendsBy, before_lane, opens_at, sends_at}
 use Rattle.txn_replay.proofs.Sending.{LanesLike, settle_like}
 use Rattle.txn_replay.proofs.Settling.{IsOfStore, StepOf, durable_steps, lane_in, settles_inside, step_of}
@@ -411,3 +413,35 @@ module _ (v : WorldSeen) (w : World) (stands : WorldStands v w) where
 
             shelves_after : (j : ℕ) (x : ShelfSeen) → slice_get (set v.shelves l behind) j ≡ Some x → ShelfAt v.scenario j x (lane_at sent_world j)
             shelves_after = set_both (λ j x r. ShelfAt v.scenario j x r) v.shelves w.lanes l behind sent_row new_lane within_lanes shelf_at_it stands.shelves
+
+-- what is set at a place that a list has
+set_is : {A : Type 0} (xs : List A) (i : ℕ) (a x : A) → slice_get xs i ≡ Some x → slice_get (set xs i a) i ≡ Some a
+set_is [] i a x there = cc
+set_is (y ∷ ys) zero a x there = refl
+set_is (y ∷ ys) (suc i) a x there = set_is ys i a x there
+
+-- a lane that knows what its opening has found is done where it was
+same_done : (o : Option LaneData) (lane later : Lane) → later ≡ record lane { found = later.found } → is_lane_done o (Some later) ≡ is_lane_done o (Some lane)
+same_done None lane later same = refl
+same_done (Some terminal) lane later same = ap (λ (x : Lane). is_lane_done (Some terminal) (Some x)) same
+
+pub done_found : (terminals : List LaneData) (lanes : List Lane) (l : ℕ) (lane later : Lane) → slice_get lanes l ≡ Some lane
+    → later ≡ record lane { found = later.found } → (n : ℕ) → done_below terminals (set lanes l later) n ≡ done_below terminals lanes n
+done_found terminals lanes l lane later there same zero = refl
+done_found terminals lanes l lane later there same (suc m) =
+    (λ i. one i && done_found terminals lanes l lane later there same m i)
+  where
+    one : is_lane_done (slice_get terminals m) (slice_get (set lanes l later) m) ≡ is_lane_done (slice_get terminals m) (slice_get lanes m)
+    one = elim (cases_eq m l) [
+      | inl is ↦
+          ap (λ n. is_lane_done (slice_get terminals m) (slice_get (set lanes l later) n)) is
+          ∙ ap (λ (o : Option Lane). is_lane_done (slice_get terminals m) o) (set_is lanes l later lane there)
+          ∙ same_done (slice_get terminals m) lane later same
+          ∙ ap (λ (o : Option Lane). is_lane_done (slice_get terminals m) o) (sym there)
+          ∙ ap (λ n. is_lane_done (slice_get terminals m) (slice_get lanes n)) (sym is)
+      | inr other ↦ ap (λ (o : Option Lane). is_lane_done (slice_get terminals m) o) (set_other lanes l m later other)
+    ]
+
+-- and keeps to its rules
+pub fits_found : (lane later : Lane) → later ≡ record lane { found = later.found } → LaneFits lane → LaneFits later
+fits_found lane later same fits = subst LaneFits (sym same) (record { amounts = fits.amounts; waits = fits.waits })
