@@ -267,7 +267,7 @@ module _ (v : WorldSeen) (w : World) (stands : WorldStands v w) where
 
     -- a message is sent
     module _ (k l : ℕ) (message : List ℕ) (drops : Bool) (here : slice_get (settlements v.scenario w) k ≡ Some (Sends l message drops))
-        (some : 1 ≤ v.scenario.copies) (host : HostData) (messages : HostStands host (w.messages ++ message ∷ [])) where
+        (some : 1 ≤ v.scenario.copies) where
       abbrev sent_row : LaneRow
       sent_row = lane_settled message drops (lane_at w l)
 
@@ -284,10 +284,10 @@ module _ (v : WorldSeen) (w : World) (stands : WorldStands v w) where
           at_set (λ (i : ℕ) (r : LaneRow). (x : Lane) → slice_get v.lanes i ≡ Some x → LaneAt v.scenario i x r) w.lanes l sent_row new_lane own stands.lanes j
 
       -- one that a lane has captured
-      pub plain_goes : durable_of v.scenario l ≡ false → (lines : List Line)
+      pub plain_goes : (host : HostData) → HostStands host (w.messages ++ message ∷ []) → durable_of v.scenario l ≡ false → (lines : List Line)
           → lines ≡ settle_lines (dialect_of v.scenario l) l message (host_reply v.scenario.issuer v.scenario.accounts w.messages message)
           → Goes (record v { host = host }) w (Settle k) lines
-      plain_goes off lines made =
+      plain_goes host messages off lines made =
           step_goes [] k (Sends l message drops) here (record v { host = host }) lines refl
           (step_stands [] k (Sends l message drops) here v.lanes v.shelves host (rows_after lane_own) shelves_after messages) refl made
         where
@@ -384,10 +384,14 @@ module _ (v : WorldSeen) (w : World) (stands : WorldStands v w) where
             still None none = none
             still (Some n) is = refl
 
-        pub drains_goes : (behind : ShelfSeen) → ShelfOn behind (settled_store drops open_store) None → losses_of behind ≡ losses_of shelf → (lines : List Line)
+        -- what is known of the store before it
+        pub drain_facts : ShelfOn shelf open_store None × (slice_get open_store.list 0 ≡ Some message) × (0 < length open_store.list) × All IsMessage open_store.list
+        drain_facts = (on_to_settle, first_is, some_left, are_messages)
+
+        pub drains_goes : (host : HostData) → HostStands host (w.messages ++ message ∷ []) → (behind : ShelfSeen) → ShelfOn behind (settled_store drops open_store) None → losses_of behind ≡ losses_of shelf → (lines : List Line)
             → lines ≡ settle_lines (dialect_of v.scenario l) l message (host_reply v.scenario.issuer v.scenario.accounts w.messages message)
             → Goes (record v { shelves = set v.shelves l behind; host = host }) w (Settle k) lines
-        drains_goes behind is_on losses lines made =
+        drains_goes host messages behind is_on losses lines made =
             step_goes [] k (Sends l message drops) here (record v { shelves = set v.shelves l behind; host = host }) lines refl
             (step_stands [] k (Sends l message drops) here v.lanes (set v.shelves l behind) host (rows_after lane_own) shelves_after messages) refl made
           where
