@@ -96,4 +96,3 @@ returns-clause-stands g c =
     shelf_count (subst (λ (xs : List LaneData). AreNewStores xs c.take_stores.new.shelves.items) lanes c.take_stores.ensures.new)
     c.in-Ok.ensures.stands c.new-2.ensures in
     stands
-

@@ -86,8 +86,7 @@ open_to_settle-requires g c =
     let within : l < length w.lanes = settles_inside v.scenario w.lanes k (Opens l) here in
     let lane_there : slice_get v.lanes l ≡ Some c.index_mut.result.now = found_at v.lanes l c.index_mut.result.now (omega (arith, within, are.count)) c.index_mut.ensures.value in
     let shelf_there : slice_get v.shelves l ≡ Some c.index_mut-2.result.now =
-    found_at v.shelves l c.index_mut-2.result.now (omega (arith, within, are.count, c.self.invariant.0.lane_count, c.self.invariant.0.shelf_count)) c.index_mut-2.ensures.value in
-    (
+    found_at v.shelves l c.index_mut-2.result.now (omega (arith, within, are.count, c.self.invariant.0.lane_count, c.self.invariant.0.shelf_count)) c.index_mut-2.ensures.value in (
       (lane_at w l).store,
       off_to_settle v w seen over k l c.index_mut.result.now c.index_mut-2.result.now here some reached lane_there shelf_there,
     )
@@ -231,8 +230,7 @@ invariant_of-self g c =
     let off = off_to_settle v w seen over k l c.index_mut.result.now c.index_mut-2.result.now here some reached lane_there shelf_there in
     let opened = c.open_to_settle.ensures.opened (lane_at w l).store off in
     let goes = opens_goes v w seen over k l c.index_mut.result.now c.index_mut-2.result.now here some reached lane_there shelf_there
-    c.open_to_settle.new.lane c.open_to_settle.new.shelf opened.0 opened.1 opened.2 c.open_to_settle.ensures.losses c.open_to_settle.ensures.same in
-    (
+    c.open_to_settle.new.lane c.open_to_settle.new.shelf opened.0 opened.1 opened.2 c.open_to_settle.ensures.losses c.open_to_settle.ensures.same in (
       record {
         scenario = c.self.invariant.0.scenario;
         slot_count = c.self.invariant.0.slot_count;
@@ -401,8 +399,7 @@ invariant_of-self-2 g c =
     let made : c.send.new.lines.items ≡ settle_lines (dialect_of v.scenario l) l message (host_reply v.scenario.issuer v.scenario.accounts w.messages message) =
     c.in_ok-send-in-Sends.ensures.lines w.messages seen.messages
     ∙ (λ i. c.requires.empty i ++ settle_lines (c.dialect_at-iso.ensures i) l (sent i) (host_reply (c.self.invariant.0.keys i) (c.self.invariant.0.accounts i) w.messages (sent i))) in
-    let goes = plain_goes v w seen over k l message false plain.here some c.send.new.host stood plain.off c.send.new.lines.items made in
-    (
+    let goes = plain_goes v w seen over k l message false plain.here some c.send.new.host stood plain.off c.send.new.lines.items made in (
       record {
         scenario = c.self.invariant.0.scenario;
         slot_count = c.self.invariant.0.slot_count;
@@ -574,8 +571,7 @@ invariant_of-self-3 g c =
     let made : c.drain.new.lines.items ≡ settle_lines (dialect_of v.scenario l) l message (host_reply v.scenario.issuer v.scenario.accounts w.messages message) =
     told.0 ∙ (λ i. settle_lines (c.dialect_at-iso-in-Drains.ensures i) l message (host_reply (c.self.invariant.0.keys i) (c.self.invariant.0.accounts i) w.messages message)) in
     let goes = drains_goes v w seen over k l message c.in-Drains.drops stores.here some lane.0 c.index_mut-shelf.result.now stores.on reached lane.1 shelf_there c.drain.new.host told.1
-    c.drain.new.shelf (c.in_ok-drain-in-Drains.ensures.drained row before.0) c.drain.ensures.losses c.drain.new.lines.items made in
-    (
+    c.drain.new.shelf (c.in_ok-drain-in-Drains.ensures.drained row before.0) c.drain.ensures.losses c.drain.new.lines.items made in (
       record {
         scenario = c.self.invariant.0.scenario;
         slot_count = c.self.invariant.0.slot_count;
