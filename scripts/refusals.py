@@ -194,6 +194,13 @@ def key_hint(text, fault, path, place, is_trace):
     return said + (f": {meant}" if meant else "")
 
 
+def default_hint(text, places, table, key):
+    """The table of a key that is absent and whose value without it is refused."""
+    if not table:
+        return None
+    return f"{line_and_column(text, places[table])}: {as_text(table)} begins there, and has no {key}: the value without it isn't allowed"
+
+
 def path_hint(text, fault, path):
     """Where the key of a refused path stands, and what may be meant in its place; None where it can't be found."""
     places = Scanner(text).scan()
@@ -204,7 +211,10 @@ def path_hint(text, fault, path):
         table = by_text.get(outer)
         return None if table is None else missing_hint(text, places, table, key, keys_at(table, is_trace))
     found = by_text.get(path)
-    return key_hint(text, fault, found, places[found], is_trace) if found else None
+    if found:
+        return key_hint(text, fault, found, places[found], is_trace)
+    outer, _, key = path.rpartition(".")
+    return default_hint(text, places, by_text.get(outer), key)
 
 
 def hint(document, answer):
