@@ -88,7 +88,7 @@ pub(crate) fn give_stores<P: Pages>(shelves: Vec<Shelf<P>>, bank: Vec<P>) -> Vec
     requires few { vec_len shelves ≤ 16 }
     requires pages { vec_len bank + stores_in shelves.items ≡ 64 }
     requires capacity { 64 ≤ vec_capacity bank }
-    ensures given { (pages : List (Option Memory)) × StoresAreGiven shelves.entry.items pages
+    ensures given { (pages : List (Option Memory)) × StoresAreGiven shelves.items pages
         × (map P.memory result.items ≡ with_stores 0 pages (map P.memory bank.items)) }
     ensures length { vec_len result ≡ 64 }
 {

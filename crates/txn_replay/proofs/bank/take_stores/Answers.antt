@@ -2,7 +2,8 @@ use Rattle.std.proofs.Common.{◌≡◌, ℕ, ◌+◌, ◌-◌, ◌≤◌, ◌<�
 use Rattle.std.specs.Prelude.{is_some}
 use Rattle.std.specs.Vec.{vec_len}
 use Rattle.capture_store.specs.SeenShelf.{ShelfSeen}
-use Rattle.txn_replay.specs.Banked.{AreNewStores, stores_in}
+use Rattle.scenario_lanes.specs.Plan.{LaneData}
+use Rattle.txn_replay.specs.Banked.{IsNewStore, AreNewStores, stores_in}
 use Rattle.txn_replay.proofs.Banking.{one_new_store, stores_more, single, one_of, room_left}
 use Rattle.txn_replay.proofs.Lists.{found_at}
 use Rattle.txn_replay.proofs.bank.take_stores.Goals as goal
@@ -21,8 +22,8 @@ loop-index-init g c = record {
   capacity = refl;
 }
 
-pub take_store-requires-clause-place : goal.take_store-requires-clause-place
-take_store-requires-clause-place g c = λ durable.
+pub take_store-shelf-requires-clause-place : goal.take_store-shelf-requires-clause-place
+take_store-shelf-requires-clause-place g c = λ durable.
     omega (arith, c.loop-index.invariant.pages, c.loop-index.invariant.few, c.loop-index.invariant.lanes, c.loop-index-test.true)
 
 pub loop-index-preserved : goal.loop-index-preserved
@@ -33,11 +34,13 @@ loop-index-preserved g c =
     let count : stores_in c.push.new.self.items ≡ stores_in c.loop-index.shelves.items + cond (is_some c.take_store-shelf.result) 1 0 =
     ap (λ (xs : List ShelfSeen). stores_in xs) more ∙ stores_more c.loop-index.shelves.items c.take_store-shelf.result in
     let own : stores_in (c.take_store-shelf.result ∷ []) ≡ cond (is_some c.take_store-shelf.result) 1 0 = single c.take_store-shelf.result in
+    let durable : c.terminal.inside.durable ≡ lane.durable = ap (λ (x : LaneData). x.durable) c.terminal.view_is in
     let few : cond (is_some c.take_store-shelf.result) 1 0 ≤ 1 = one_of c.take_store-shelf.result in
     record {
       new = subst (λ (xs : List ShelfSeen). AreNewStores c.args.terminals.now xs) (sym more)
           (one_new_store c.args.terminals.now c.loop-index.shelves.items lane c.take_store-shelf.result c.loop-index.invariant.new
-          (ap (λ n. slice_get c.args.terminals.now n) (sym c.loop-index.shelves.ok.0 ∙ c.loop-index.invariant.count) ∙ here) c.take_store-shelf.ensures.new);
+          (ap (λ n. slice_get c.args.terminals.now n) (sym c.loop-index.shelves.ok.0 ∙ c.loop-index.invariant.count) ∙ here)
+          (subst (λ (b : Bool). IsNewStore c.take_store-shelf.result b) durable c.take_store-shelf.ensures.new));
       count = c.in-Ok.ensures.len ∙ ap (λ n. n + 1) c.loop-index.invariant.count;
       fits = omega (arith, c.loop-index.invariant.fits, c.push.ensures.capacity);
       lanes = c.loop-index.invariant.lanes;
@@ -45,7 +48,7 @@ loop-index-preserved g c =
       pages = omega (arith, c.loop-index.invariant.pages, c.take_store-shelf.ensures.length, count, own);
       few = omega (arith, c.loop-index.invariant.few, count, few);
       left = λ cards most room.
-          room_left cards c.loop-index.index _ _ (stores_in c.loop-index.shelves.items) c.take_store-shelf.result lane.durable c.take_store-shelf.ensures.some
+          room_left cards c.loop-index.index _ _ (stores_in c.loop-index.shelves.items) c.take_store-shelf.result lane.durable (c.take_store-shelf.ensures.some ∙ durable)
           c.loop-index.invariant.pages c.loop-index.invariant.few (omega (arith, c.loop-index-test.true, c.loop-index.invariant.lanes))
           (ap (λ n. vec_len c.take_store-shelf.new.bank + n) (sym own) ∙ c.take_store-shelf.ensures.length) (c.loop-index.invariant.left cards most room)
           (λ durable. room c.loop-index.index lane here durable);

@@ -51,7 +51,7 @@ returns-in-Told-clause-stands g c = λ issuer accounts replies row stands shelf_
     ap (λ (d : Deal). end_of d (dialogue d replies)) runs.1 ∙ one.1 in
     let card : c.end-ended.new.self.card ≡ end.card = c.end-ended.ensures.spent.card_is ∙ sym (c.end-ended.ensures.ends.card replies end runs.0 ends) in
     let capture : c.ended.inside.capture ≡ end.capture = ap (λ (x : EndShown). x.capture) c.ended.view_is ∙ ap (λ (x : EndShown). x.capture) (sym same) in
-    let amount : c.args.at.now.planned.now.purchase.amount ≡ c.amount_of-amount.result = sym c.amount_of-amount.ensures in
+    let amount : c.args.at.now.planned.now.purchase.amount ≡ c.amount_of.result = sym c.amount_of.ensures in
     let shelf = ending_shelf p row replies end c.args.shelf.now c.keep_capture.new.shelf c.keep_capture.result shelf_is c.requires.room
     (λ durable. subst (λ (o : Option (List ℕ)). IsStoredBy c.args.shelf.now c.keep_capture.new.shelf p.planned.terminal_tear o c.keep_capture.result) capture
     (c.keep_capture.ensures.stored durable)) c.keep_capture.ensures.told in
@@ -102,7 +102,6 @@ returns-in-Lost-clause-stands g c = λ issuer accounts replies row stands shelf_
     ap (λ (d : Deal). end_of d (dialogue d replies)) runs.1 ∙ one.1 in
     let card : c.end-ended.new.self.card ≡ end.card = c.end-ended.ensures.spent.card_is ∙ sym (c.end-ended.ensures.ends.card replies end runs.0 ends) in
     let capture : c.ended.inside.capture ≡ end.capture = ap (λ (x : EndShown). x.capture) c.ended.view_is ∙ ap (λ (x : EndShown). x.capture) (sym same) in
-    let amount : c.args.at.now.planned.now.purchase.amount ≡ c.amount_of-amount.result = sym c.amount_of-amount.ensures in
     let shelf = ending_shelf p row replies end c.args.shelf.now c.keep_capture.new.shelf c.keep_capture.result shelf_is c.requires.room
     (λ durable. subst (λ (o : Option (List ℕ)). IsStoredBy c.args.shelf.now c.keep_capture.new.shelf p.planned.terminal_tear o c.keep_capture.result) capture
     (c.keep_capture.ensures.stored durable)) c.keep_capture.ensures.told in
