@@ -10,6 +10,7 @@ use Rattle.kernel.specs.Reply.{Reply}
 use Rattle.terminal_state.specs.Terminal.{Deal}
 use Rattle.trace_check.specs.Dialogues.{entry_at, is_awaited, reply_in}
 use Rattle.trace_check.specs.Laws.{IsDialogue}
+use Rattle.trace_check.specs.Loop.{Taken}
 use Rattle.trace_check.specs.Texts.{entry_text}
 use Rattle.trace_check.specs.declared.entry.Entry.{Entry}
 use Rattle.terminal_at_reader.specs.declared.talk.Stop.{Stop}
@@ -51,6 +52,12 @@ pub record SoFar (deal : Deal) (kernel : KernelData) (first left before held : O
   pub talked : Talked deal replies entries
   pub taken : Consumes first left (heard entries)
   pub told : Appends before held (written entries)
+
+-- a line was read, and was a reply that the terminal awaits
+pub record Heard (old new : KernelData) (left now : Option (List ℕ)) : Type 0 where
+  pub entry : Entry
+  pub taken : Consumes left now (line_of entry)
+  pub took : (replies : List Reply) → KernelStands old replies → Taken (is_awaited (dialogue (deal_in old) replies).deed) new replies (reply_in entry) true
 
 -- the talk is a whole dialogue: its asks were written, and its replies read
 pub record IsWhole (deal : Deal) (first left before held : Option (List ℕ)) : Type 0 where

@@ -1,5 +1,5 @@
 //! What a terminal asks, as a line, and the replies that it takes.
-ghost use Rattle.std.specs.Prelude.{◌≡◌, ◌≢◌, ◌≤◌, ◌<◌, ◌++◌, ◌∷◌, [], false, List, option_map};
+ghost use Rattle.std.specs.Prelude.{◌≡◌, ◌≢◌, ◌≤◌, ◌<◌, ◌++◌, ◌∷◌, [], true, false, List, length, option_map};
 ghost use Rattle.kernel.specs.Dialogue.{dialogue};
 ghost use Rattle.kernel.specs.Kernel.{KernelStands, deal_in, next_of};
 ghost use Rattle.kernel.specs.Rank.{rank_of};

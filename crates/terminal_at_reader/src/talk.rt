@@ -1,5 +1,5 @@
 //! The talk of a terminal: it asks, and reads the reply, up to the end of the dialogue.
-ghost use Rattle.std.specs.Prelude.{◌≡◌, ◌≢◌, ◌++◌, ◌∷◌, [], List, ℕ, false, IfOk, OnOk, OnErr};
+ghost use Rattle.std.specs.Prelude.{◌≡◌, ◌≢◌, ◌<◌, ◌++◌, ◌∷◌, [], List, ℕ, false, IfOk, OnOk, OnErr};
 ghost use Rattle.std.specs.declared.option.Option.{Option};
 ghost use Rattle.std.specs.Io.KnownBytes.{Appends, Consumes};
 ghost use Rattle.emv_ports.specs.Growth.{AppendsFront};
@@ -7,7 +7,7 @@ ghost use Rattle.kernel.specs.Kernel.{KernelStands, deal_in, next_of};
 ghost use Rattle.kernel.specs.Rank.{rank_of};
 ghost use Rattle.kernel.specs.declared.kernel.Next.TheVariants as next;
 ghost use Rattle.terminal_state.specs.Terminal.{Deal};
-ghost use Rattle.terminal_at_reader.specs.Talk.{IsCut, IsWhole, SinkCount, SoFar, SourceCount, line_of};
+ghost use Rattle.terminal_at_reader.specs.Talk.{Heard, IsCut, IsWhole, SinkCount, SoFar, SourceCount, line_of};
 
 use crate::asking::{take, tell_ask, tell_end};
 use emv_ports::{Failed, Sink, Source, write_all};

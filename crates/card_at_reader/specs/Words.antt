@@ -1,0 +1,69 @@
+-- What a line asks of a card in a reader (this project's own).
+use Rattle.std.specs.Prelude.{ℕ, ◌+◌, ◌==◌, ◌||◌, nat_lt, if◌then◌else◌, List, [], ◌∷◌, length, take, drop, codes, Option, Some, None, option_map, option_and_then, Result, Ok, Err}
+use Rattle.std.specs.List.{position}
+use Rattle.std.specs.Str.{bytes_eq}
+use Rattle.emv_ports.specs.declared.tear.Tear.{Tear}
+use Rattle.emv_ports.specs.declared.tear.TearAt.{TearAt}
+use Rattle.emv_ports.specs.declared.tear.TearAt.TheVariants.{Before, Within, Release}
+use Rattle.hex.specs.Hex.{decode_of}
+use Rattle.hex.specs.declared.error.FromHexError.{FromHexError}
+use Rattle.reader_lines.specs.Given.{behind}
+use Rattle.reader_lines.specs.Numbers.{number_of}
+use Rattle.card_at_reader.specs.declared.word.Word.{Word}
+use Rattle.card_at_reader.specs.declared.word.Word.TheVariants.{Power, Off, Command, Pull, Other}
+
+-- what stands before the first blank and behind it
+abbrev pub halves_at : List ℕ → Option ℕ → Option (List ℕ × List ℕ)
+halves_at text None = None
+halves_at text (Some at) = Some (take at text, drop (at + 1) text)
+
+abbrev pub halves : List ℕ → Option (List ℕ × List ℕ)
+halves text = halves_at text (position (λ byte. byte == 32) text)
+
+-- the number of a write, from 1
+abbrev pub from_one : Option ℕ → Option ℕ
+from_one None = None
+from_one (Some n) = if n == 0 then None else Some n
+
+abbrev pub write_in : List ℕ → Option ℕ
+write_in digits = from_one (number_of 255 digits)
+
+abbrev pub if_behind : {A : Type 0} → Option (List ℕ) → (List ℕ → A) → A → A
+if_behind None found other = other
+if_behind (Some rest) found other = found rest
+
+-- the place in a commit
+abbrev pub place_in : List ℕ → Option TearAt
+place_in text =
+    if bytes_eq text (codes "release") then Some Release
+    else if_behind (behind (codes "before ") text) (λ digits. option_map Before (write_in digits))
+    (if_behind (behind (codes "within ") text) (λ digits. option_map Within (write_in digits)) None)
+
+abbrev pub tear_at : Option ℕ → Option TearAt → Option Tear
+tear_at None place = None
+tear_at (Some commit) None = None
+tear_at (Some commit) (Some at) = Some (record { commit = commit; at = at })
+
+abbrev pub tear_of : Option (List ℕ × List ℕ) → Option Tear
+tear_of None = None
+tear_of (Some both) = tear_at (number_of 255 both.0) (place_in both.1)
+
+-- `C before N`, `C within N` or `C release`
+unfoldable pub tear_in : List ℕ → Option Tear
+tear_in text = tear_of (halves text)
+
+abbrev pub pull_of : Option Tear → Word
+pull_of None = Other
+pull_of (Some tear) = Pull tear
+
+-- a command in hexadecimal, of 1 to 261 bytes
+abbrev pub command_of : Result (List ℕ) FromHexError → Word
+command_of (Err fault) = Other
+command_of (Ok bytes) = if length bytes == 0 || nat_lt 261 (length bytes) then Other else Command (record { items = bytes })
+
+-- what a line asks
+unfoldable pub word_of : List ℕ → Word
+word_of line =
+    if bytes_eq line (codes "power") then Power
+    else if bytes_eq line (codes "off") then Off
+    else if_behind (behind (codes "pull ") line) (λ text. pull_of (tear_in text)) (command_of (decode_of line))
