@@ -31,6 +31,9 @@ pub record At : Type 0 where
   pub plan : Option Tear
   pub next : Option Tear
 
+abbrev pub at_of : Side → Option Tear → Option Tear → At
+at_of side plan next = record { side = side; plan = plan; next = next }
+
 -- a card that has decided nothing yet
 abbrev pub new_card : At
 new_card = record { side = IsOff [] None; plan = None; next = None }

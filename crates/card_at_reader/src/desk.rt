@@ -11,7 +11,7 @@ ghost use Rattle.emv_ports.specs.declared.tear.Tear.{Tear as Plan};
 ghost use Rattle.report_text.specs.Text.{all_shown};
 ghost use Rattle.txn_replay.specs.Lines as lines;
 ghost use Rattle.card_at_reader.specs.Desk as spec;
-ghost use Rattle.card_at_reader.specs.Desk.{ArePlans, At, IsAsked, IsTurn, Stands};
+ghost use Rattle.card_at_reader.specs.Desk.{ArePlans, At, IsAsked, IsTurn, Side, SideStands, Stands, at_of};
 
 use crate::word::{Word, word_of};
 use apdu_core::Answer;
@@ -133,9 +133,9 @@ fn turn_on<P: Pages>(desk: &mut Desk<'_, P>, out: &mut Text)
 
 /// Turns a card off, where it is on.
 fn turn_off<P: Pages>(desk: &mut Desk<'_, P>)
-    requires stands { (at : At) × Stands desk.old.chip desk.old.plan desk.old.next at }
-    ensures stands { (at : At) → Stands desk.old.chip desk.old.plan desk.old.next at
-        → Stands desk.new.chip desk.new.plan desk.new.next (spec.turned_off at) }
+    requires stands { (side : Side) × SideStands desk.old.chip desk.old.plan side }
+    ensures stands { (side : Side) → SideStands desk.old.chip desk.old.plan side
+        → SideStands desk.new.chip desk.new.plan (spec.off_side side) }
     ensures off { IsChipOff desk.new.chip }
     ensures plans { (desk.new.plan ≡ desk.old.plan) × (desk.new.next ≡ desk.old.next) }
     ensures image { desk.new.chip.image ≡ desk.old.chip.image }
@@ -173,8 +173,8 @@ fn command_on<P: Pages>(desk: &mut Desk<'_, P>, command: &[u8], out: &mut Text)
 /// Gives a card a command.
 fn give<P: Pages>(desk: &mut Desk<'_, P>, command: &[u8], out: &mut Text)
     requires plans { ArePlans desk.old.plan desk.old.next }
-    ensures turn { (at : At) → Stands desk.old.chip desk.old.plan desk.old.next at
-        → IsTurn desk.new.chip desk.new.plan desk.new.next out.new.items (spec.command_turn desk.old.chip.image at command.now at.side) }
+    ensures turn { (side : Side) → SideStands desk.old.chip desk.old.plan side
+        → IsTurn desk.new.chip desk.new.plan desk.new.next out.new.items (spec.command_turn desk.old.chip.image (at_of side desk.old.plan desk.old.next) command.now side) }
     ensures plans { ArePlans desk.new.plan desk.new.next }
     ensures image { desk.new.chip.image ≡ desk.old.chip.image }
 {
@@ -190,8 +190,8 @@ fn plan_tear<P: Pages>(desk: &mut Desk<'_, P>, tear: Tear, line: &[u8], out: &mu
     requires plans { ArePlans desk.old.plan desk.old.next }
     requires tear { IsTrue (is_plan (Some tear)) }
     requires short { length line.now ≤ 8191 }
-    ensures turn { (at : At) → Stands desk.old.chip desk.old.plan desk.old.next at
-        → IsTurn desk.new.chip desk.new.plan desk.new.next out.new.items (spec.pull_turn at line.now tear) }
+    ensures turn { (side : Side) → SideStands desk.old.chip desk.old.plan side
+        → IsTurn desk.new.chip desk.new.plan desk.new.next out.new.items (spec.pull_turn (at_of side desk.old.plan desk.old.next) line.now tear) }
     ensures plans { ArePlans desk.new.plan desk.new.next }
     ensures image { desk.new.chip.image ≡ desk.old.chip.image }
 {
@@ -202,11 +202,11 @@ fn plan_tear<P: Pages>(desk: &mut Desk<'_, P>, tear: Tear, line: &[u8], out: &mu
 
 /// Turns a card off, where it is on, and on.
 fn power<P: Pages>(desk: &mut Desk<'_, P>, out: &mut Text)
-    requires stands { (at : At) × Stands desk.old.chip desk.old.plan desk.old.next at }
+    requires stands { (side : Side) × SideStands desk.old.chip desk.old.plan side }
     requires plans { ArePlans desk.old.plan desk.old.next }
-    ensures turn { (at : At) → Stands desk.old.chip desk.old.plan desk.old.next at
+    ensures turn { (side : Side) → SideStands desk.old.chip desk.old.plan side
         → (with_it : Bool) × IsTurn desk.new.chip desk.new.plan desk.new.next out.new.items
-        (spec.power_turn desk.old.chip.image with_it (spec.plan_of at.plan at.next) at.side) }
+        (spec.power_turn desk.old.chip.image with_it (spec.plan_of desk.old.plan desk.old.next) side) }
     ensures plans { ArePlans desk.new.plan desk.new.next }
     ensures image { desk.new.chip.image ≡ desk.old.chip.image }
 {
@@ -216,13 +216,13 @@ fn power<P: Pages>(desk: &mut Desk<'_, P>, out: &mut Text)
 
 /// Answers what a line asks.
 fn answer_word<P: Pages>(desk: &mut Desk<'_, P>, word: Word, line: &[u8], out: &mut Text)
-    requires stands { (at : At) × Stands desk.old.chip desk.old.plan desk.old.next at }
+    requires stands { (side : Side) × SideStands desk.old.chip desk.old.plan side }
     requires plans { ArePlans desk.old.plan desk.old.next }
     requires tear { IsAsked word }
     requires short { length line.now ≤ 8191 }
-    ensures turn { (at : At) → Stands desk.old.chip desk.old.plan desk.old.next at
+    ensures turn { (side : Side) → SideStands desk.old.chip desk.old.plan side
         → (with_it : Bool) × IsTurn desk.new.chip desk.new.plan desk.new.next out.new.items
-        (spec.turn_by desk.old.chip.image with_it at line.now word) }
+        (spec.turn_by desk.old.chip.image with_it (at_of side desk.old.plan desk.old.next) line.now word) }
     ensures plans { ArePlans desk.new.plan desk.new.next }
     ensures image { desk.new.chip.image ≡ desk.old.chip.image }
 {

@@ -119,7 +119,7 @@ pub fn attend<P: Pages, S: Source, K: Sink>(
     ensures source { SourceCount (S.faults source.old) (S.faults source.new) result }
     ensures sink { SinkCount (K.faults sink.old) (K.faults sink.new) result }
 {
-    for _ in 0..u64::MAX {
+    for _line in 0..u64::MAX {
         match exchange(alloc, desk, source, sink) {
             Ok(true) => {}
             Ok(false) => return Ok(()),

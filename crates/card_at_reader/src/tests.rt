@@ -114,7 +114,7 @@ fn a_card_answers_by_its_session(rt: HostRuntime) -> Result<(), Fail> {
 
 /// The card is pulled out while it checks the PIN, behind a power-up that isn't cut, and again as it is powered up.
 const PULLED: &str = "\
-pull 2 within 2
+pull 3 within 2
 power
 power
 00a4040007a000000003101000
@@ -129,7 +129,7 @@ power
 ";
 
 const PULLED_ANSWERS: &str = "\
-pull 2 within 2
+pull 3 within 2
 power 10,9,0,0,3,0
 power 10,9,0,0,3,0
 < 6f168407a0000000031010a50b50064352454449548701019000
