@@ -99,18 +99,19 @@ class Daemon:
         listening.close()
 
     def become(self, listening, readers):
-        """In the child: the daemon takes the socket as its third file. As an ordinary user it leaves the system's own
-        file of its number alone."""
+        """In the child: the daemon takes the socket as its file 3. It writes into /run/pcscd, and as root it would
+        remove another daemon's files there: so root has a /run of its own for it."""
         try:
             os.dup2(self.log.fileno(), 1)
             os.dup2(self.log.fileno(), 2)
             os.dup2(listening.fileno(), 3)
             os.set_inheritable(3, True)
             os.environ.update(LISTEN_FDS="1", LISTEN_PID=str(os.getpid()))
+            daemon = [DAEMON, "-f", "-c", str(readers)]
             if os.getuid() == 0:
-                os.setgid(65534)
-                os.setuid(65534)
-            os.execv(DAEMON, [DAEMON, "-f", "-c", str(readers)])
+                own = "mount -t tmpfs tmpfs /run && exec \"$@\""
+                os.execvp("unshare", ["unshare", "-m", "sh", "-c", own, "sh", *daemon])
+            os.execv(DAEMON, daemon)
         finally:
             os._exit(127)
 

@@ -140,9 +140,10 @@ fn turn_off<P: Pages>(desk: &mut Desk<'_, P>)
     ensures plans { (desk.new.plan ≡ desk.old.plan) × (desk.new.next ≡ desk.old.next) }
     ensures image { desk.new.chip.image ≡ desk.old.chip.image }
 {
-    if desk.chip.is_on() {
-        desk.chip.power_off();
+    if !desk.chip.is_on() {
+        return;
     }
+    desk.chip.power_off();
 }
 
 /// Gives a command to a card that is on.
@@ -178,11 +179,10 @@ fn give<P: Pages>(desk: &mut Desk<'_, P>, command: &[u8], out: &mut Text)
     ensures plans { ArePlans desk.new.plan desk.new.next }
     ensures image { desk.new.chip.image ≡ desk.old.chip.image }
 {
-    if desk.chip.is_on() {
-        command_on(desk, command, out);
-    } else {
-        tell(out, b"?\n");
+    if !desk.chip.is_on() {
+        return tell(out, b"?\n");
     }
+    command_on(desk, command, out);
 }
 
 /// Plans a tear for the next power-up, and says the line again.

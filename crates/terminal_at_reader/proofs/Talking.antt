@@ -8,18 +8,23 @@ use Rattle.emv_dict.specs.declared.ending.Ending.{Ending}
 use Rattle.emv_ports.proofs.Growth.{Appends-more, AppendsFront-first, AppendsFront-second}
 use Rattle.emv_ports.specs.Growth.{AppendsFront}
 use Rattle.kernel.specs.Dialogue.{dialogue}
-use Rattle.kernel.specs.Kernel.{KernelData, KernelStands, deal_in, deed_next}
+use Rattle.kernel.specs.Kernel.{KernelData, KernelStands, deal_in, deed_bytes, deed_next}
 use Rattle.kernel.specs.Reply.{Reply, Deed}
 use Rattle.kernel.specs.Reply as said
+use Rattle.kernel.specs.Ended.{end_by}
+use Rattle.kernel.specs.Shown.{EndShown, shown}
+use Rattle.std.specs.Prelude.{option_map}
 use Rattle.kernel.specs.declared.kernel.Next.TheVariants as next
 use Rattle.terminal_state.specs.Marks.{Mark}
 use Rattle.terminal_state.specs.Terminal.{Deal}
 use Rattle.trace_check.proofs.Closing.{heard_more}
 use Rattle.trace_check.proofs.Lawful.{heard_in, is_ending}
-use Rattle.trace_check.specs.Dialogues.{entry_at, entry_of_deed, is_awaited, reply_in}
+use Rattle.trace_check.proofs.Left.{asks_card, asks_host, ends_so}
+use Rattle.trace_check.specs.Dialogues.{end_text, entry_at, entry_of_deed, is_awaited, reply_in}
 use Rattle.trace_check.specs.Laws.{IsDialogue, over, answered}
 use Rattle.trace_check.specs.Loop.{Taken}
 use Rattle.trace_check.specs.declared.entry.Entry.{Entry}
+use Rattle.trace_check.specs.declared.entry.Entry.TheVariants.{ToCard, ToHost, End}
 use Rattle.terminal_at_reader.specs.Talk.{line_of, written_by, heard_by, written, heard, Talked, begins, goes, SoFar, Heard, IsWhole, IsCut}
 
 -- what a dialogue does next is written
@@ -30,6 +35,19 @@ deed_written deal marks (said.Over ending) = refl
 
 asked_written : (deal : Deal) (replies : List Reply) → reply_in (entry_at deal (dialogue deal replies)) ≡ None
 asked_written deal replies = deed_written deal (dialogue deal replies).marks (dialogue deal replies).deed
+
+-- the line of what a terminal asks, or ends with
+pub told_card : (deal : Deal) (marks : List Mark) (deed : Deed) (bytes : List ℕ) → next.ToCard ≡ deed_next deed → bytes ≡ deed_bytes deed
+    → line_of (ToCard bytes) ≡ line_of (entry_of_deed deal marks deed)
+told_card deal marks deed bytes waits is = ap line_of (sym (asks_card deal marks deed bytes waits is))
+
+pub told_host : (deal : Deal) (marks : List Mark) (deed : Deed) (bytes : List ℕ) → next.ToHost ≡ deed_next deed → bytes ≡ deed_bytes deed
+    → line_of (ToHost bytes) ≡ line_of (entry_of_deed deal marks deed)
+told_host deal marks deed bytes waits is = ap line_of (sym (asks_host deal marks deed bytes waits is))
+
+pub told_end : (deal : Deal) (marks : List Mark) (deed : Deed) (end : EndShown) → option_map shown (end_by deal marks deed) ≡ Some end
+    → line_of (End (end_text end)) ≡ line_of (entry_of_deed deal marks deed)
+told_end deal marks deed end is = ap line_of (sym (ends_so deal marks deed end is))
 
 -- the lines of two lists of entries
 written_both : (a b : List Entry) → written (a ++ b) ≡ written a ++ written b
@@ -92,6 +110,9 @@ module _ (deal : Deal) (kernel : KernelData) (first left before held : Option (L
 
   ask_none : reply_in ask_now ≡ None
   ask_none = asked_written deal far.replies
+
+  pub asked_text : (text : List ℕ) → text ≡ line_of (entry_at (deal_in kernel) (dialogue (deal_in kernel) far.replies)) → text ≡ line_of ask_now
+  asked_text text is = is ∙ ap (λ (d : Deal). line_of (entry_at d (dialogue d far.replies))) far.deal_is
 
   pub cut_in : (now : Option (List ℕ)) → AppendsFront held now (line_of ask_now) → IsCut deal before now
   cut_in now front =

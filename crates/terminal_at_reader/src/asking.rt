@@ -72,7 +72,7 @@ fn write_end(end: EndRecord, out: &mut Text)
 pub fn tell_end(kernel: &mut Kernel<'_>, out: &mut Text)
     requires over { next_of kernel.old ≡ next.Ended }
     requires fresh { kernel.old.is_spent ≡ false }
-    ensures told { (replies : List Reply) → KernelStands kernel.old replies
+    ensures { (replies : List Reply) → KernelStands kernel.old replies
         → out.new.items ≡ line_of (entry_at (deal_in kernel.old) (dialogue (deal_in kernel.old) replies)) }
 {
     let end = kernel.end(&mut Tally::new());
@@ -94,7 +94,7 @@ fn write_bytes(mark: &[u8], bytes: &[u8], out: &mut Text)
 /// The line of what a dialogue asks that is not over.
 pub fn tell_ask(kernel: &Kernel<'_>, out: &mut Text)
     requires { next_of kernel.now ≢ next.Ended }
-    ensures told { (replies : List Reply) → KernelStands kernel.now replies
+    ensures { (replies : List Reply) → KernelStands kernel.now replies
         → out.new.items ≡ line_of (entry_at (deal_in kernel.now) (dialogue (deal_in kernel.now) replies)) }
 {
     match kernel.next() {

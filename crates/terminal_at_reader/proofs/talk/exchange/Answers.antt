@@ -1,0 +1,27 @@
+use Rattle.std.proofs.Common.{List, ℕ, sym, subst, ◌∙◌}
+use Rattle.std.proofs.lemmas.Result.{on_ok_weaker, on_err_weaker}
+use Rattle.std.specs.Io.KnownBytes.{Appends}
+use Rattle.emv_ports.specs.Growth.{AppendsFront}
+use Rattle.terminal_at_reader.specs.Talk.{SoFar}
+use Rattle.terminal_at_reader.proofs.Talking.{asked_text, cut_in, cut_behind, goes_on}
+use Rattle.terminal_at_reader.proofs.talk.exchange.Goals as goal
+
+pub returns-in-Ok-clause-ok : goal.returns-in-Ok-clause-ok
+returns-in-Ok-clause-ok g c =
+    on_ok_weaker c.hear_reply.result
+    (λ heard. λ deal first before far.
+    goes_on deal c.args.kernel.now first (g.S.Source.left c.args.source.now) before (g.K.Sink.held c.args.sink.now) far c.hear_reply.new.kernel
+    (g.S.Source.left c.hear_reply.new.source) (g.K.Sink.held c.put.new.sink)
+    (subst (λ (t : List ℕ). Appends (g.K.Sink.held c.args.sink.now) (g.K.Sink.held c.put.new.sink) t)
+    (c.as_slice.ensures.value ∙ asked_text deal c.args.kernel.now _ _ _ _ far _ (c.tell_ask.ensures far.replies far.stands)) c.in-Ok.ensures.all)
+    c.hear_reply.ensures.deal heard)
+    c.hear_reply.ensures.heard
+
+pub returns-in-Ok-clause-cut : goal.returns-in-Ok-clause-cut
+returns-in-Ok-clause-cut g c = ?
+
+pub returns-in-Err-clause-cut : goal.returns-in-Err-clause-cut
+returns-in-Err-clause-cut g c = λ deal first before far.
+    cut_in deal c.args.kernel.now first (g.S.Source.left c.args.source.now) before (g.K.Sink.held c.args.sink.now) far (g.K.Sink.held c.put.new.sink)
+    (subst (λ (t : List ℕ). AppendsFront (g.K.Sink.held c.args.sink.now) (g.K.Sink.held c.put.new.sink) t)
+    (c.as_slice.ensures.value ∙ asked_text deal c.args.kernel.now _ _ _ _ far _ (c.tell_ask.ensures far.replies far.stands)) c.in-Err.ensures.front)
