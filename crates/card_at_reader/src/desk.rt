@@ -146,6 +146,16 @@ fn turn_off<P: Pages>(desk: &mut Desk<'_, P>)
     desk.chip.power_off();
 }
 
+/// The line of an answer.
+fn tell_answer(answer: &[u8], out: &mut Text)
+    requires { length answer.now ≤ 258 }
+    ensures { out.new.items ≡ spec.answer_text answer.now }
+{
+    tell(out, b"< ");
+    hex_or_dash(out, answer);
+    append(out, b"\n");
+}
+
 /// Gives a command to a card that is on.
 fn command_on<P: Pages>(desk: &mut Desk<'_, P>, command: &[u8], out: &mut Text)
     requires on { has_power desk.old.chip ≡ true }
@@ -159,11 +169,7 @@ fn command_on<P: Pages>(desk: &mut Desk<'_, P>, command: &[u8], out: &mut Text)
 {
     let mut answer = Answer::new();
     match desk.chip.process(command, &mut answer) {
-        Ok(()) => {
-            tell(out, b"< ");
-            hex_or_dash(out, answer.as_slice());
-            append(out, b"\n");
-        }
+        Ok(()) => tell_answer(answer.as_slice(), out),
         Err(Gone) => {
             desk.plan = None;
             tell(out, b"< torn\n");

@@ -1,11 +1,11 @@
 -- How a talk goes on, and how it ends.
-use Rattle.std.proofs.Common.{◌≡◌, ℕ, Bool, true, false, List, [], ◌∷◌, ◌++◌, Option, Some, None, refl, sym, ap, subst, ◌∙◌, append_assoc}
-use Rattle.std.proofs.KnownBytes.{Consumes-trans}
+use Rattle.std.proofs.Common.{◌≡◌, ℕ, Bool, true, false, List, [], ◌∷◌, ◌++◌, Option, Some, None, Result, Ok, Err, OnErr, refl, sym, ap, subst, ◌∙◌, append_assoc}
+use Rattle.std.proofs.KnownBytes.{Consumes-nil, Consumes-trans}
 use Rattle.std.proofs.lemmas.List.{append-nil}
 use Rattle.std.specs.List.{flat_map}
 use Rattle.std.specs.Io.KnownBytes.{Appends, Consumes}
 use Rattle.emv_dict.specs.declared.ending.Ending.{Ending}
-use Rattle.emv_ports.proofs.Growth.{Appends-more, AppendsFront-first, AppendsFront-second}
+use Rattle.emv_ports.proofs.Growth.{Appends-none, Appends-more, AppendsFront-first, AppendsFront-second}
 use Rattle.emv_ports.specs.Growth.{AppendsFront}
 use Rattle.kernel.specs.Dialogue.{dialogue}
 use Rattle.kernel.specs.Kernel.{KernelData, KernelStands, deal_in, deed_bytes, deed_next}
@@ -18,13 +18,17 @@ use Rattle.kernel.specs.declared.kernel.Next.TheVariants as next
 use Rattle.terminal_state.specs.Marks.{Mark}
 use Rattle.terminal_state.specs.Terminal.{Deal}
 use Rattle.trace_check.proofs.Closing.{heard_more}
-use Rattle.trace_check.proofs.Lawful.{heard_in, is_ending}
+use Rattle.trace_check.proofs.Lawful.{heard_in, is_ending, same_is_dialogue}
 use Rattle.trace_check.proofs.Left.{asks_card, asks_host, ends_so}
 use Rattle.trace_check.specs.Dialogues.{end_text, entry_at, entry_of_deed, is_awaited, reply_in}
 use Rattle.trace_check.specs.Laws.{IsDialogue, over, answered}
 use Rattle.trace_check.specs.Loop.{Taken}
 use Rattle.trace_check.specs.declared.entry.Entry.{Entry}
 use Rattle.trace_check.specs.declared.entry.Entry.TheVariants.{ToCard, ToHost, End}
+use Rattle.scenario_lanes.specs.Plan.{LaneData}
+use Rattle.scenario_lanes.specs.declared.plan.Planned.{Planned}
+use Rattle.trace_check.specs.Verdicts.{verdict_on}
+use Rattle.terminal_at_reader.specs.Top.{IsTraced}
 use Rattle.terminal_at_reader.specs.Talk.{line_of, written_by, heard_by, written, heard, Talked, begins, goes, SoFar, Heard, IsWhole, IsCut}
 
 -- what a dialogue does next is written
@@ -48,6 +52,16 @@ told_host deal marks deed bytes waits is = ap line_of (sym (asks_host deal marks
 pub told_end : (deal : Deal) (marks : List Mark) (deed : Deed) (end : EndShown) → option_map shown (end_by deal marks deed) ≡ Some end
     → line_of (End (end_text end)) ≡ line_of (entry_of_deed deal marks deed)
 told_end deal marks deed end is = ap line_of (sym (ends_so deal marks deed end is))
+
+pub told_over : (deal : Deal) (marks : List Mark) (deed : Deed) (end : EndShown) → option_map shown (end_by deal marks deed) ≡ Some end → deed_next deed ≡ next.Ended
+told_over deal marks (said.ToCard command) end is = absurd (cc is)
+told_over deal marks (said.ToHost message) end is = absurd (cc is)
+told_over deal marks (said.Over ending) end is = refl
+
+-- what holds whether a call fails or not
+pub on_err_any : (T E : Type 0) (result : Result T E) (P : Type 0) → P → OnErr result P
+on_err_any T E (Ok value) P p = tt
+on_err_any T E (Err fault) P p = p
 
 -- the lines of two lists of entries
 written_both : (a b : List Entry) → written (a ++ b) ≡ written a ++ written b
@@ -105,7 +119,7 @@ module _ (deal : Deal) where
 
 -- the text of a talk that is cut in what it asks next, or behind it
 module _ (deal : Deal) (kernel : KernelData) (first left before held : Option (List ℕ)) (far : SoFar deal kernel first left before held) where
-  ask_now : Entry
+  abbrev pub ask_now : Entry
   ask_now = entry_at deal (dialogue deal far.replies)
 
   ask_none : reply_in ask_now ≡ None
@@ -164,6 +178,9 @@ module _ (deal : Deal) (kernel : KernelData) (first left before held : Option (L
   over_of (said.ToHost message) is = absurd (cc is)
   over_of (said.Over ending) is = (ending, refl)
 
+  pub over_now : deed_next (dialogue (deal_in kernel) far.replies).deed ≡ next.Ended → deed_next (dialogue deal far.replies).deed ≡ next.Ended
+  over_now is = subst (λ (d : Deal). deed_next (dialogue d far.replies).deed ≡ next.Ended) far.deal_is is
+
   pub ends : (now : Option (List ℕ)) → deed_next (dialogue deal far.replies).deed ≡ next.Ended → Appends held now (line_of ask_now) → IsWhole deal first left before now
   ends now ended all =
       let found = over_of (dialogue deal far.replies).deed ended in
@@ -180,3 +197,28 @@ module _ (deal : Deal) (kernel : KernelData) (first left before held : Option (L
             ∙ ap (λ (t : List ℕ). written far.entries ++ t) (written_ask ask_now [] ask_none ∙ append-nil (line_of ask_now))))
             (Appends-more before held now (written far.entries) (line_of ask_now) far.told all);
       }
+
+-- nothing was said yet
+pub begun : (kernel : KernelData) (left held : Option (List ℕ)) → KernelStands kernel [] → SoFar (deal_in kernel) kernel left left held held
+begun kernel left held stands = record {
+  replies = [];
+  entries = [];
+  stands = stands;
+  deal_is = refl;
+  talked = begins;
+  taken = Consumes-nil left;
+  told = Appends-none held;
+}
+
+-- a whole dialogue of a terminal is a trace that is the same
+pub traced : (lane : LaneData) (deal : Deal) (planned : Planned) (first left before held : Option (List ℕ)) → lane.purchases ≡ planned ∷ []
+    → deal ≡ record { settings = lane.settings; purchase = planned.purchase } → IsWhole deal first left before held → IsTraced lane first left before held
+traced lane deal planned first left before held one same whole = record {
+  entries = whole.entries;
+  same =
+      ap (λ (ps : List Planned). verdict_on lane.settings ps whole.entries) one
+      ∙ (same_is_dialogue (record { settings = lane.settings; purchase = planned.purchase }) whole.entries).1
+      (subst (λ (d : Deal). IsDialogue d [] whole.entries) same whole.dialogue_is);
+  taken = whole.taken;
+  told = whole.told;
+}

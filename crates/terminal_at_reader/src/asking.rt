@@ -1,7 +1,7 @@
 //! What a terminal asks, as a line, and the replies that it takes.
 ghost use Rattle.std.specs.Prelude.{◌≡◌, ◌≢◌, ◌≤◌, ◌<◌, ◌++◌, ◌∷◌, [], true, false, List, length, option_map};
 ghost use Rattle.kernel.specs.Dialogue.{dialogue};
-ghost use Rattle.kernel.specs.Kernel.{KernelStands, deal_in, next_of};
+ghost use Rattle.kernel.specs.Kernel.{KernelStands, deal_in, deed_next, next_of};
 ghost use Rattle.kernel.specs.Rank.{rank_of};
 ghost use Rattle.kernel.specs.Reply.{Reply};
 ghost use Rattle.kernel.specs.declared.kernel.Next.TheVariants as next;
@@ -72,8 +72,10 @@ fn write_end(end: EndRecord, out: &mut Text)
 pub fn tell_end(kernel: &mut Kernel<'_>, out: &mut Text)
     requires over { next_of kernel.old ≡ next.Ended }
     requires fresh { kernel.old.is_spent ≡ false }
-    ensures { (replies : List Reply) → KernelStands kernel.old replies
+    ensures told { (replies : List Reply) → KernelStands kernel.old replies
         → out.new.items ≡ line_of (entry_at (deal_in kernel.old) (dialogue (deal_in kernel.old) replies)) }
+    ensures over { (replies : List Reply) → KernelStands kernel.old replies
+        → deed_next (dialogue (deal_in kernel.old) replies).deed ≡ next.Ended }
 {
     let end = kernel.end(&mut Tally::new());
     write_end(end, out);

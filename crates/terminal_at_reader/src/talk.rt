@@ -36,6 +36,7 @@ fn put<K: Sink>(sink: &mut K, text: &[u8]) -> Result<(), Stop>
     ensures all { OnOk result (Appends (K.held sink.old) (K.held sink.new) text.now) }
     ensures front { OnErr result (AppendsFront (K.held sink.old) (K.held sink.new) text.now) }
     ensures count { SinkCount (K.faults sink.old) (K.faults sink.new) result }
+    ensures source { (count : ℕ) → SourceCount count count result }
 {
     match write_all(sink, text) {
         Ok(()) => Ok(()),

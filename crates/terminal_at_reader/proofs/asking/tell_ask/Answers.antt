@@ -13,5 +13,5 @@ returns-in-ToCard c replies stands =
 pub returns-in-ToHost : goal.returns-in-ToHost
 returns-in-ToHost c replies stands =
     let at = dialogue (deal_in c.args.kernel.now) replies in
-    c.write_bytes.ensures
-    ∙ told_host (deal_in c.args.kernel.now) at.marks at.deed _ (sym c.in-ToHost.is ∙ c.next.ensures.told replies stands) (c.bytes.ensures.told replies stands)
+    c.write_bytes-in-ToHost.ensures
+    ∙ told_host (deal_in c.args.kernel.now) at.marks at.deed _ (sym c.in-ToHost.is ∙ c.next.ensures.told replies stands) (c.bytes-in-ToHost.ensures.told replies stands)
