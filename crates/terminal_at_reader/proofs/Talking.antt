@@ -1,5 +1,5 @@
 -- How a talk goes on, and how it ends.
-use Rattle.std.proofs.Common.{◌≡◌, ℕ, Bool, true, false, List, [], ◌∷◌, ◌++◌, Option, Some, None, Result, Ok, Err, OnErr, refl, sym, ap, subst, ◌∙◌, append_assoc}
+use Rattle.std.proofs.Common.{◌≡◌, ℕ, Bool, true, false, List, [], ◌∷◌, ◌++◌, Option, Some, None, Result, Ok, Err, OnErr, refl, sym, ap, subst, ◌∙◌, append_assoc, length, slice_index_or, arith}
 use Rattle.std.proofs.KnownBytes.{Consumes-nil, Consumes-trans}
 use Rattle.std.proofs.lemmas.List.{append-nil}
 use Rattle.std.specs.List.{flat_map}
@@ -222,3 +222,9 @@ traced lane deal planned first left before held one same whole = record {
   taken = whole.taken;
   told = whole.told;
 }
+
+-- the only purchase is the first
+pub one_of : (planned : List Planned) (first : Planned) → length planned ≡ 1 → first ≡ slice_index_or planned 0 first → planned ≡ first ∷ []
+one_of [] first one is = absurd (omega arith)
+one_of (a ∷ []) first one is = ap (λ (p : Planned). p ∷ []) (sym is)
+one_of (a ∷ b ∷ more) first one is = absurd (omega arith)

@@ -1,13 +1,18 @@
-use Rattle.std.proofs.Common.{rules, ◌≡◌, ◌≢◌, ◌≤◌, ◌⊎◌, ◌++◌, ◌∷◌, [], List, ℕ, codes, length, Some, Ok, Err, ◌+◌, ◌-◌, ◌*◌, ◌<◌, ◌/◌, ◌%◌, Bool, true, false, nat_eq, nat_lt, slice_index_or, slice_set, bit_and, bit_or, Fits, w8, w32, w64, Bor, MutBor}
-use Rattle.std.specs.Io.KnownBytes.{Appends}
-use Rattle.emv_ports.specs.Causes.{Rose}
-use Rattle.scenario_lanes.specs.Plan.{IsLane, LaneData}
-use Rattle.scenario_fields.specs.Line.{refused_line}
-use Rattle.scenario_fields.specs.declared.fault.ScenarioFault.{ScenarioFault as FaultRow}
-use Rattle.terminal_at_reader.specs.Document.{IsReading}
-use Rattle.terminal_at_reader.specs.Top.{IsHeld, IsOdd, IsRefused, IsTraced}
+use Rattle.std.proofs.Common.{◌≡◌, ℕ, List, [], ◌∷◌, length, sym, subst}
+use Rattle.kernel.specs.Kernel.{deal_in}
+use Rattle.scenario_lanes.specs.Plan.{LaneData}
+use Rattle.scenario_lanes.specs.declared.plan.Planned.{Planned}
+use Rattle.terminal_at_reader.proofs.Talking.{one_of, traced}
+use Rattle.terminal_at_reader.specs.Top.{IsTraced}
 use Rattle.terminal_at_reader.proofs.top.hold.Goals as goal
 
--- src/top.rt:50:1
 pub returns-in-Ok-clause-done : goal.returns-in-Ok-clause-done
-returns-in-Ok-clause-done g c = ?
+returns-in-Ok-clause-done g c = λ zero.
+    let seen : LaneData = record { settings = c.lane.inside.settings; purchases = c.lane.inside.purchases.items; iso = c.lane.inside.iso } in
+    let same : seen ≡ c.args.lane.now = cc c.lane.view_is in
+    let single : length seen.purchases ≡ 1 = subst (λ (lane : LaneData). length lane.purchases ≡ 1) (sym same) c.requires.one in
+    let one : seen.purchases ≡ c.index-planned.result.now ∷ [] = one_of seen.purchases c.index-planned.result.now single c.index-planned.ensures in
+    subst (λ (lane : LaneData).
+    IsTraced lane (g.S.Source.left c.args.source.now) (g.S.Source.left c.converse.new.source) (g.K.Sink.held c.args.sink.now) (g.K.Sink.held c.converse.new.sink)) same
+    (traced seen (deal_in c.begin-kernel.result) c.index-planned.result.now (g.S.Source.left c.args.source.now) (g.S.Source.left c.converse.new.source)
+    (g.K.Sink.held c.args.sink.now) (g.K.Sink.held c.converse.new.sink) one c.begin-kernel.ensures.deal_is c.in-Ok.ensures.ok)
