@@ -108,5 +108,5 @@ turn_at old new image plan next plan_new next_new text line turns at stands =
     let found = turns at.side stands.side in (
       found.0,
       subst (λ (a : At). IsTurn new plan_new next_new text (turn image found.0 a line))
-      (ap (λ (p : Option Tear). at_of at.side p next) (sym stands.plan_is) ∙ ap (λ (n : Option Tear). at_of at.side at.plan n) (sym stands.next_is)) found.1,
+          (ap (λ (p : Option Tear). at_of at.side p next) (sym stands.plan_is) ∙ ap (λ (n : Option Tear). at_of at.side at.plan n) (sym stands.next_is)) found.1,
     )

@@ -44,7 +44,18 @@ fn numbers_are_digits(rt: HostRuntime) -> Result<(), Fail> {
     assert_eq!(rt; number_of(255, b"0"), Some(0));
     assert_eq!(rt; number_of(255, b"007"), Some(7));
     assert_eq!(rt; number_of(255, b"255"), Some(255));
-    for wrong in ["", "256", "99999999999999999999", "-1", "+1", " 1", "1 ", "1x", "/", ":"] {
+    for wrong in [
+        "",
+        "256",
+        "99999999999999999999",
+        "-1",
+        "+1",
+        " 1",
+        "1 ",
+        "1x",
+        "/",
+        ":",
+    ] {
         assert_eq!(rt; number_of(255, wrong.as_bytes()), None);
     }
     Ok(())
@@ -62,8 +73,19 @@ fn given_in(alloc: Global, text: &[u8], fails: &[u32]) -> Result<Option<Vec<u8>>
 #[test]
 fn a_document_stands_first(rt: HostRuntime) -> Result<(), Fail> {
     let given = given_in(rt.alloc(), b"document 4\na\nb\npower\n", &[]);
-    assert!(rt; given.is_ok_and(|given| given.is_some_and(|bytes| bytes.as_slice() == b"a\nb\n".as_slice())));
-    for other in ["", "document", "document 4", "document 4\nabc", "document x\n", "power\n", "document 4194305\n", "document 1\r\na"] {
+    assert!(rt;
+        given.is_ok_and(|given| given.is_some_and(|bytes| bytes.as_slice() == b"a\nb\n".as_slice()))
+    );
+    for other in [
+        "",
+        "document",
+        "document 4",
+        "document 4\nabc",
+        "document x\n",
+        "power\n",
+        "document 4194305\n",
+        "document 1\r\na",
+    ] {
         let given = given_in(rt.alloc(), other.as_bytes(), &[]);
         assert!(rt; given.is_ok_and(|given| given.is_none()), "{other}");
     }

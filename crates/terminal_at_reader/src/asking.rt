@@ -12,9 +12,9 @@ ghost use Rattle.report_text.specs.Pieces.{hex_or_dash as hex_text};
 ghost use Rattle.trace_check.specs.declared.entry.Entry.TheVariants as entries;
 ghost use Rattle.terminal_at_reader.specs.Talk.{line_of};
 
+use auth_message::Message;
 use emv_dict::Ac;
 use kernel::{Capture, EndRecord, Kernel, Next, Tally};
-use auth_message::Message;
 use report_text::pieces::{append, hex_or_dash};
 use report_text::{EndParts, Text, end_parts};
 use trace_check::Entry;

@@ -119,8 +119,24 @@ fn a_card_that_is_gone_ends_it(rt: HostRuntime) -> Result<(), Fail> {
 #[test]
 fn other_lines_break_it_off(rt: HostRuntime) -> Result<(), Fail> {
     for other in [
-        "", "\n", "9000\n", "< 9000", "< 900\n", "< 9F\n", "<9000\n", " < 9000\n", "< 9000 \n", "< 9000\r\n", "host < none\n",
-        "host < 9000\n", "> 00a40400\n", "end approved offline\n", "< torn\n", "document 3\n", "\0\n", "< \u{e9}\n",
+        "",
+        "\n",
+        "9000\n",
+        "< 9000",
+        "< 900\n",
+        "< 9F\n",
+        "<9000\n",
+        " < 9000\n",
+        "< 9000 \n",
+        "< 9000\r\n",
+        "host < none\n",
+        "host < 9000\n",
+        "> 00a40400\n",
+        "end approved offline\n",
+        "< torn\n",
+        "document 3\n",
+        "\0\n",
+        "< \u{e9}\n",
     ] {
         hold(&rt, rt.alloc(), other, 2, OTHER)?;
     }

@@ -68,7 +68,12 @@ fn hold<S: Source, K: Sink>(alloc: Global, lane: &Lane, source: &mut S, sink: &m
 }
 
 /// Answers the document of a terminal: with its dialogue, or with the document's fault.
-fn hold_document<S: Source, K: Sink>(alloc: Global, bytes: &[u8], source: &mut S, sink: &mut K) -> u8
+fn hold_document<S: Source, K: Sink>(
+    alloc: Global,
+    bytes: &[u8],
+    source: &mut S,
+    sink: &mut K,
+) -> u8
     ensures done { result ≡ 0 → (lane : LaneData) × IsReading bytes.now (Ok lane)
         × IsTraced lane (S.left source.old) (S.left source.new) (K.held sink.old) (K.held sink.new) }
     ensures refused { result ≡ 1 → (fault : FaultRow) × IsReading bytes.now (Err fault) × (line : List ℕ) × (refused_line fault ≡ Some line)
