@@ -54,7 +54,7 @@ reading_more text left apps one some room is r =
       few = omega (arith, size);
       same = r.same ∙ ap (λ n. option_map (λ others. apps ++ others) (apps_within n left)) less
           ∙ ap (option_map (λ others. apps ++ others)) (step (4 - length (apps ++ one ∷ [])) left some)
-          ∙ ap (λ c. option_map (λ others. apps ++ others) (option_and_then (λ one. option_map (λ others. one ∷ others) (apps_within (4 - length (apps ++ one ∷ [])) (split_word left).1)) c)) is
+          ∙ ap (λ c. option_map (λ others. apps ++ others) (option_and_then (λ next. option_map (λ others. next ∷ others) (apps_within (4 - length (apps ++ one ∷ [])) (split_word left).1)) c)) is
           ∙ map_more apps one (apps_within (4 - length (apps ++ one ∷ [])) (split_word left).1);
     }
 
@@ -92,7 +92,7 @@ pub reading_end : (text left : List ℕ) (apps : List Counters) → length left 
 reading_end text left apps none some r = ap some_apps (all_read text left apps none r) ∙ some_of apps some
 
 pub reading_empty : (text left : List ℕ) (apps : List Counters) → length left ≡ 0 → length apps ≡ 0 → IsReadTo text left apps → some_apps (apps_within 4 text) ≡ None
-reading_empty text left apps none no r = ap some_apps (all_read text left apps none r) ∙ none_of apps no
+reading_empty text left apps none bare r = ap some_apps (all_read text left apps none r) ∙ none_of apps bare
 
 -- the applications from a place on: the first, and those behind it
 from_place : (apps : List Counters) (place : ℕ) (d : Counters) → place < length apps → drop place apps ≡ get_or apps place d ∷ drop (place + 1) apps

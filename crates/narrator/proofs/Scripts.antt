@@ -1,5 +1,5 @@
 -- The results of scripts, one behind the other.
-use Rattle.std.proofs.Common.{◌≡◌, ℕ, zero, suc, ◌+◌, ◌<◌, ◌≤◌, true, false, cond, nat_le, List, [], ◌++◌, length, take, drop, refl, ap, arith}
+use Rattle.std.proofs.Common.{◌≡◌, ℕ, zero, suc, ◌+◌, ◌<◌, ◌≤◌, true, false, cond, nat_le, List, [], ◌++◌, length, take, drop, refl, sym, ap, subst, arith}
 use Rattle.std.proofs.lemmas.Bool.Decides.{nat_tests}
 use Rattle.std.proofs.lemmas.List.{length-drop}
 use Rattle.word_lines.specs.Lines.{WordsData}
@@ -41,9 +41,10 @@ more_at (suc most) first now next whole text ten enough left tells = record {
       (left_as first now (scripts_words whole) (scripts_within (suc most) text) (script_told (hex_number (take 10 text)) ++ scripts_within most (drop 10 text)) (one_more most text ten) left) tells;
 }
 
-pub scripts_more : (first now next : WordsData) (whole text : List ℕ) → 10 ≤ length text → ScriptsLeft first now whole text
-    → Tells now next (script_told (hex_number (take 10 text))) → ScriptsLeft first next whole (drop 10 text)
-scripts_more first now next whole text ten s tells = more_at s.most first now next whole text ten s.enough s.left tells
+pub scripts_more : (first now next : WordsData) (whole text rest : List ℕ) → 10 ≤ length text → rest ≡ drop 10 text → ScriptsLeft first now whole text
+    → Tells now next (script_told (hex_number (take 10 text))) → ScriptsLeft first next whole rest
+scripts_more first now next whole text rest ten is s tells =
+    subst (λ (t : List ℕ). ScriptsLeft first next whole t) (sym is) (more_at s.most first now next whole text ten s.enough s.left tells)
 
 pub scripts_end : (first now : WordsData) (whole text : List ℕ) → length text < 10 → ScriptsLeft first now whole text → Tells first now (scripts_words whole)
 scripts_end first now whole text few s =

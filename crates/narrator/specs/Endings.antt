@@ -167,7 +167,7 @@ script_result kind command =
     else text NO_SCRIPT.now
 
 -- the result of a script: five bytes as one number, the first half byte its kind (EMV 4.3 Book 4 Annex A5)
-abbrev pub script_words : ℕ → List Piece
+unfoldable pub script_words : ℕ → List Piece
 script_words bytes =
     let first = bytes / 2 ^ 32 % 256 in
     line 1 ++ text (codes "script ") ++ hex (to_be_bytes w32 (bytes % 2 ^ 32)) ++ script_result (first / 16) (first % 16)
@@ -184,13 +184,15 @@ abbrev pub end_bits : FieldsData → Bool → List Piece
 end_bits f true = []
 end_bits f false = tvr_words (hex_number f.tvr) ++ tsi_words (hex_number f.tsi)
 
+-- the rule that was performed, and its outcome
+unfoldable pub performed_rule : ℕ → List Piece
+performed_rule cvm =
+    if cvm / 65536 % 256 == 0x3F then text NO_RULE.now
+    else rule_words (cvm / 65536 % 256) (cvm / 256 % 256) ++ outcome_words (cvm % 256)
+
 -- the result of cardholder verification: three bytes as one number
-abbrev pub verification_words : ℕ → List Piece
-verification_words cvm =
-    line 1 ++ text (codes "CVM ")
-    ++ (if cvm == 0 then text (codes "not reached")
-    else if cvm / 65536 % 256 == 0x3F then text NO_RULE.now
-    else rule_words (cvm / 65536 % 256) (cvm / 256 % 256) ++ outcome_words (cvm % 256))
+unfoldable pub verification_words : ℕ → List Piece
+verification_words cvm = line 1 ++ text (codes "CVM ") ++ (if cvm == 0 then text (codes "not reached") else performed_rule cvm)
 
 abbrev pub cvm_words : Option ℕ → List Piece
 cvm_words None = []

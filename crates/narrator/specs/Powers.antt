@@ -38,7 +38,7 @@ flags_differ true now = not now
 flags_differ false now = now
 
 -- what changed of the numbers of an application
-abbrev pub changes_words : Counters → Counters → List Piece
+unfoldable pub changes_words : Counters → Counters → List Piece
 changes_words before now =
     let counter = differ before.counter now.counter in
     let online = counter || differ before.last_online now.last_online in
@@ -58,26 +58,37 @@ has_changed before now =
 abbrev pub has_turned : Counters → Counters → Bool
 has_turned before now = flags_differ (is_blocked before) (is_blocked now) || flags_differ (has_failed before) (has_failed now)
 
+-- the transaction counter and the last online one
+unfoldable pub counter_words : Counters → List Piece
+counter_words c = text TRANSACTION_COUNTER.now ++ number c.counter ++ text (codes ", last online ") ++ number c.last_online
+
+-- the offline approvals, and the PIN tries that are left
+unfoldable pub offline_words : Counters → List Piece
+offline_words c =
+    text OFFLINE_APPROVALS.now ++ number c.count ++ text (codes ", sum ") ++ number c.sum ++ text (codes ", PIN tries ") ++ number c.tries
+
+-- what is not as it should be, and the sum in the second currency
+unfoldable pub standing_words : Counters → List Piece
+standing_words c =
+    told_where (is_blocked c) APPLICATION_IS_BLOCKED.now ++ told_where (has_failed c) AUTHENTICATION_HAS_FAILED.now ++ second_words c.second
+
 -- the counters of an application
-abbrev pub counters_words : Counters → List Piece
-counters_words c =
-    text TRANSACTION_COUNTER.now ++ number c.counter ++ text (codes ", last online ") ++ number c.last_online
-    ++ text OFFLINE_APPROVALS.now ++ number c.count ++ text (codes ", sum ") ++ number c.sum ++ text (codes ", PIN tries ") ++ number c.tries
-    ++ told_where (is_blocked c) APPLICATION_IS_BLOCKED.now ++ told_where (has_failed c) AUTHENTICATION_HAS_FAILED.now ++ second_words c.second
+unfoldable pub counters_words : Counters → List Piece
+counters_words c = counter_words c ++ offline_words c ++ standing_words c
 
 -- a flag that is set now, or is so no longer
-abbrev pub flag_words : Bool → List ℕ → Bool → Bool → List Piece
+unfoldable pub flag_words : Bool → List ℕ → Bool → Bool → List Piece
 flag_words told name before now =
     if flags_differ before now then between told ++ told_where before (codes "no longer ") ++ text name else []
 
 -- what changed of the flags of an application
-abbrev pub flags_words : Bool → Counters → Counters → List Piece
+unfoldable pub flags_words : Bool → Counters → Counters → List Piece
 flags_words told before now =
     flag_words told BLOCKED.now (is_blocked before) (is_blocked now)
     ++ flag_words (told || flags_differ (is_blocked before) (is_blocked now)) FAILED.now (has_failed before) (has_failed now)
 
 -- what changed of an application since the card's last power line
-abbrev pub since_words : Counters → Counters → List Piece
+unfoldable pub since_words : Counters → Counters → List Piece
 since_words before now =
     let told = has_changed before now || has_turned before now in
     let second = unwrap_or before.second 0 in
@@ -90,11 +101,11 @@ earlier_words None now = []
 earlier_words (Some before) now = since_words before now
 
 -- which of several applications
-abbrev pub place_words : Bool → ℕ → List Piece
+unfoldable pub place_words : Bool → ℕ → List Piece
 place_words several place = (if several then text (codes "application ") ++ number (place + 1) ++ text (codes ": ") else [])
 
 -- an application by its place, with what changed of it
-abbrev pub app_words : Bool → List Counters → ℕ → Counters → List Piece
+unfoldable pub app_words : Bool → List Counters → ℕ → Counters → List Piece
 app_words several before place now =
     line 1 ++ place_words several place ++ counters_words now ++ earlier_words (slice_get before place) now
 

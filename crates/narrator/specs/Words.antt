@@ -106,7 +106,7 @@ IsMade None words = Unit {0}
 IsMade (Some pieces) words = words ≡ lines_of pieces
 
 abbrev pub NarratesLine : Bool → Option LineData → StateData → List ℕ → StateData → Type 0
-NarratesLine brief None old words new = (words ≡ []) × (new ≡ old)
+NarratesLine brief None old words new = IsMade (Some []) words × (new ≡ old)
 NarratesLine brief (Some line) old words new = IsMade (said brief old line) words × Leaves line old new
 
 -- one line of a report: behind this state it has these words, and leaves this state. A text that is no line has no words,

@@ -82,10 +82,11 @@ pub(crate) fn read_apps(text: &[u8]) -> Option<Apps>
     let mut apps = Apps::new();
     let mut left = text;
     while !left.is_empty() {
-        let (word, rest) = split_word(left);
-        if apps.try_push(read_counters(word)?).is_err() {
+        if apps.len() >= 4 {
             return None;
         }
+        let (word, rest) = split_word(left);
+        apps.push(read_counters(word)?);
         left = rest;
     }
     if apps.is_empty() { None } else { Some(apps) }

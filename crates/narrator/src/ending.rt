@@ -332,20 +332,31 @@ fn tell_outcome(out: &mut WordLines, outcome: u8)
     }
 }
 
+/// Tells the rule of cardholder verification that was performed, and its outcome.
+#[tactic(auto, unfolding(crate::specs::Endings::performed_rule))]
+fn tell_performed_rule(out: &mut WordLines, cvm: u64)
+    ensures { Tells out.old out.new (spec.performed_rule cvm) }
+{
+    let method = (cvm / 65536 % 256) as u8;
+    if method == 0x3f {
+        out.text(NO_RULE);
+    } else {
+        tell_rule(out, method, (cvm / 256 % 256) as u8);
+        tell_outcome(out, (cvm % 256) as u8);
+    }
+}
+
 /// Tells the result of cardholder verification.
+#[tactic(auto, unfolding(crate::specs::Endings::verification_words))]
 fn tell_verification(out: &mut WordLines, cvm: u64)
     ensures { Tells out.old out.new (spec.verification_words cvm) }
 {
     out.line(1);
     out.text(b"CVM ");
-    let method = (cvm / 65536 % 256) as u8;
     if cvm == 0 {
         out.text(b"not reached");
-    } else if method == 0x3f {
-        out.text(NO_RULE);
     } else {
-        tell_rule(out, method, (cvm / 256 % 256) as u8);
-        tell_outcome(out, (cvm % 256) as u8);
+        tell_performed_rule(out, cvm);
     }
 }
 
@@ -396,6 +407,7 @@ fn tell_failed(out: &mut WordLines, command: u64)
 }
 
 /// Tells the result of a script: five bytes as one number (EMV 4.3 Book 4 Annex A5).
+#[tactic(auto, unfolding(crate::specs::Endings::script_words))]
 fn tell_script(out: &mut WordLines, bytes: u64)
     ensures { Tells out.old out.new (spec.script_words bytes) }
 {

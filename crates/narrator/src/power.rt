@@ -51,23 +51,48 @@ fn tell_second(out: &mut WordLines, second: Option<u64>)
     }
 }
 
-/// Tells the counters of an application.
-fn tell_counters(out: &mut WordLines, counters: &Counters)
-    ensures { Tells out.old out.new (spec.counters_words counters.now) }
+/// Tells the transaction counter and the last online one.
+#[tactic(auto, unfolding(crate::specs::Powers::counter_words))]
+fn tell_counter(out: &mut WordLines, counters: &Counters)
+    ensures { Tells out.old out.new (spec.counter_words counters.now) }
 {
     out.text(TRANSACTION_COUNTER);
     out.number(counters.counter);
     out.text(b", last online ");
     out.number(counters.last_online);
+}
+
+/// Tells the offline approvals, and the PIN tries that are left.
+#[tactic(auto, unfolding(crate::specs::Powers::offline_words))]
+fn tell_offline(out: &mut WordLines, counters: &Counters)
+    ensures { Tells out.old out.new (spec.offline_words counters.now) }
+{
     out.text(OFFLINE_APPROVALS);
     out.number(counters.count);
     out.text(b", sum ");
     out.number(counters.sum);
     out.text(b", PIN tries ");
     out.number(counters.tries);
+}
+
+/// Tells what is not as it should be, and the sum in the second currency.
+#[tactic(auto, unfolding(crate::specs::Powers::standing_words))]
+fn tell_standing(out: &mut WordLines, counters: &Counters)
+    ensures { Tells out.old out.new (spec.standing_words counters.now) }
+{
     tell_where(out, is_blocked(counters), APPLICATION_IS_BLOCKED);
     tell_where(out, has_failed(counters), AUTHENTICATION_HAS_FAILED);
     tell_second(out, counters.second);
+}
+
+/// Tells the counters of an application.
+#[tactic(auto, unfolding(crate::specs::Powers::counters_words))]
+fn tell_counters(out: &mut WordLines, counters: &Counters)
+    ensures { Tells out.old out.new (spec.counters_words counters.now) }
+{
+    tell_counter(out, counters);
+    tell_offline(out, counters);
+    tell_standing(out, counters);
 }
 
 /// Tells what stands between two changes.
@@ -108,12 +133,20 @@ fn tell_change(out: &mut WordLines, told: bool, name: &[u8], before: u64, now: u
     true
 }
 
+/// Whether a flag is not what it was.
+fn flags_differ(before: bool, now: bool) -> bool
+    ensures { result ≡ spec.flags_differ before now }
+{
+    before != now
+}
+
 /// Tells a flag that is set now, or is so no longer; whether any change was told.
+#[tactic(auto, unfolding(crate::specs::Powers::flag_words))]
 fn tell_flag(out: &mut WordLines, told: bool, name: &[u8], before: bool, now: bool) -> bool
     ensures words { Tells out.old out.new (spec.flag_words told name.now before now) }
     ensures told { result ≡ (told || spec.flags_differ before now) }
 {
-    if before == now {
+    if !flags_differ(before, now) {
         return told;
     }
     tell_between(out, told);
@@ -123,6 +156,7 @@ fn tell_flag(out: &mut WordLines, told: bool, name: &[u8], before: bool, now: bo
 }
 
 /// Tells what changed of the numbers of an application; whether anything did.
+#[tactic(auto, unfolding(crate::specs::Powers::changes_words))]
 fn tell_changes(out: &mut WordLines, before: &Counters, now: &Counters) -> bool
     ensures words { Tells out.old out.new (spec.changes_words before.now now.now) }
     ensures told { result ≡ spec.has_changed before.now now.now }
@@ -141,6 +175,7 @@ fn tell_changes(out: &mut WordLines, before: &Counters, now: &Counters) -> bool
 }
 
 /// Tells what changed of the flags of an application; whether anything was told.
+#[tactic(auto, unfolding(crate::specs::Powers::flags_words))]
 fn tell_flags(out: &mut WordLines, told: bool, before: &Counters, now: &Counters) -> bool
     ensures words { Tells out.old out.new (spec.flags_words told before.now now.now) }
     ensures told { result ≡ (told || spec.has_turned before.now now.now) }
@@ -152,6 +187,7 @@ fn tell_flags(out: &mut WordLines, told: bool, before: &Counters, now: &Counters
 }
 
 /// Tells what changed of an application.
+#[tactic(auto, unfolding(crate::specs::Powers::since_words))]
 fn tell_since(out: &mut WordLines, before: &Counters, now: &Counters)
     ensures { Tells out.old out.new (spec.since_words before.now now.now) }
 {
@@ -165,6 +201,7 @@ fn tell_since(out: &mut WordLines, before: &Counters, now: &Counters)
 }
 
 /// Tells which of several applications this is.
+#[tactic(auto, unfolding(crate::specs::Powers::place_words))]
 fn tell_place(out: &mut WordLines, several: bool, place: usize)
     requires { place < 2 ^ 32 }
     ensures { Tells out.old out.new (spec.place_words several place) }
@@ -177,6 +214,7 @@ fn tell_place(out: &mut WordLines, several: bool, place: usize)
 }
 
 /// Tells the counters of an application, and what changed since the card's last power line.
+#[tactic(auto, unfolding(crate::specs::Powers::app_words))]
 fn tell_app(
     out: &mut WordLines,
     several: bool,
