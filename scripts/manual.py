@@ -59,7 +59,7 @@ SECTIONS = [
         ("docs/scenario.md", "Every key of a scenario; docs/scenario.schema.json is the same for editors."),
         ("docs/trace.md", "The document that `check` reads; docs/trace.schema.json is the same for editors."),
         ("docs/report.md", "Every line of a report."),
-        ("docs/questions.md", "Three questions, each answered by one command."),
+        ("docs/questions.md", "Four questions, each answered by one command."),
         ("examples/README.md", "The examples by what one wants to see."),
     ]),
     ("EXAMPLES", [

@@ -2,6 +2,7 @@
 import json
 import re
 import subprocess
+from itertools import zip_longest
 
 SECONDS = 600
 
@@ -33,6 +34,14 @@ def output(program, word, text):
     """What the program prints for this document (bytes), and its status."""
     ended = subprocess.run([program, word], input=text, capture_output=True, timeout=SECONDS)
     return ended.stdout.decode(errors="replace"), ended.returncode
+
+
+def first_difference(lines, wanted):
+    """The first line that isn't the wanted one, or None."""
+    for number, (line, want) in enumerate(zip_longest(lines, wanted), 1):
+        if line != want:
+            return f"line {number} is {line!r}, not {want!r}"
+    return None
 
 
 def word_for(report):

@@ -1,7 +1,8 @@
 //! A run as `emvrun replay` makes it, and then on standard error what it left: for `scripts/check-refusals`,
-//! which refuses it memory, and `scripts/check-tears`, which reads a card's log. Two lines for each card whose
-//! pages are not those of a blank card, as a power-up finds them, the second with the bytes of its home, and a
-//! line for the tally.
+//! which refuses it memory, and `scripts/check-tears`, which reads a card's log. Two lines for each of the bank's
+//! page objects that isn't as a blank one, as a power-up finds it, the second with the bytes of its home, and a
+//! line for the tally. A page object is told by its place: the cards have the first ones, the lanes' stores the
+//! last ones.
 #![tactic(auto)]
 
 ghost use Rattle.std.specs.Prelude.{◌≡◌, ◌<◌, true};

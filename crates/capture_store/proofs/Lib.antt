@@ -3,4 +3,4 @@ mod Entries
 mod Finding
 mod Fits
 mod Rowing
-mod Sendings
+pub mod Sendings

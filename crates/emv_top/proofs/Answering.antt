@@ -22,19 +22,23 @@ use Rattle.kernel.specs.Tally.{Counts}
 use Rattle.scenario.specs.Plan.{ScenarioData, IsScenario}
 use Rattle.scenario_fields.specs.Line.{refused_line}
 use Rattle.scenario_fields.specs.declared.fault.ScenarioFault.{ScenarioFault}
+use Rattle.txn_replay.specs.Captured.{CapturesAreSent}
 use Rattle.txn_replay.specs.Laws.{RunsAreFair, WholeRunsAreFair, IsFair}
 use Rattle.txn_replay.specs.Reading.{ReadRun, to_read}
 use Rattle.txn_replay.specs.Respelled.{WholeDialectsShow}
 use Rattle.txn_replay.specs.Run.{Finished, Run}
+use Rattle.txn_replay.specs.StandAlone.{LanesStandAlone}
+use Rattle.txn_replay.specs.Stored.{StoresAreEmptied}
 use Rattle.txn_replay.specs.Told.{RunsTellLosses, WholeRunsTellLosses}
 use Rattle.txn_replay.specs.World.{World}
 use Rattle.txn_replay.specs.Seen.{WorldSeen, WorldStands}
 
--- in a whole run purchases are decided, losses told, and dialects spelled; the laws are kept, and no decision is open
+-- in a whole run purchases are decided, losses told, and dialects spelled, and a lane that shares nothing runs as if it were
+-- alone; the laws are kept, and no decision is open
 pub decided_whole : (s : ScenarioData) (v : WorldSeen) (old new : Option (List ℕ)) → WholeRunsAreFair → RunsAreDecided → WholeRunsTellLosses → WholeDialectsShow
-    → IsScenario s → Completes (Run s) (WorldStands v) old new
+    → CapturesAreSent → StoresAreEmptied → LanesStandAlone → IsScenario s → Completes (Run s) (WorldStands v) old new
     → Completes (DecidedRun s) (λ w. WorldStands v w × IsFair s w × AreSettled s w) old new
-decided_whole s v old new law decides losses dialects fits whole =
+decided_whole s v old new law decides losses dialects captures emptied alone fits whole =
     let run : Run s whole.lines whole.world = whole.run in
     record {
       lines = whole.lines;
@@ -45,6 +49,9 @@ decided_whole s v old new law decides losses dialects fits whole =
         losses = losses s whole.lines whole.world fits run;
         dialects = λ iso.
             (let other = dialects s iso whole.lines whole.world run in record { others = other.0; run = other.1; respelled = other.2 });
+        captures = λ l on. captures s whole.lines whole.world l fits.tables.one_copy on run;
+        emptied = λ l on. emptied s Finished run.count run.choices run.reported whole.world l on fits.tables.one_copy run.reached (inl refl);
+        alone = λ pans l apart. alone pans s l whole.lines whole.world fits apart run;
       };
       stands = (whole.stands, law s whole.lines whole.world run, run_settled s run.count run.choices run.reported whole.world run.reached);
       written = whole.written;

@@ -9,7 +9,7 @@ use Rattle.std.specs.Io.KnownBytes.{Appends}
 use Rattle.emv_ports.specs.Growth.{IsSoFar, AppendsFront}
 use Rattle.emv_ports.proofs.Growth.{Appends-more, AppendsFront-second, AppendsFront-first, IsSoFar_end, IsSoFar_start}
 use Rattle.emv_top.specs.Texts.{text_of}
-use Rattle.emv_top.proofs.Writing.{text_of-append, piece_more, piece_front}
+use Rattle.emv_top.proofs.Writing.{text_of-append, drop_split, piece_more, piece_front}
 use Rattle.issuer_host.specs.Account.{AccountData}
 use Rattle.report_text.specs.Text.{line_text}
 use Rattle.report_text.specs.declared.line.Line.{Line}
@@ -45,10 +45,13 @@ module _ (s : ScenarioData) (w : World) where
       at : account ≡ get_or s.accounts i account
       at = subst (λ (xs : List AccountData). account ≡ get_or xs i account) same is
 
+      parted : drop i s.accounts ≡ account ∷ drop (i + 1) s.accounts
+      parted = drop_split s.accounts i account here at
+
       pub close_more : Appends mid new (text_of (account_lines t w account))
           → IsSoFar old new (text_of (flat_map (account_lines s w) (drop (i + 1) s.accounts))) (text_of (flat_map (account_lines s w) s.accounts))
       close_more more =
-          piece_more (account_lines s w) s.accounts i account here at old mid new _ so_far
+          piece_more (account_lines s w) (drop i s.accounts) (drop (i + 1) s.accounts) account parted old mid new _ so_far
           (subst (λ (x : ScenarioData). Appends mid new (text_of (account_lines x w account))) told more)
 
       pub close_front : AppendsFront mid new (text_of (account_lines t w account)) → AppendsFront old new (text_of (closing s w))
@@ -56,7 +59,7 @@ module _ (s : ScenarioData) (w : World) where
       close_front stopped =
           subst (λ (x : List ℕ). AppendsFront old new x) (sym whole)
           (AppendsFront-first old new (balances s.accounts) (line_text (Done (ended_count w)))
-          (piece_front (account_lines s w) s.accounts i account here at old mid new _ so_far
+          (piece_front (account_lines s w) (drop i s.accounts) (drop (i + 1) s.accounts) account parted old mid new _ so_far
           (subst (λ (x : ScenarioData). AppendsFront mid new (text_of (account_lines x w account))) told stopped)))
 
     module _ (past : length items ≤ i) (number : ℕ) (counted : number ≡ ended_count w)

@@ -9,7 +9,7 @@ use Rattle.completeness.specs.Laws.{PurchasesAreDecided, HostsAreLinked}
 use Rattle.completeness.specs.WellFormed.{WellFormed}
 use Rattle.emv_dict.specs.Settings.{IsSettings}
 use Rattle.emv_top.specs.Decided.{IsDecidedAt, AreDecided, RunsAreDecided}
-use Rattle.emv_top.proofs.Fates.{IsWhole, WasTold, EndedSo, Came, Behind, tells_fate}
+use Rattle.emv_top.proofs.Fates.{IsWhole, WasTold, EndedSo, Came, Behind, store_fate}
 use Rattle.kernel.specs.Reply.{Reply}
 use Rattle.report_text.specs.declared.line.Line.{Line}
 use Rattle.scenario.specs.CardRules.{IsKind}
@@ -17,23 +17,23 @@ use Rattle.scenario.specs.Cards.{CardData}
 use Rattle.scenario.specs.Plan.{ScenarioData, IsScenario}
 use Rattle.scenario_lanes.specs.Plan.{LaneData}
 use Rattle.scenario_lanes.specs.declared.plan.Planned.{Planned}
-use Rattle.txn_replay.specs.Part.{Part, Moved, piece}
+use Rattle.txn_replay.specs.Part.{Part, Moved}
 use Rattle.txn_replay.specs.Payment.{Payment, payment_with, payment_of, payment_on, payment_in, next_of, deal_for}
 use Rattle.txn_replay.specs.Run.{Place, Reached, start, scheduled, rounds, round, again, settlement, settling, audit, auditing, finished, lane_over, all_over}
 use Rattle.txn_replay.specs.Sound.{IsSound}
-use Rattle.txn_replay.specs.Steps.{Settlement, settles, settlements, checks, audits, part_of, moved, choice_in, turned, turned_by, Step}
+use Rattle.txn_replay.specs.Steps.{Settlement, Opens, Sends, settles, settlements, checks, audits, part_of, moved, choice_in, turned, turned_by, Step}
+use Rattle.txn_replay.specs.Storing.{lane_piece}
 use Rattle.txn_replay.specs.declared.event.Event.TheVariants.{Turn}
 use Rattle.txn_replay.specs.World.{Holder, Past, CardRow, LaneRow, World, new_card, new_lane, first_world, card_at, lane_at}
-use Rattle.txn_replay.proofs.Exchanging.{piece_tells}
+use Rattle.txn_replay.proofs.Exchanging.{lane_tells}
 use Rattle.txn_replay.proofs.Fairness.{reached_sound}
 use Rattle.txn_replay.proofs.Lining.{lane_behind, card_behind}
 use Rattle.txn_replay.proofs.Lists.{get_or-map_const}
-use Rattle.txn_replay.proofs.Moves.{Moves, Outcome, kept, moves, outcome, this_one}
+use Rattle.txn_replay.proofs.Moves.{Moves, Outcome, kept, moves, lane_outcome, this_one}
 use Rattle.txn_replay.proofs.Payments.{IsPayment, payment_facts}
 use Rattle.txn_replay.proofs.Sending.{LanesLike, settle_like, audit_like}
 use Rattle.txn_replay.proofs.Sounding.{moved_still, has_card}
-use Rattle.txn_replay.proofs.Turning.{below_over}
-use Rattle.txn_replay.proofs.Waiting.{calm_over}
+use Rattle.txn_replay.proofs.Waiting.{below_over, calm_over}
 
 -- the rules that a purchase's card, terminal and issuer keep
 record KeepsRules (p : Payment) : Type 0 where
@@ -159,9 +159,9 @@ module _ (s : ScenarioData) (w : World) (l : ℕ) (p : Payment) (sound : IsSound
       ]
     where
       decided : number ≡ length (lane_at w l).ended → EndedSo p past → IsDecidedAt s l number past
-      decided place so_ended q at tear apps =
+      decided place so_ended q at tear terminal apps =
           let ps : p ≡ q = same_Some p q (sym is ∙ ap (λ k. payment_in s l k) (sym place) ∙ at) in
-          let one = so_ended (subst IsWhole (sym ps) (record { tear = tear; apps = apps })) in
+          let one = so_ended (subst IsWhole (sym ps) (record { tear = tear; terminal = terminal; apps = apps })) in
           (one.0, one.1, λ formed. one.2 (subst (λ (x : Payment). WellFormed x.card.image (deal_for x) one.0) (sym ps) formed))
 
   at_lanes : (P : ℕ → Type 0) → P l → ((k : ℕ) → k ≢ l → P k) → (k : ℕ) → P k
@@ -198,18 +198,19 @@ module _ (law : PurchasesAreDecided) (hosts : HostsAreLinked) (s : ScenarioData)
       by_next (Some p) is =
           let rules = payment_rules s l (length (lane_at w l).ended) p fits is in
           let part : Part = part_of w l p.planned.card in
-          let choice : Bool = choice_in choices 0 in
+          let m : Moved = lane_piece p part (choice_in choices 0) (choice_in choices 1) in
           let told : (replies : List Reply) → part.lane.running ≡ Some replies → WasTold p part.lane part.card replies =
           (λ replies ran. accounts.running l replies p ran is) in
-          let behind : Behind law hosts p rules.image rules.settings part told (piece p part choice).part (piece p part choice).lines =
-          piece_tells p part (Came law hosts p rules.image rules.settings part told)
+          let behind : Behind law hosts p rules.image rules.settings part told m.part m.lines =
+          lane_tells p part (Came law hosts p rules.image rules.settings part told)
           (Behind law hosts p rules.image rules.settings part told)
-          (tells_fate law hosts p rules.image rules.settings part told) choice in
-          by_outcome p is (piece p part choice) (outcome p part choice (has_card s w l p sound is)) behind.0 behind.1
+          (store_fate law hosts p rules.image rules.settings part told) (choice_in choices 0) (choice_in choices 1) in
+          by_outcome p is m (lane_outcome p part (choice_in choices 0) (choice_in choices 1) (has_card s w l p sound is)) behind.0 behind.1
 
-  settle_accounts : (w : World) (o : Option Settlement) → Accounts s w → Accounts s (settles s w o).world
-  settle_accounts w None accounts = accounts
-  settle_accounts w (Some at) accounts = like_accounts s w _ _ (settle_like s w (Some at)) accounts
+  settle_accounts : (w : World) (choices : List Bool) (o : Option Settlement) → Accounts s w → Accounts s (settles s w choices o).world
+  settle_accounts w choices None accounts = accounts
+  settle_accounts w choices (Some (Opens l)) accounts = like_accounts s w _ _ (settle_like s w choices (Some (Opens l))) accounts
+  settle_accounts w choices (Some (Sends l message drops)) accounts = like_accounts s w _ _ (settle_like s w choices (Some (Sends l message drops))) accounts
 
   -- where all is over, no lane runs a purchase
   idle : (w : World) → IsSound s w → all_over s w ≡ true → (l : ℕ) → (lane_at w l).running ≡ None
@@ -244,8 +245,8 @@ module _ (law : PurchasesAreDecided) (hosts : HostsAreLinked) (s : ScenarioData)
   accounted _ _ _ _ _ (round {l = l} before within busy step) = turn_step l before step (accounted _ _ _ _ _ before)
   accounted _ _ _ _ _ (again before) = accounted _ _ _ _ _ before
   accounted _ _ _ _ _ (settlement before over) = accounted _ _ _ _ _ before
-  accounted _ _ _ _ _ (settling {k} {w = w} {w' = later} before at step) =
-      subst (λ (x : World). Accounts s x) (sym step.leads) (settle_accounts w (slice_get (settlements s w) k) (accounted _ _ _ _ _ before))
+  accounted _ _ _ _ _ (settling {k} {c = c} {w = w} {w' = later} before at step) =
+      subst (λ (x : World). Accounts s x) (sym step.leads) (settle_accounts w c (slice_get (settlements s w) k) (accounted _ _ _ _ _ before))
   accounted _ _ _ _ _ (audit before none) = accounted _ _ _ _ _ before
   accounted _ _ _ _ _ (auditing {k} {n} {cs} {c} {ls} {new} {w} {w' = later} before at step) =
       subst (λ (x : World). Accounts s x) (sym step.leads)

@@ -1,6 +1,7 @@
 -- What becomes of a purchase without a tear, of a card with applications, in one exchange: it goes on as its terminal was told, or ends.
 use Rattle.std.proofs.Common.{◌≡◌, ◌⊎◌, ℕ, ◌+◌, true, false, List, [], ◌∷◌, ◌++◌, length, slice_get, Option, Some, None, refl, sym, ap, ◌∙◌, subst, inl, inr}
 use Rattle.std.proofs.lemmas.Option.{same_Some}
+use Rattle.capture_store.specs.StoreRow.{commit_next, opened_to_add}
 use Rattle.card_app.specs.Answering.{card_answer}
 use Rattle.card_files.specs.Kept.{IsImage}
 use Rattle.card_pages.specs.Cuts.{Cut, cut_of}
@@ -13,6 +14,7 @@ use Rattle.completeness.specs.WellFormed.{WellFormed}
 use Rattle.emv_dict.specs.Settings.{IsSettings}
 use Rattle.emv_ports.specs.Cut.{is_named}
 use Rattle.emv_ports.specs.declared.tear.Tear.{Tear}
+use Rattle.emv_top.specs.Decided.{EndsDecided}
 use Rattle.host_link.specs.Delivery.{heard}
 use Rattle.issuer_host.specs.History.{host_reply}
 use Rattle.kernel.specs.Dialogue.{dialogue}
@@ -23,10 +25,11 @@ use Rattle.scenario_lanes.specs.declared.plan.Link.{Link}
 use Rattle.scenario_lanes.specs.declared.plan.Link.TheVariants.{Sound, RequestLost, ReplyLost, Twice}
 use Rattle.terminal_state.specs.Marks.{Mark}
 use Rattle.terminal_state.specs.Terminal.{Deal}
-use Rattle.txn_replay.specs.Part.{Part}
+use Rattle.txn_replay.specs.Part.{Part, loses}
 use Rattle.txn_replay.specs.Payment.{Payment, deal_for, end_at}
+use Rattle.txn_replay.specs.Storing.{part_with, lane_lost, lane_copied, copied}
 use Rattle.txn_replay.specs.World.{Past, CardRow, LaneRow}
-use Rattle.txn_replay.proofs.Exchanging.{Tells}
+use Rattle.txn_replay.proofs.Exchanging.{Tells, StoreTells}
 use Rattle.txn_replay.proofs.Hearing.{last_at}
 use Rattle.txn_replay.proofs.Sending.{Later, later_ended}
 
@@ -34,9 +37,10 @@ use Rattle.txn_replay.proofs.Sending.{Later, later_ended}
 abbrev pub now_of : CardRow → Now
 now_of card = record { kept = card.kept; session = card.session }
 
--- no tear is planned for it, and its card has applications
+-- no tear is planned for it or for its terminal, and its card has applications
 pub record IsWhole (p : Payment) : Type 0 where
   pub tear : p.planned.tear ≡ None
+  pub terminal : p.planned.terminal_tear ≡ None
   pub apps : p.card.canned ≡ None
 
 -- where it is whole, its terminal was told what its card and the host said since the power-up, which found what its lane has
@@ -47,7 +51,7 @@ WasTold p lane card replies =
 -- and behind a well-formed card it ended decided
 abbrev pub EndedSo : Payment → Past → Type 0
 EndedSo p past =
-    IsWhole p → (found : List Decided) × (past.began ≡ Some found) × (WellFormed p.card.image (deal_for p) found → IsDecided past.end.ending)
+    IsWhole p → (found : List Decided) × (past.began ≡ Some found) × (WellFormed p.card.image (deal_for p) found → EndsDecided past.end)
 
 -- an end record is that of a dialogue that is over
 over_of : (deal : Deal) (marks : List Mark) (deed : Deed) (end : EndData) → end_by deal marks deed ≡ Some end → deed ≡ Over end.ending
@@ -82,7 +86,7 @@ module _ (law : PurchasesAreDecided) (hosts : HostsAreLinked) (p : Payment) (ima
   were lane later number past here = ap (λ (pasts : List Past). slice_get pasts number) (sym (later_ended part.lane lane later)) ∙ here
 
   ended_so : (lane : LaneRow) (replies : List Reply) (card : CardRow) (end : EndData) → WasTold p lane card replies → end_at p replies ≡ Some end
-      → EndedSo p (record { began = lane.began; replies = replies; end = end })
+      → EndedSo p (record { began = lane.began; replies = replies; end = Some end; lost = loses p lane.store end.capture })
   ended_so lane replies card end came is whole =
       let one = came whole in (
         one.0,
@@ -110,7 +114,7 @@ module _ (law : PurchasesAreDecided) (hosts : HostsAreLinked) (p : Payment) (ima
     ends = λ lane later replies card messages lines came end is. (
       λ others runs. (cc),
       λ number past here.
-          elim (last_at lane.ended (record { began = lane.began; replies = replies; end = end }) number past here) [
+          elim (last_at lane.ended (record { began = lane.began; replies = replies; end = Some end; lost = loses p lane.store end.capture }) number past here) [
             | inl before ↦ inl (were lane later number past before)
             | inr last ↦
                 inr (
@@ -138,4 +142,42 @@ module _ (law : PurchasesAreDecided) (hosts : HostsAreLinked) (p : Payment) (ima
           one.1,
           told_host reply one.2 asks (subst (λ (o : Option (List ℕ)). IsLinked o) (sym is) (linked p.planned.link part.messages message)),
         ));
+  }
+
+-- what comes before a purchase loses it only under a plan for its terminal
+module _ (law : PurchasesAreDecided) (hosts : HostsAreLinked) (p : Payment) (image : p.card.canned ≡ None → IsImage p.card.image)
+    (settings : IsSettings p.settings) (part : Part)
+    (told : (replies : List Reply) → part.lane.running ≡ Some replies → WasTold p part.lane part.card replies) where
+  abbrev Kept : Part → List Line → Type 0
+  Kept after lines = Behind law hosts p image settings part told after lines
+
+  none_runs : {A : Type 0} → part.lane.running ≡ None → (replies : List Reply) → part.lane.running ≡ Some replies → A
+  none_runs rests replies runs = let none : None ≡ Some replies = sym rests ∙ runs in cc
+
+  -- the plan isn't there
+  unplanned : (tear : Option Tear) (n : ℕ) → tear ≡ None → is_named tear n ≡ true → ⊥
+  unplanned None n is named = cc
+  unplanned (Some tear) n is named = cc
+
+  lost_fate : (after : Part) → after.lane.running ≡ None → after.lane.ended ≡ (lane_lost part.lane).ended → (n : ℕ)
+      → is_named p.planned.terminal_tear n ≡ true → Kept after []
+  lost_fate after rests same n named = (
+    λ replies runs. (let none : None ≡ Some replies = sym rests ∙ runs in cc),
+    λ number past here.
+        elim (last_at part.lane.ended (record { began = None; replies = []; end = None; lost = true }) number past
+        (ap (λ (pasts : List Past). slice_get pasts number) (sym same) ∙ here)) [
+          | inl before ↦ inl before
+          | inr last ↦ inr (last.0, λ whole. absurd (unplanned p.planned.terminal_tear n whole.terminal named))
+        ],
+  )
+
+  pub store_fate : StoreTells p part (Came law hosts p image settings part told) Kept
+  store_fate = record {
+    own = tells_fate law hosts p image settings part told;
+    again = λ one at off. tells_fate law hosts p image settings (part_with (opened_to_add part.lane.store one) part) told;
+    opened = λ one at off. (told, λ number past here. inl here);
+    lost = λ at cut. lost_fate (record part { lane = lane_lost part.lane }) at.rests refl 0 cut;
+    sent = λ at message. (λ replies runs. none_runs at.rests replies runs, λ number past here. inl here);
+    sent_lost = λ at message cut.
+        lost_fate (record (copied p message part) { lane = lane_lost (lane_copied p message part.lane) }) at.rests refl (commit_next part.lane.store) cut;
   }

@@ -50,10 +50,11 @@ module _ (s : ScenarioData) (e : Event) (shown : List Line → List Line) (v aft
   pub more : (here there : Course) (first old new : Option (List ℕ))
       → ((n : ℕ) (cs c : List Bool) (ls made : List Line) (w w' : World) → here n cs ls w → WorldStands v w → IsThere s w e → Step s w e c made w'
       → there (n + 1) (cs ++ c) (ls ++ shown made) w')
-      → ((w : World) → WorldStands v w → IsThere s w e) → ((w : World) → WorldStands v w → Makes after w e shown old new)
+      → ((w : World) → WorldStands v w → IsThere s w e)
+      → ((n : ℕ) (cs : List Bool) (ls : List Line) (w : World) → here n cs ls w → WorldStands v w → Makes after w e shown old new)
       → SoFar here (WorldStands v) first old → SoFar there (WorldStands after) first new
   more here there first old new grows is_there makes far =
-      let made : Makes after far.world e shown old new = makes far.world far.stands in
+      let made : Makes after far.world e shown old new = makes far.count far.choices far.lines far.world far.reached far.stands in
       record {
         count = far.count + 1;
         choices = far.choices ++ made.goes.choices;
@@ -132,8 +133,9 @@ module _ (s : ScenarioData) (e : Event) (shown : List Line → List Line) (v aft
     fails_by (inl made) = breaks made
     fails_by (inr kept) = keeps kept
 
-    pub halts : ((w : World) → WorldStands v w → Fails s after w e shown old new) → Stopped s shown ends (WorldStands after) first new
-    halts fails = fails_by (fails far.world far.stands)
+    pub halts : ((n : ℕ) (cs : List Bool) (ls : List Line) (w : World) → here n cs ls w → WorldStands v w → Fails s after w e shown old new)
+        → Stopped s shown ends (WorldStands after) first new
+    halts fails = fails_by (fails far.count far.choices far.lines far.world far.reached far.stands)
 
 -- the lines behind the events
 module _ (here : Course) (tail : World → List Line) (holds : World → Type 0) (first old new : Option (List ℕ)) (far : SoFar here holds first old) where

@@ -1,8 +1,9 @@
--- What is read of a source's bytes, and a scenario without a tear.
+-- What is read of a source's bytes, and a scenario whose first purchase has lost its tears.
 use Rattle.std.proofs.Common.{◌≡◌, ℕ, zero, suc, ◌<◌, ◌≤◌, ◌+◌, List, [], ◌∷◌, length, get_or, Ok, Err, refl, sym, ap, ◌∙◌, subst, arith, rules}
 use Rattle.std.specs.Prelude.{codes}
 use Rattle.std.specs.List.{All}
 use Rattle.std.proofs.lemmas.List.Sums.{sum_by-cons}
+use Rattle.std.proofs.lemmas.Option.{same_Some}
 use Rattle.emv_top.specs.Input.{first_purchases, with_purchase, IsInput}
 use Rattle.emv_top.specs.declared.words.Order.{Order}
 use Rattle.emv_top.specs.declared.words.Order.TheVariants.{Read, Replay}
@@ -11,7 +12,7 @@ use Rattle.scenario.specs.Scenario.{IsReading}
 use Rattle.scenario_fields.specs.Fault.{Tells}
 use Rattle.scenario_fields.specs.declared.fault.ScenarioFault.{ScenarioFault}
 use Rattle.scenario_fields.specs.declared.fault.ScenarioFault.TheVariants.{Toml, MissingKey, BadValue, OutOfLimit, UnknownKey, UnknownName, OutOfMemory}
-use Rattle.scenario_lanes.specs.Plan.{LaneData, IsPlanned, IsLane, HasCards, purchase_count}
+use Rattle.scenario_lanes.specs.Plan.{LaneData, IsPlanned, IsLane, HasCards, HaveRoom, purchase_count}
 use Rattle.scenario_lanes.specs.declared.plan.Planned.{Planned}
 use Rattle.txn_replay.specs.Reading.{untorn, first_untorn, lane_untorn, to_read}
 
@@ -49,7 +50,7 @@ module _ (bytes : List ℕ) (s : ScenarioData) (reading : IsReading bytes (Ok s)
   unserved (UnknownKey path) told = no_purchase (UnknownKey path) told
   unserved (UnknownName path) told = no_purchase (UnknownName path) told
 
--- what holds of each lane, and of one whose first purchase has lost its tear, holds where the first lane is such a one
+-- what holds of each lane, and of one whose first purchase has lost its tears, holds where the first lane is such a one
 all_lanes : (P : LaneData → Type 0) → ((lane : LaneData) → P lane → P (record lane { purchases = first_untorn lane.purchases })) → (lanes : List LaneData) → All P lanes
     → All P (lane_untorn lanes)
 all_lanes P keeps [] all = all
@@ -68,13 +69,29 @@ all_purchases P keeps (planned ∷ others) all = go
     go (suc k) d within = all (suc k) d within
 
 untorn_planned : (planned : Planned) → IsPlanned planned → IsPlanned (untorn planned)
-untorn_planned planned is = record { purchase = is.purchase; plan = search rules; tear = search rules }
+untorn_planned planned is = record {
+  purchase = is.purchase;
+  plan = search rules;
+  tear = search rules;
+  terminal_plan = search rules;
+  terminal_tear = search rules;
+}
 
 untorn_lane : (lane : LaneData) → IsLane lane → IsLane (record lane { purchases = first_untorn lane.purchases })
 untorn_lane lane is = record { settings = is.settings; purchases = all_purchases IsPlanned untorn_planned lane.purchases is.purchases }
 
 untorn_cards : (cards : ℕ) (lane : LaneData) → HasCards cards lane → HasCards cards (record lane { purchases = first_untorn lane.purchases })
 untorn_cards cards lane has = all_purchases (λ (planned : Planned). planned.card < cards) (λ planned known. known) lane.purchases has
+
+untorn_rooms : (cards : ℕ) (lanes : List LaneData) → HaveRoom cards lanes → HaveRoom cards (lane_untorn lanes)
+untorn_rooms cards [] rooms = rooms
+untorn_rooms cards (lane ∷ lanes) rooms = go
+  where
+    go : HaveRoom cards (lane_untorn (lane ∷ lanes))
+    go zero found there durable =
+        let same : record lane { purchases = first_untorn lane.purchases } ≡ found = same_Some _ _ there in
+        rooms 0 lane refl (ap (λ (l : LaneData). l.durable) same ∙ durable)
+    go (suc i) found there durable = rooms (suc i) found there durable
 
 same_purchases : (purchases : List Planned) → length (first_untorn purchases) ≡ length purchases
 same_purchases [] = refl
@@ -106,6 +123,7 @@ untorn_tables s is = record {
   some_lane = subst (λ (n : ℕ). 1 ≤ n) (sym (same_lanes s.lanes)) is.some_lane;
   few_lanes = subst (λ (n : ℕ). n ≤ 16) (sym (same_lanes s.lanes)) is.few_lanes;
   lanes = all_lanes IsLane untorn_lane s.lanes is.lanes;
+  rooms = untorn_rooms (length s.cards) s.lanes is.rooms;
   few_purchases = subst (λ (n : ℕ). n ≤ 10000) (sym (same_count s.lanes)) is.few_purchases;
   pin_keys = all_lanes (λ (lane : LaneData). lane.settings.pin_key ≡ s.issuer.pin) (λ lane same. same) s.lanes is.pin_keys;
   few_turns = is.few_turns;

@@ -2,12 +2,13 @@ pub mod WordLemmas
 pub mod Writing
 pub mod Going
 pub mod ReadRuns
+pub mod Pasts
+pub mod Untorn
 pub mod RecordsShort
 pub mod DialogueShort
 pub mod ReadShort
 pub mod Objects
 pub mod Inputs
-pub mod Banks
 pub mod Answering
 pub mod Replays
 pub mod Closings

@@ -11,10 +11,11 @@ use Rattle.emv_top.specs.Texts.{text_of}
 use Rattle.emv_top.proofs.Going.{more, halts, completes, stops_behind}
 use Rattle.emv_top.proofs.ReadRuns.{others_rest, goes_on}
 use Rattle.emv_top.proofs.ReadShort.{read_short}
+use Rattle.emv_top.proofs.Untorn.{none_ended_yet}
 use Rattle.scenario.specs.Plan.{ScenarioData, IsScenario}
 use Rattle.txn_replay.specs.Reading.{ReadReached, turned, ReadRun, is_read, data_at, ending_at, read_lines, to_read}
 use Rattle.txn_replay.specs.Sound.{IsSound, IsIdle}
-use Rattle.txn_replay.specs.World.{World}
+use Rattle.txn_replay.specs.World.{World, lane_at}
 use Rattle.txn_replay.specs.declared.event.Event.TheVariants.{Turn}
 use Rattle.txn_replay.specs.Seen.{WorldSeen, WorldStands, turns_left}
 
@@ -29,22 +30,27 @@ module _ (s : ScenarioData) (v after : WorldSeen) (told : v.scenario ≡ s) (sam
   pub read_more : ((w : World) → WorldStands v w → Makes after w (Turn 0) shown_lines old new) → ReadFar s after first new
   read_more makes =
       more s (Turn 0) shown_lines v after (same ∙ told) (ReadReached s) (ReadReached s) first old new
-      (λ n cs c ls made w next reached stands there step. turned reached (still_unread w stands) step) (λ w stands. tt) makes far
+      (λ n cs c ls made w next reached stands there step. turned reached (still_unread w stands) step) (λ w stands. tt) (λ n cs ls w reached. makes w) far
 
   pub read_cut : ((w : World) → WorldStands v w → Fails v.scenario after w (Turn 0) shown_lines old new) → Stopped s shown_lines (Reads s) (WorldStands after) first new
   read_cut fails =
       halts s (Turn 0) shown_lines v after (same ∙ told) (ReadReached s) (Reads s) first old new (λ n cs ls w reached. (read_tail s w, (reached, refl)))
       (λ n cs c ls made w next reached stands there step. (read_tail s next, (turned reached (still_unread w stands) step, refl))) far
-      (subst (λ (t : ScenarioData). (w : World) → WorldStands v w → Fails t after w (Turn 0) shown_lines old new) told fails)
+      (λ n cs ls w reached. subst (λ (t : ScenarioData). (w : World) → WorldStands v w → Fails t after w (Turn 0) shown_lines old new) told fails w)
 
   -- the lane goes on, so fewer turns are left
-  pub read_nearer : IsScenario s → 1 ≤ length (first_purchases s.lanes) → (went : Bool) → (went ≡ true → turns_left after < turns_left v)
-      → (went ≡ false → (w : World) → WorldStands v w → IsIdle v.scenario w 0) → turns_left after < turns_left v
-  read_nearer is some true nearer idle = nearer refl
-  read_nearer is some false nearer idle =
+  pub read_nearer : (whole : ScenarioData) → s ≡ to_read whole → IsScenario s → 1 ≤ length (first_purchases s.lanes) → (went : Bool)
+      → (went ≡ true → turns_left after < turns_left v) → (went ≡ false → (w : World) → WorldStands v w → IsIdle v.scenario w 0)
+      → turns_left after < turns_left v
+  read_nearer whole same_read is some true nearer idle = nearer refl
+  read_nearer whole same_read is some false nearer idle =
       let sound : IsSound s far.world = subst (λ (t : ScenarioData). IsSound t far.world) told far.stands.sound in
       let waits : IsIdle s far.world 0 = subst (λ (t : ScenarioData). IsIdle t far.world 0) told (idle refl far.world far.stands) in
-      absurd (goes_on s far.world sound (others_rest s far.count far.choices far.lines far.world far.reached) is some (still_unread far.world far.stands) waits)
+      let none : (lane_at far.world 0).ended ≡ [] =
+      none_ended_yet whole far.count far.choices far.lines far.world
+      (subst (λ (t : ScenarioData). ReadReached t far.count far.choices far.lines far.world) same_read far.reached)
+      (subst (λ (t : ScenarioData). is_read t far.world ≡ false) same_read (still_unread far.world far.stands)) in
+      absurd (goes_on s far.world sound (others_rest s far.count far.choices far.lines far.world far.reached) is some none waits)
 
 module _ (s : ScenarioData) (v : WorldSeen) (told : v.scenario ≡ s) (first old new : Option (List ℕ)) (far : ReadFar s v first old) where
   pub short_now : (w : World) × WorldStands v w × IfSome (data_at v.scenario w 0) IsShort

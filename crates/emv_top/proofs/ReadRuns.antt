@@ -1,10 +1,8 @@
 -- The reading of a card as a run of a scenario.
-use Rattle.std.proofs.Common.{◌≡◌, ◌≢◌, ◌⊎◌, ℕ, zero, suc, ◌<◌, ◌≤◌, Bool, false, List, [], ◌∷◌, ◌++◌, length, replicate, slice_get, Option, Some, None, refl, ap, ◌∙◌, subst, inl, inr, arith}
+use Rattle.std.proofs.Common.{◌≡◌, ◌≢◌, ◌⊎◌, ℕ, zero, suc, ◌<◌, ◌≤◌, Bool, List, [], ◌∷◌, ◌++◌, length, replicate, slice_get, Option, Some, None, refl, ap, ◌∙◌, subst, inl, inr, arith}
 use Rattle.std.specs.Prelude.{option_and_then, option_map}
 use Rattle.std.specs.List.{All}
-use Rattle.emv_dict.specs.declared.ending.Ending.{Ending}
 use Rattle.emv_top.specs.Input.{first_purchases}
-use Rattle.object_lists.specs.CardRead.{ReadCard}
 use Rattle.report_text.specs.declared.line.Line.{Line}
 use Rattle.scenario.specs.Cards.{CardData}
 use Rattle.scenario.specs.Plan.{ScenarioData, IsScenario}
@@ -12,7 +10,7 @@ use Rattle.scenario_lanes.specs.Plan.{LaneData, HasCards}
 use Rattle.scenario_lanes.specs.declared.plan.Planned.{Planned}
 use Rattle.txn_replay.specs.Laws.{RunsAreFair, IsFair}
 use Rattle.txn_replay.specs.Payment.{Payment, payment_with, payment_of, payment_on, payment_in, next_of}
-use Rattle.txn_replay.specs.Reading.{ReadReached, start, turned, is_read, is_read_by, data_at, ending_at, last_past}
+use Rattle.txn_replay.specs.Reading.{ReadReached, start, turned}
 use Rattle.txn_replay.specs.Run.{Reached, Scheduled}
 use Rattle.txn_replay.specs.Run as run
 use Rattle.txn_replay.specs.Sound.{IsSound, IsIdle, IsHeld, HeldBy}
@@ -62,20 +60,6 @@ others_rest s _ _ _ _ start l other = get_or-map_const s.lanes l new_lane
 others_rest s _ _ _ _ (turned {n} {cs} {c} {ls} {new} {w} {w' = after} before unread step) l other =
     ap (λ (v : World). lane_at v l) step.leads ∙ (lanes_apart s w 0 c).lanes l other ∙ others_rest s n cs ls w before l other
 
--- no purchase has ended that has no ending
-some_past : (past : Past) (pasts : List Past) → option_map (λ (p : Past). p.end.ending) (last_past (past ∷ pasts)) ≡ None → ⊥
-some_past past [] none = cc
-some_past past (other ∷ others) none = some_past other others none
-
-pub none_past : (pasts : List Past) → option_map (λ (p : Past). p.end.ending) (last_past pasts) ≡ None → pasts ≡ []
-none_past [] none = refl
-none_past (past ∷ pasts) none = absurd (some_past past pasts none)
-
-pub none_ended : (found : Option ReadCard) (ending : Option Ending) → is_read_by found ending ≡ false → ending ≡ None
-none_ended (Some card) ending unread = cc
-none_ended None None unread = refl
-none_ended None (Some ending) unread = cc
-
 -- the first lane's first purchase is one of the scenario's
 pub some_payment : (s : ScenarioData) → IsScenario s → 1 ≤ length (first_purchases s.lanes) → (p : Payment) × (payment_in s 0 0 ≡ Some p)
 unfolding payment_in
@@ -120,12 +104,9 @@ module _ (s : ScenarioData) (w : World) (sound : IsSound s w) (rests : OthersRes
           let new : (lane_at w (suc l)).running ≡ None = ap (λ (row : LaneRow). row.running) (rests (suc l) (omega arith)) in
           cc
 
-  pub goes_on : IsScenario s → 1 ≤ length (first_purchases s.lanes) → is_read s w ≡ false → IsIdle s w 0 → ⊥
-  goes_on is some unread idle = by_wait idle.waits
+  pub goes_on : IsScenario s → 1 ≤ length (first_purchases s.lanes) → (lane_at w 0).ended ≡ [] → IsIdle s w 0 → ⊥
+  goes_on is some ended idle = by_wait idle.waits
     where
-      ended : (lane_at w 0).ended ≡ []
-      ended = none_past (lane_at w 0).ended (none_ended (data_at s w 0) (ending_at w 0) unread)
-
       next : (p : Payment) × (next_of s w 0 ≡ Some p)
       next =
           let first : (p : Payment) × (payment_in s 0 0 ≡ Some p) = some_payment s is some in

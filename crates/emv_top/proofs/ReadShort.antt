@@ -1,8 +1,9 @@
 -- What a reading gives has no value longer than an answer.
-use Rattle.std.proofs.Common.{◌≡◌, ℕ, Bool, List, [], ◌∷◌, ◌++◌, Option, Some, None, subst, sym}
+use Rattle.std.proofs.Common.{◌≡◌, ℕ, Bool, List, [], ◌∷◌, Option, Some, None, subst, sym}
 use Rattle.std.specs.Prelude.{IfSome, option_and_then}
 use Rattle.std.specs.List.{AllByRecursion}
 use Rattle.emv_top.proofs.DialogueShort.{latest_short, dialogue_short}
+use Rattle.emv_top.proofs.Pasts.{lane_pasts}
 use Rattle.emv_top.specs.Short.{IsShort}
 use Rattle.kernel.specs.Dialogue.{dialogue}
 use Rattle.kernel.specs.Ended.{EndData, end_by, end_with}
@@ -11,23 +12,18 @@ use Rattle.report_text.specs.declared.line.Line.{Line}
 use Rattle.scenario.specs.Plan.{ScenarioData}
 use Rattle.terminal_state.specs.Marks.{moment, latest, card_of}
 use Rattle.txn_replay.proofs.Lists.{at_set, get_or-map_const}
-use Rattle.txn_replay.specs.Part.{Part, piece}
+use Rattle.txn_replay.specs.Part.{Part}
 use Rattle.txn_replay.specs.Payment.{Payment, deal_for, end_at, next_of}
 use Rattle.txn_replay.specs.Reading.{ReadReached, start, turned, data_at, data_by, last_past, past_card}
 use Rattle.txn_replay.specs.Steps.{part_of, choice_in, turned_by}
-use Rattle.txn_replay.specs.World.{Past, CardRow, LaneRow, World, new_lane, lane_at}
-use Rattle.txn_replay.proofs.Exchanging.{Tells, piece_tells}
-use Rattle.txn_replay.proofs.Sending.{Later, later_ended}
+use Rattle.txn_replay.specs.Storing.{lane_piece}
+use Rattle.txn_replay.specs.World.{Past, LaneRow, World, new_lane, lane_at}
 
 abbrev pub IsShortPast : Past → Type 0
-IsShortPast past = IfSome past.end.card IsShort
+IsShortPast past = IfSome (past_card past) IsShort
 
 abbrev pub LaneShort : LaneRow → Type 0
 LaneShort row = AllByRecursion IsShortPast row.ended
-
-push_short : (pasts : List Past) (past : Past) → AllByRecursion IsShortPast pasts → IsShortPast past → AllByRecursion IsShortPast (pasts ++ past ∷ [])
-push_short [] past all one = (one, tt)
-push_short (first ∷ pasts) past all one = (all.0, push_short pasts past all.1 one)
 
 last_short : (pasts : List Past) → AllByRecursion IsShortPast pasts → IfSome (option_and_then past_card (last_past pasts)) IsShort
 last_short [] all = tt
@@ -44,32 +40,6 @@ end_short p replies end is = go (dialogue (deal_for p) replies).deed is
         let same : end_with (deal_for p) ending (latest card_of None (dialogue (deal_for p) replies).marks) (moment (dialogue (deal_for p) replies).marks) ≡ end = cc in
         subst (λ (e : EndData). IfSome e.card IsShort) same (latest_short (dialogue (deal_for p) replies).marks (dialogue_short (deal_for p) replies))
 
-module _ (p : Payment) (part : Part) (before : LaneShort part.lane) where
-  abbrev Came : LaneRow → List Reply → CardRow → List (List ℕ) → List Line → Type 0
-  Came lane replies card messages lines = Unit {0}
-
-  abbrev Behind : Part → List Line → Type 0
-  Behind after lines = LaneShort after.lane
-
-  later_short : (lane : LaneRow) → Later part.lane lane → LaneShort lane
-  later_short lane later = subst (λ (pasts : List Past). AllByRecursion IsShortPast pasts) (sym (later_ended part.lane lane later)) before
-
-  tells_short : Tells p part Came Behind
-  tells_short = record {
-    still = before;
-    goes = λ lane later replies card messages lines came. later_short lane later;
-    ends = λ lane later replies card messages lines came end is.
-        push_short lane.ended (record { began = lane.began; replies = replies; end = end }) (later_short lane later) (end_short p replies end is);
-    powers = λ rests free apps choice. tt;
-    power_cut = λ rests free apps is. tt;
-    powers_canned = λ rests free answers canned. tt;
-    answers = λ replies runs apps command asks. tt;
-    cuts = λ replies runs command cut at. tt;
-    tells = λ replies runs answers canned command answer. tt;
-    gone = λ replies runs answers canned command. tt;
-    hosts = λ replies runs message asks reply is. tt;
-  }
-
 abbrev pub AllLanesShort : World → Type 0
 AllLanesShort w = (l : ℕ) → LaneShort (lane_at w l)
 
@@ -77,8 +47,8 @@ turn_short : (s : ScenarioData) (w : World) (choices : List Bool) (o : Option Pa
 turn_short s w choices None all = all
 turn_short s w choices (Some p) all =
     let part : Part = part_of w 0 p.planned.card in
-    at_set (λ (l : ℕ) (row : LaneRow). LaneShort row) w.lanes 0 (piece p part (choice_in choices 0)).part.lane new_lane
-    (piece_tells p part (Came p part (all 0)) (Behind p part (all 0)) (tells_short p part (all 0)) (choice_in choices 0)) all
+    at_set (λ (l : ℕ) (row : LaneRow). LaneShort row) w.lanes 0 (lane_piece p part (choice_in choices 0) (choice_in choices 1)).part.lane new_lane
+    (lane_pasts IsShortPast p (λ began replies end lost is. end_short p replies end is) (λ n cut. tt) part (all 0) (choice_in choices 0) (choice_in choices 1)) all
 
 lanes_short : (s : ScenarioData) (n : ℕ) (cs : List Bool) (ls : List Line) (w : World) → ReadReached s n cs ls w → AllLanesShort w
 lanes_short s _ _ _ _ start l = subst LaneShort (sym (get_or-map_const s.lanes l new_lane)) tt

@@ -30,19 +30,31 @@ Grows s v e here there =
 
 module _ (s : ScenarioData) (e : Event) (v after : WorldSeen) (told : v.scenario ≡ s) (same : after.scenario ≡ v.scenario) (here there : Place)
     (grows : Grows s v e here there) (first old new : Option (List ℕ)) where
-  pub onward : ((w : World) → WorldStands v w → IsThere v.scenario w e) → ((w : World) → WorldStands v w → Makes after w e all_lines old new)
+  -- by what is known of a world that has come here
+  pub onward_from : ((w : World) → WorldStands v w → IsThere v.scenario w e)
+      → ((n : ℕ) (cs : List Bool) (ls : List Line) (w : World) → Reached s here n cs ls w → WorldStands v w → Makes after w e all_lines old new)
       → SoFar (Reached s here) (WorldStands v) first old → SoFar (Reached s there) (WorldStands after) first new
-  onward is_there makes far =
+  onward_from is_there makes far =
       more s e all_lines v after (same ∙ told) (Reached s here) (Reached s there) first old new grows
       (subst (λ (t : ScenarioData). (w : World) → WorldStands v w → IsThere t w e) told is_there) makes far
 
-  pub cut_off : ((w : World) → tail_at s here w ≡ []) → ((w : World) → tail_at s there w ≡ []) → ((w : World) → WorldStands v w → Fails v.scenario after w e all_lines old new)
+  pub onward : ((w : World) → WorldStands v w → IsThere v.scenario w e) → ((w : World) → WorldStands v w → Makes after w e all_lines old new)
+      → SoFar (Reached s here) (WorldStands v) first old → SoFar (Reached s there) (WorldStands after) first new
+  onward is_there makes far = onward_from is_there (λ n cs ls w reached. makes w) far
+
+  pub cut_off_from : ((w : World) → tail_at s here w ≡ []) → ((w : World) → tail_at s there w ≡ [])
+      → ((n : ℕ) (cs : List Bool) (ls : List Line) (w : World) → Reached s here n cs ls w → WorldStands v w → Fails v.scenario after w e all_lines old new)
       → SoFar (Reached s here) (WorldStands v) first old → Stopped s all_lines (Replays s) (WorldStands after) first new
-  cut_off none_here none_there fails far =
+  cut_off_from none_here none_there fails far =
       halts s e all_lines v after (same ∙ told) (Reached s here) (Replays s) first old new
       (λ n cs ls w reached. ([], (here, reached, sym (none_here w))))
       (λ n cs c ls made w next reached stands is_there step. ([], (there, grows n cs c ls made w next reached stands is_there step, sym (none_there next)))) far
-      (subst (λ (t : ScenarioData). (w : World) → WorldStands v w → Fails t after w e all_lines old new) told fails)
+      (subst (λ (t : ScenarioData). (n : ℕ) (cs : List Bool) (ls : List Line) (w : World) → Reached s here n cs ls w → WorldStands v w
+      → Fails t after w e all_lines old new) told fails)
+
+  pub cut_off : ((w : World) → tail_at s here w ≡ []) → ((w : World) → tail_at s there w ≡ []) → ((w : World) → WorldStands v w → Fails v.scenario after w e all_lines old new)
+      → SoFar (Reached s here) (WorldStands v) first old → Stopped s all_lines (Replays s) (WorldStands after) first new
+  cut_off none_here none_there fails far = cut_off_from none_here none_there (λ n cs ls w reached. fails w) far
 
 -- in each turn of a round the turns that are left become fewer, or the lane waits and nothing changes
 abbrev pub Onward : ScenarioData → WorldSeen → WorldSeen → ℕ → Type 0

@@ -5,15 +5,16 @@ use Rattle.std.proofs.lemmas.Option.{same_Some}
 use Rattle.card_app.specs.Answering.{card_answer}
 use Rattle.card_pages.specs.Pages.{found_of}
 use Rattle.emv_top.specs.Answers.{AreSettled}
-use Rattle.emv_top.proofs.Uncut.{IsSettled, piece_card}
+use Rattle.emv_top.proofs.Uncut.{IsSettled, lane_card}
 use Rattle.report_text.specs.declared.line.Line.{Line}
 use Rattle.scenario.specs.Cards.{CardData}
 use Rattle.scenario.specs.Plan.{ScenarioData}
 use Rattle.txn_replay.specs.Changes.{powered, exchanged}
-use Rattle.txn_replay.specs.Part.{piece}
+use Rattle.txn_replay.specs.Part.{Moved}
 use Rattle.txn_replay.specs.Payment.{Payment, next_of}
 use Rattle.txn_replay.specs.Run.{Place, Scheduled, Round, Settling, Auditing, Finished, Reached, start, scheduled, rounds, round, again, settlement, settling, audit, auditing, finished}
-use Rattle.txn_replay.specs.Steps.{Settlement, settlements, settles, Check, PowersUp, Asks, card_checks, checks_from, checks, audits, part_of, choice_in, turned_by, happens}
+use Rattle.txn_replay.specs.Steps.{Settlement, Opens, Sends, settlements, settles, Check, PowersUp, Asks, card_checks, checks_from, checks, audits, part_of, choice_in, turned_by, happens}
+use Rattle.txn_replay.specs.Storing.{lane_piece}
 use Rattle.txn_replay.specs.World.{CardRow, World, new_card, first_world, card_at, lane_at}
 use Rattle.txn_replay.specs.declared.event.Event.{Event}
 use Rattle.txn_replay.specs.declared.event.Event.TheVariants.{Turn, Settle, Audit}
@@ -134,28 +135,30 @@ module _ (s : ScenarioData) where
   turn_canned w l choices None is before = before
   turn_canned w l choices (Some p) is before =
       at_set (λ (i : ℕ) (row : CardRow). (card : CardData) (answers : List (List ℕ)) → slice_get s.cards i ≡ Some card → card.canned ≡ Some answers → IsSettled row)
-      w.cards p.planned.card (piece p (part_of w l p.planned.card) choice).part.card new_card here before
+      w.cards p.planned.card m.part.card new_card here before
     where
-      choice : Bool
-      choice = choice_in choices 0
+      m : Moved
+      m = lane_piece p (part_of w l p.planned.card) (choice_in choices 0) (choice_in choices 1)
 
       here : (card : CardData) (answers : List (List ℕ)) → slice_get s.cards p.planned.card ≡ Some card → card.canned ≡ Some answers
-          → IsSettled (piece p (part_of w l p.planned.card) choice).part.card
+          → IsSettled m.part.card
       here card answers there canned =
           let same : p.card ≡ card = same_Some p.card card (sym (payment_facts s l (length (lane_at w l).ended) p is).card ∙ there) in
           let its : p.card.canned ≡ Some answers = ap (λ (x : CardData). x.canned) same ∙ canned in
-          piece_card p (part_of w l p.planned.card) (λ apps. absurd (not_both its apps)) (before p.planned.card card answers there canned) choice
+          lane_card p (part_of w l p.planned.card) (λ apps. absurd (not_both its apps)) (before p.planned.card card answers there canned)
+          (choice_in choices 0) (choice_in choices 1)
         where
           not_both : p.card.canned ≡ Some answers → p.card.canned ≡ None → ⊥
           not_both some none = cc
 
-  settle_canned : (w : World) (o : Option Settlement) → CannedSettled s w → CannedSettled s (settles s w o).world
-  settle_canned w None before = before
-  settle_canned w (Some at) before = before
+  settle_canned : (w : World) (choices : List Bool) (o : Option Settlement) → CannedSettled s w → CannedSettled s (settles s w choices o).world
+  settle_canned w choices None before = before
+  settle_canned w choices (Some (Opens l)) before = before
+  settle_canned w choices (Some (Sends l message drops)) before = before
 
   event_canned : (w : World) (e : Event) (choices : List Bool) → CannedSettled s w → CannedSettled s (happens s w e choices).world
   event_canned w (Turn l) choices before = turn_canned w l choices (next_of s w l) refl before
-  event_canned w (Settle k) choices before = settle_canned w (slice_get (settlements s w) k) before
+  event_canned w (Settle k) choices before = settle_canned w choices (slice_get (settlements s w) k) before
   event_canned w (Audit k) choices before =
       λ i card answers there canned. check_keeps w choices (slice_get (checks s) k) i (before i card answers there canned)
 

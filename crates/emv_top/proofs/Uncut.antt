@@ -1,5 +1,6 @@
 -- A card whose power no tear cuts has no open decision behind an exchange.
 use Rattle.std.proofs.Common.{◌≡◌, ℕ, ◌+◌, Bool, true, false, List, [], ◌∷◌, ◌++◌, slice_get, Option, Some, None, option_map, refl, ap, ◌∙◌}
+use Rattle.capture_store.specs.StoreRow.{is_cut, opened_to_add}
 use Rattle.card_app.specs.Answering.{card_answer}
 use Rattle.card_pages.specs.Cuts.{Cut, cut_of, behind_one}
 use Rattle.card_pages.specs.Pages.{found_of}
@@ -15,8 +16,10 @@ use Rattle.txn_replay.specs.Changes.{powered, exchanged, told_once}
 use Rattle.txn_replay.specs.Lines.{answer_lines, gone_lines}
 use Rattle.txn_replay.specs.Part.{Part, settled_by, cut_ends, answered, canned_by, asked_by, asked, begun, begun_by, begun_with, piece_by, piece}
 use Rattle.txn_replay.specs.Payment.{Payment, deal_for, end_at}
+use Rattle.txn_replay.specs.Storing.{part_with, copied, copy_lines, dropped_by, delivers_first, lane_piece}
 use Rattle.txn_replay.specs.World.{Holder, CardRow, LaneRow, with_sent}
 use Rattle.txn_replay.proofs.Moves.{this_one}
+use Rattle.txn_replay.proofs.Ways.{lane_ways}
 
 abbrev pub IsSettled : CardRow → Type 0
 IsSettled row = row.pending ≡ None
@@ -84,3 +87,24 @@ module _ (p : Payment) (part : Part) (spared : p.card.canned ≡ None → p.plan
       by_lane : (o : Option (List Reply)) → IsSettled (piece_by p part choice o).part.card
       by_lane None = begins part.card.holder
       by_lane (Some replies) = ask_card replies (dialogue (deal_for p) replies).deed
+
+-- what comes before a purchase leaves its card
+module _ (p : Payment) (part : Part) (spared : p.card.canned ≡ None → p.planned.tear ≡ None) (before : IsSettled part.card) where
+  pub lane_card : (one other : Bool) → IsSettled (lane_piece p part one other).part.card
+  lane_card one other =
+      lane_ways (λ m. IsSettled m.part.card) p part
+      before
+      (λ choice so. piece_card p part spared before choice)
+      (λ at off cut. before)
+      (λ choice at off full. before)
+      (λ choice second at off room. piece_card p (part_with (opened_to_add part.lane.store choice) part) spared before second)
+      (λ at on. delivered part.lane.store.list)
+      one other
+    where
+      delivered : (list : List (List ℕ)) → IsSettled (delivers_first p part list).part.card
+      delivered [] = before
+      delivered (message ∷ others) = by (is_cut p.planned.terminal_tear part.lane.store)
+        where
+          by : (cut : Bool) → IsSettled (dropped_by p (copied p message part) (copy_lines p message part.messages p.copies) cut).part.card
+          by true = before
+          by false = before

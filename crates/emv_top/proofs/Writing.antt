@@ -15,42 +15,40 @@ use Rattle.emv_top.specs.Texts.{text_of}
 pub text_of-append : (xs ys : List Line) → text_of (xs ++ ys) ≡ text_of xs ++ text_of ys
 text_of-append xs ys = flat_map-append line_text xs ys
 
--- a text of a list's elements, one by one
-module _ {A : Type 0} (f : A → List Line) (xs : List A) (i : ℕ) (x : A) (within : i < length xs) (is : x ≡ get_or xs i x) where
-  split : text_of (flat_map f (drop i xs)) ≡ text_of (f x) ++ text_of (flat_map f (drop (i + 1) xs))
-  split =
-      ap (λ (ys : List A). text_of (flat_map f ys)) (drop_more xs i x within)
-      ∙ ap (λ (y : A). text_of (flat_map f (y ∷ drop (i + 1) xs))) (sym is)
-      ∙ ap text_of (flat_map-cons f x (drop (i + 1) xs))
-      ∙ text_of-append (f x) (flat_map f (drop (i + 1) xs))
+-- the element at a place, and those behind it
+pub drop_split : {A : Type 0} → (xs : List A) (i : ℕ) (x : A) → i < length xs → x ≡ get_or xs i x → drop i xs ≡ x ∷ drop (i + 1) xs
+drop_split xs i x within is = drop_more xs i x within ∙ ap (λ y. y ∷ drop (i + 1) xs) (sym is)
 
-  pub piece_more : (old mid new : Option (List ℕ)) (whole : List ℕ) → IsSoFar old mid (text_of (flat_map f (drop i xs))) whole
-      → Appends mid new (text_of (f x)) → IsSoFar old new (text_of (flat_map f (drop (i + 1) xs))) whole
+-- a text of elements that are left, of which the first is written
+module _ {A : Type 0} (f : A → List Line) (left rest : List A) (x : A) (is : left ≡ x ∷ rest) where
+  split : text_of (flat_map f left) ≡ text_of (f x) ++ text_of (flat_map f rest)
+  split = ap (λ (ys : List A). text_of (flat_map f ys)) is ∙ ap text_of (flat_map-cons f x rest) ∙ text_of-append (f x) (flat_map f rest)
+
+  pub piece_more : (old mid new : Option (List ℕ)) (whole : List ℕ) → IsSoFar old mid (text_of (flat_map f left)) whole
+      → Appends mid new (text_of (f x)) → IsSoFar old new (text_of (flat_map f rest)) whole
   piece_more old mid new whole so_far more =
-      IsSoFar_more old mid new (text_of (f x)) (text_of (flat_map f (drop (i + 1) xs))) whole
+      IsSoFar_more old mid new (text_of (f x)) (text_of (flat_map f rest)) whole
       (subst (λ (t : List ℕ). IsSoFar old mid t whole) split so_far) more
 
-  pub piece_front : (old mid new : Option (List ℕ)) (whole : List ℕ) → IsSoFar old mid (text_of (flat_map f (drop i xs))) whole
+  pub piece_front : (old mid new : Option (List ℕ)) (whole : List ℕ) → IsSoFar old mid (text_of (flat_map f left)) whole
       → AppendsFront mid new (text_of (f x)) → AppendsFront old new whole
   piece_front old mid new whole so_far stopped =
-      IsSoFar_front old mid new (text_of (f x)) (text_of (flat_map f (drop (i + 1) xs))) whole
+      IsSoFar_front old mid new (text_of (f x)) (text_of (flat_map f rest)) whole
       (subst (λ (t : List ℕ). IsSoFar old mid t whole) split so_far) stopped
 
--- a text of lines, one by one
-module _ (lines : List Line) (i : ℕ) (line : Line) (within : i < length lines) (is : line ≡ get_or lines i line) where
-  split_line : text_of (drop i lines) ≡ line_text line ++ text_of (drop (i + 1) lines)
-  split_line =
-      ap text_of (drop_more lines i line within) ∙ ap (λ (x : Line). text_of (x ∷ drop (i + 1) lines)) (sym is)
-      ∙ flat_map-cons line_text line (drop (i + 1) lines)
+-- a text of lines that are left, of which the first is written
+module _ (left rest : List Line) (line : Line) (is : left ≡ line ∷ rest) where
+  split_line : text_of left ≡ line_text line ++ text_of rest
+  split_line = ap text_of is ∙ flat_map-cons line_text line rest
 
-  pub line_more : (old mid new : Option (List ℕ)) (whole : List ℕ) → IsSoFar old mid (text_of (drop i lines)) whole
-      → Appends mid new (line_text line) → IsSoFar old new (text_of (drop (i + 1) lines)) whole
+  pub line_more : (old mid new : Option (List ℕ)) (whole : List ℕ) → IsSoFar old mid (text_of left) whole
+      → Appends mid new (line_text line) → IsSoFar old new (text_of rest) whole
   line_more old mid new whole so_far more =
-      IsSoFar_more old mid new (line_text line) (text_of (drop (i + 1) lines)) whole
+      IsSoFar_more old mid new (line_text line) (text_of rest) whole
       (subst (λ (t : List ℕ). IsSoFar old mid t whole) split_line so_far) more
 
-  pub line_front : (old mid new : Option (List ℕ)) (whole : List ℕ) → IsSoFar old mid (text_of (drop i lines)) whole
+  pub line_front : (old mid new : Option (List ℕ)) (whole : List ℕ) → IsSoFar old mid (text_of left) whole
       → AppendsFront mid new (line_text line) → AppendsFront old new whole
   line_front old mid new whole so_far stopped =
-      IsSoFar_front old mid new (line_text line) (text_of (drop (i + 1) lines)) whole
+      IsSoFar_front old mid new (line_text line) (text_of rest) whole
       (subst (λ (t : List ℕ). IsSoFar old mid t whole) split_line so_far) stopped

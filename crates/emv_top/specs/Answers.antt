@@ -38,18 +38,12 @@ pub record Unbegun (bank : List Memory) (tally : Counts) : Type 0 where
   pub blank : All IsBlank bank
   pub none : tally ≡ no_counts
 
--- the pages that no card has
-pub record AreSpare (cards : ℕ) (spare : List Memory) : Type 0 where
-  pub blank : All IsBlank spare
-  pub count : length spare ≡ 64 - cards
-  pub few : cards ≤ 64
-
--- what a run that has led to this world leaves: the pages of each card with applications stand for its decisions, all
--- others are blank, the tally counts the ended purchases, and the world keeps to the laws of runs
+-- what a run that has led to this world leaves: the pages of each card with applications stand for its decisions, those of
+-- each lane's store for its list, all others are blank, the tally counts the ended purchases, and the world keeps to the laws
+-- of runs
 pub record Leaves (s : ScenarioData) (bank : List Memory) (tally : Counts) (w : World) : Type 0 where
   pub pages : length bank ≡ 64
-  pub cards : BankStands s w bank
-  pub beyond : All IsBlank (drop (length s.cards) bank)
+  pub bank_stands : BankStands s w bank
   pub counted : tally ≡ counts w
   pub fair : IsFair s w
 

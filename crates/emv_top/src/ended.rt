@@ -2,7 +2,7 @@
 ghost use Rattle.std.specs.Prelude.{◌≡◌, map, length};
 ghost use Rattle.std.specs.List.{All};
 ghost use Rattle.emv_ports.specs.Memory.{IsBlank};
-ghost use Rattle.emv_top.specs.Answers.{AreSpare, Leaves, Refuses, SinkCount, Unbegun};
+ghost use Rattle.emv_top.specs.Answers.{Leaves, Refuses, SinkCount, Unbegun};
 ghost use Rattle.txn_replay.specs.Laws.{IsFair};
 ghost use Rattle.txn_replay.specs.World.{World as Told};
 ghost use Rattle.txn_replay.specs.Seen.{WorldStands};
@@ -61,7 +61,6 @@ pub fn refuse<P: Pages, K: Sink>(
 
 /// The end of a world.
 pub fn end_world<P: Pages>(status: Status, world: World<'_, P>) -> Ended<P>
-    requires { AreSpare (length world.scenario.cards) world.spare }
     ensures status { result.status ≡ status }
     ensures leaves { (w : Told) → WorldStands world.entry w → IsFair world.entry.scenario w
         → Leaves world.entry.scenario (map P.memory result.bank.items) result.tally w }

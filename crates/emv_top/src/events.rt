@@ -6,7 +6,8 @@ ghost use Rattle.txn_replay.specs.Sound.{IsIdle};
 ghost use Rattle.txn_replay.specs.Steps.{settlements, checks};
 ghost use Rattle.txn_replay.specs.World.{World as Told};
 ghost use Rattle.txn_replay.specs.declared.event.Event.{Event};
-ghost use Rattle.txn_replay.specs.Seen.{WorldStands, is_done, turns_left, IsNext};
+ghost use Rattle.txn_replay.specs.Seen.{WorldStands, is_done, turns_left, IsSettling, IsNext};
+ghost use Rattle.txn_replay.specs.Stored.{IsSettledTo};
 
 use crate::lines::{Room, write_lines, write_shown};
 use crate::stop::Stop;
@@ -28,12 +29,11 @@ pub fn turn<P: Pages, K: Sink>(
     ensures idle { IfOk result (λ went. went ≡ false → (w : Told) → WorldStands world.old w → IsIdle world.old.scenario w lane) }
     ensures still { IfOk result (λ went. went ≡ false → world.new ≡ world.old) }
     ensures scenario { world.new.scenario ≡ world.old.scenario }
-    ensures spare { world.new.spare ≡ world.old.spare }
     ensures stop { HasStop (K.faults sink.old) (K.faults sink.new) result }
 {
     room.lines.clear();
     match world.turn(lane, &mut room.lines) {
-        Ok(went) => match write_lines(room.lines.as_slice(), &mut room.text, sink) {
+        Ok(went) => match write_lines(&room.lines, &mut room.text, sink) {
             Ok(()) => Ok(went),
             Err(stop) => Err(stop),
         },
@@ -53,12 +53,11 @@ pub fn read_turn<P: Pages, K: Sink>(
     ensures nearer { IfOk result (λ went. went ≡ true → turns_left world.new < turns_left world.old) }
     ensures idle { IfOk result (λ went. went ≡ false → (w : Told) → WorldStands world.old w → IsIdle world.old.scenario w 0) }
     ensures scenario { world.new.scenario ≡ world.old.scenario }
-    ensures spare { world.new.spare ≡ world.old.spare }
     ensures stop { HasStop (K.faults sink.old) (K.faults sink.new) result }
 {
     room.lines.clear();
     match world.turn(0, &mut room.lines) {
-        Ok(went) => match write_shown(room.lines.as_slice(), &mut room.text, sink) {
+        Ok(went) => match write_shown(&room.lines, &mut room.text, sink) {
             Ok(()) => Ok(went),
             Err(stop) => Err(stop),
         },
@@ -66,27 +65,30 @@ pub fn read_turn<P: Pages, K: Sink>(
     }
 }
 
-/// The settlement message of this number; whether there is one.
+/// The step of the settlement of this number; whether there is one.
 pub fn settle<P: Pages, K: Sink>(
     number: u32,
     world: &mut World<'_, P>,
     room: &mut Room,
     sink: &mut K,
 ) -> Result<bool, Stop>
-    ensures ok { OnOk result ((w : Told) → WorldStands world.old w → Makes world.new w (Event.Settle number) all_lines (K.held sink.old) (K.held sink.new)) }
-    ensures err { OnErr result ((w : Told) → WorldStands world.old w → Fails world.old.scenario world.new w (Event.Settle number) all_lines (K.held sink.old) (K.held sink.new)) }
+    requires done { is_done world.old ≡ true }
+    requires next { IsSettling world.old number }
+    ensures ok { OnOk result ((w : Told) → WorldStands world.old w → IsSettledTo world.old.scenario w number
+        → Makes world.new w (Event.Settle number) all_lines (K.held sink.old) (K.held sink.new)) }
+    ensures err { OnErr result ((w : Told) → WorldStands world.old w → IsSettledTo world.old.scenario w number
+        → Fails world.old.scenario world.new w (Event.Settle number) all_lines (K.held sink.old) (K.held sink.new)) }
     ensures there { IfOk result (λ went. went ≡ true → (w : Told) → WorldStands world.old w → IsThere world.old.scenario w (Event.Settle number)) }
     ensures past { IfOk result (λ went. went ≡ false → (w : Told) → WorldStands world.old w → slice_get (settlements world.old.scenario w) number ≡ None) }
     ensures still { IfOk result (λ went. went ≡ false → (world.new ≡ world.old) × (sink.new ≡ sink.old)) }
-    ensures few { IfOk result (λ went. went ≡ true → number < 30000) }
+    ensures few { IfOk result (λ went. went ≡ true → number < 30352) }
     ensures done { is_done world.new ≡ is_done world.old }
     ensures scenario { world.new.scenario ≡ world.old.scenario }
-    ensures spare { world.new.spare ≡ world.old.spare }
     ensures stop { HasStop (K.faults sink.old) (K.faults sink.new) result }
 {
     room.lines.clear();
     match world.settle(number, &mut room.lines) {
-        Ok(true) => match write_lines(room.lines.as_slice(), &mut room.text, sink) {
+        Ok(true) => match write_lines(&room.lines, &mut room.text, sink) {
             Ok(()) => Ok(true),
             Err(stop) => Err(stop),
         },
@@ -113,14 +115,13 @@ pub fn audit<P: Pages, K: Sink>(
     ensures next { IfOk result (λ went. went ≡ true → IsNext world.new (number + 1)) }
     ensures done { is_done world.new ≡ true }
     ensures scenario { world.new.scenario ≡ world.old.scenario }
-    ensures spare { world.new.spare ≡ world.old.spare }
     ensures stop { HasStop (K.faults sink.old) (K.faults sink.new) result }
 {
     room.lines.clear();
     if !world.audit(number, &mut room.lines) {
         return Ok(false);
     }
-    match write_lines(room.lines.as_slice(), &mut room.text, sink) {
+    match write_lines(&room.lines, &mut room.text, sink) {
         Ok(()) => Ok(true),
         Err(stop) => Err(stop),
     }

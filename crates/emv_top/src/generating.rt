@@ -4,7 +4,7 @@ ghost use Rattle.std.specs.declared.option.Option.{Option};
 ghost use Rattle.std.specs.Io.{WritesAtMost};
 ghost use Rattle.std.specs.List.{All};
 ghost use Rattle.emv_ports.specs.Memory.{IsBlank};
-ghost use Rattle.emv_top.specs.Answers.{AreSettled, AreSpare, Completes, SinkCount};
+ghost use Rattle.emv_top.specs.Answers.{AreSettled, Completes, SinkCount};
 ghost use Rattle.emv_top.specs.Decided.{DecidedRun};
 ghost use Rattle.emv_top.specs.Generating.{Generates, booked, capped, paid, summary_of};
 ghost use Rattle.generated.specs.Generated.{generated_of};
@@ -95,7 +95,6 @@ fn sum_up<P: Pages, K: Sink>(
     requires rules { IsScenario scenario.now }
     requires is { scenario.now ≡ generated_of count }
     requires told { world.scenario ≡ scenario.now }
-    requires spare { AreSpare (length world.scenario.cards) world.spare }
     requires whole { Completes (DecidedRun scenario.now) (λ w. WorldStands world w × IsFair scenario.now w × AreSettled scenario.now w) None None }
     ensures generates { Generates count (K.held sink.old) (K.held sink.new) (map P.memory result.bank.items) result.tally result.status }
     ensures count { SinkCount (K.faults sink.old) (K.faults sink.new) result.status }

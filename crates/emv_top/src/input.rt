@@ -61,10 +61,11 @@ fn drop_tear(scenario: &mut Scenario)
 {
     if let Some(planned) = scenario.lanes[0].purchases.first_mut() {
         planned.tear = None;
+        planned.terminal_tear = None;
     }
 }
 
-/// Takes the tear off the first lane's first purchase.
+/// Takes the tears of card and terminal off the first lane's first purchase.
 pub fn take_tear(scenario: &mut Scenario)
     requires { IsScenario scenario.old }
     ensures taken { scenario.new ≡ to_read scenario.old }

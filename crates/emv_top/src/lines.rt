@@ -10,7 +10,7 @@ ghost use Rattle.emv_top.specs.Texts.{text_of};
 
 use crate::stop::Stop;
 use emv_ports::{Failed, Sink, write_all};
-use report_text::{Line, Text, write_line};
+use report_text::{Line, LineAt, Text, write_line, write_packed};
 use txn_replay::Lines;
 
 /// Where the lines of an event and the text of a line are made: one for a whole run.
@@ -31,27 +31,47 @@ impl Room {
     }
 }
 
-/// Hands a line to the sink, in one piece.
-pub fn emit<K: Sink>(line: &Line, text: &mut Text, sink: &mut K) -> Result<(), Stop>
-    ensures all { OnOk result (Appends (K.held sink.old) (K.held sink.new) (line_text line.now)) }
-    ensures front { OnErr result (AppendsFront (K.held sink.old) (K.held sink.new) (line_text line.now)) }
+/// Hands a line's text to the sink, in one piece.
+fn hand_over<K: Sink>(text: &Text, sink: &mut K) -> Result<(), Stop>
+    ensures all { OnOk result (Appends (K.held sink.old) (K.held sink.new) text.now.items) }
+    ensures front { OnErr result (AppendsFront (K.held sink.old) (K.held sink.new) text.now.items) }
     ensures stop { HasStop (K.faults sink.old) (K.faults sink.new) result }
 {
-    write_line(line, text);
     match write_all(sink, text.as_slice()) {
         Ok(()) => Ok(()),
         Err(Failed) => Err(Stop::Sink),
     }
 }
 
-/// Hands lines to the sink.
-pub fn write_lines<K: Sink>(lines: &[Line], text: &mut Text, sink: &mut K) -> Result<(), Stop>
-    ensures all { OnOk result (Appends (K.held sink.old) (K.held sink.new) (text_of lines.now)) }
-    ensures front { OnErr result (AppendsFront (K.held sink.old) (K.held sink.new) (text_of lines.now)) }
+/// Hands a line to the sink.
+pub fn emit<K: Sink>(line: &Line, text: &mut Text, sink: &mut K) -> Result<(), Stop>
+    ensures all { OnOk result (Appends (K.held sink.old) (K.held sink.new) (line_text line.now)) }
+    ensures front { OnErr result (AppendsFront (K.held sink.old) (K.held sink.new) (line_text line.now)) }
     ensures stop { HasStop (K.faults sink.old) (K.faults sink.new) result }
 {
-    for line in lines {
-        match emit(line, text, sink) {
+    write_line(line, text);
+    hand_over(text, sink)
+}
+
+/// Hands a line of an event to the sink.
+fn emit_packed<K: Sink>(line: &LineAt<'_>, text: &mut Text, sink: &mut K) -> Result<(), Stop>
+    ensures all { OnOk result (Appends (K.held sink.old) (K.held sink.new) (line_text line.now)) }
+    ensures front { OnErr result (AppendsFront (K.held sink.old) (K.held sink.new) (line_text line.now)) }
+    ensures stop { HasStop (K.faults sink.old) (K.faults sink.new) result }
+{
+    write_packed(line, text);
+    hand_over(text, sink)
+}
+
+/// Hands the lines of an event to the sink.
+pub fn write_lines<K: Sink>(lines: &Lines, text: &mut Text, sink: &mut K) -> Result<(), Stop>
+    ensures all { OnOk result (Appends (K.held sink.old) (K.held sink.new) (text_of lines.now.items)) }
+    ensures front { OnErr result (AppendsFront (K.held sink.old) (K.held sink.new) (text_of lines.now.items)) }
+    ensures stop { HasStop (K.faults sink.old) (K.faults sink.new) result }
+{
+    let mut left = lines.left();
+    while let Some(line) = left.next() {
+        match emit_packed(&line, text, sink) {
             Ok(()) => {}
             Err(stop) => return Err(stop),
         }
@@ -59,26 +79,27 @@ pub fn write_lines<K: Sink>(lines: &[Line], text: &mut Text, sink: &mut K) -> Re
     Ok(())
 }
 
-/// Hands a line to the sink that a reading shows: all but the end line.
-fn emit_shown<K: Sink>(line: &Line, text: &mut Text, sink: &mut K) -> Result<(), Stop>
+/// Hands a line of an event to the sink that a reading shows: all but an end line.
+fn emit_shown<K: Sink>(line: &LineAt<'_>, text: &mut Text, sink: &mut K) -> Result<(), Stop>
     ensures all { OnOk result (Appends (K.held sink.old) (K.held sink.new) (text_of (without_end line.now))) }
     ensures front { OnErr result (AppendsFront (K.held sink.old) (K.held sink.new) (text_of (without_end line.now))) }
     ensures stop { HasStop (K.faults sink.old) (K.faults sink.new) result }
 {
-    match line {
-        Line::End { .. } => Ok(()),
-        other => emit(other, text, sink),
+    if line.is_end() {
+        return Ok(());
     }
+    emit_packed(line, text, sink)
 }
 
-/// Hands the lines to the sink that a reading shows.
-pub fn write_shown<K: Sink>(lines: &[Line], text: &mut Text, sink: &mut K) -> Result<(), Stop>
-    ensures all { OnOk result (Appends (K.held sink.old) (K.held sink.new) (text_of (flat_map without_end lines.now))) }
-    ensures front { OnErr result (AppendsFront (K.held sink.old) (K.held sink.new) (text_of (flat_map without_end lines.now))) }
+/// Hands the lines of an event to the sink that a reading shows.
+pub fn write_shown<K: Sink>(lines: &Lines, text: &mut Text, sink: &mut K) -> Result<(), Stop>
+    ensures all { OnOk result (Appends (K.held sink.old) (K.held sink.new) (text_of (flat_map without_end lines.now.items))) }
+    ensures front { OnErr result (AppendsFront (K.held sink.old) (K.held sink.new) (text_of (flat_map without_end lines.now.items))) }
     ensures stop { HasStop (K.faults sink.old) (K.faults sink.new) result }
 {
-    for line in lines {
-        match emit_shown(line, text, sink) {
+    let mut left = lines.left();
+    while let Some(line) = left.next() {
+        match emit_shown(&line, text, sink) {
             Ok(()) => {}
             Err(stop) => return Err(stop),
         }

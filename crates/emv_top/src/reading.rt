@@ -127,13 +127,13 @@ pub fn read_through<P: Pages, K: Sink>(
 ) -> Result<(), Stop>
     requires rules { IsScenario scenario.now }
     requires some { 1 ≤ length (first_purchases scenario.now.lanes) }
+    requires untorn { (s : ScenarioData) × (scenario.now ≡ to_read s) }
     requires told { world.old.scenario ≡ scenario.now }
     requires start { WorldStands world.old (first_world scenario.now) }
     ensures ok { OnOk result ((s : ScenarioData) → scenario.now ≡ to_read s
         → Completes (ReadRun s) (WorldStands world.new) (K.held sink.old) (K.held sink.new)) }
     ensures err { OnErr result (Stopped scenario.now shown_lines (Reads scenario.now) (WorldStands world.new) (K.held sink.old) (K.held sink.new)) }
     ensures told { world.new.scenario ≡ scenario.now }
-    ensures spare { world.new.spare ≡ world.old.spare }
     ensures stop { HasStop (K.faults sink.old) (K.faults sink.new) result }
 {
     let mut room = Room::new();

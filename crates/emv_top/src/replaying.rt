@@ -2,7 +2,7 @@
 ghost use Rattle.std.specs.Prelude.{◌≡◌, ◌≢◌, ◌<◌, true, false, IfOk, IfErr, OnOk, OnErr, length, map};
 ghost use Rattle.std.specs.List.{All};
 ghost use Rattle.emv_ports.specs.Memory.{IsBlank};
-ghost use Rattle.emv_top.specs.Answers.{AreSettled, AreSpare, Completes, Plays, SinkCount};
+ghost use Rattle.emv_top.specs.Answers.{AreSettled, Completes, Plays, SinkCount};
 ghost use Rattle.emv_top.specs.Decided.{DecidedRun};
 ghost use Rattle.emv_top.specs.Courses.{Carries, Halts, IsAt, Replays, Stopped, all_lines};
 ghost use Rattle.emv_top.specs.Stops.{HasStop};
@@ -24,7 +24,10 @@ use crate::stop::Stop;
 use emv_ports::{Pages, Sink};
 use scenario::Scenario;
 use std::alloc::Global;
-use txn_replay::{NoWorld, World, dialects_show, losses_are_told, runs_are_fair};
+use txn_replay::{
+    NoWorld, World, captures_are_sent, dialects_show, lanes_stand_alone, losses_are_told,
+    runs_are_fair, stores_are_emptied,
+};
 
 /// The turns of the schedule.
 pub fn schedule<P: Pages, K: Sink>(
@@ -38,7 +41,6 @@ pub fn schedule<P: Pages, K: Sink>(
     ensures ok { OnOk result (Carries world.old world.new (K.held sink.old) (K.held sink.new) (Reached scenario.now (Scheduled 0)) (Reached scenario.now (Round 0))) }
     ensures err { OnErr result (Halts world.old world.new (K.held sink.old) (K.held sink.new) (Reached scenario.now (Scheduled 0)) scenario.now) }
     ensures told { world.new.scenario ≡ scenario.now }
-    ensures spare { world.new.spare ≡ world.old.spare }
     ensures stop { HasStop (K.faults sink.old) (K.faults sink.new) result }
 {
     for lane in &scenario.schedule {
@@ -64,7 +66,6 @@ fn round<P: Pages, K: Sink>(
     ensures err { OnErr result (Halts world.old world.new (K.held sink.old) (K.held sink.new) (Reached scenario.now (Round 0)) scenario.now) }
     ensures nearer { OnOk result (turns_left world.new < turns_left world.old) }
     ensures told { world.new.scenario ≡ scenario.now }
-    ensures spare { world.new.spare ≡ world.old.spare }
     ensures stop { HasStop (K.faults sink.old) (K.faults sink.new) result }
 {
     let lanes = scenario.lanes.as_slice();
@@ -91,7 +92,6 @@ pub fn rounds<P: Pages, K: Sink>(
     ensures err { OnErr result (Halts world.old world.new (K.held sink.old) (K.held sink.new) (Reached scenario.now (Round 0)) scenario.now) }
     ensures done { OnOk result (is_done world.new ≡ true) }
     ensures told { world.new.scenario ≡ scenario.now }
-    ensures spare { world.new.spare ≡ world.old.spare }
     ensures stop { HasStop (K.faults sink.old) (K.faults sink.new) result }
 {
     while !world.done() {
@@ -110,12 +110,14 @@ pub fn settlement<P: Pages, K: Sink>(
     room: &mut Room,
     sink: &mut K,
 ) -> Result<(), Stop>
+    requires rules { IsScenario scenario.now }
     requires told { world.old.scenario ≡ scenario.now }
+    requires done { is_done world.old ≡ true }
+    requires here { IsAt world.old (K.held sink.old) (Reached scenario.now (Settling 0)) }
     ensures ok { OnOk result (Carries world.old world.new (K.held sink.old) (K.held sink.new) (Reached scenario.now (Settling 0)) (Reached scenario.now (Auditing 0))) }
     ensures err { OnErr result (Halts world.old world.new (K.held sink.old) (K.held sink.new) (Reached scenario.now (Settling 0)) scenario.now) }
     ensures done { is_done world.new ≡ is_done world.old }
     ensures told { world.new.scenario ≡ scenario.now }
-    ensures spare { world.new.spare ≡ world.old.spare }
     ensures stop { HasStop (K.faults sink.old) (K.faults sink.new) result }
 {
     let mut number: u32 = 0;
@@ -140,7 +142,6 @@ pub fn audits<P: Pages, K: Sink>(
     ensures ok { OnOk result (Carries world.old world.new (K.held sink.old) (K.held sink.new) (Reached scenario.now (Auditing 0)) (Reached scenario.now Finished)) }
     ensures err { OnErr result (Halts world.old world.new (K.held sink.old) (K.held sink.new) (Reached scenario.now (Auditing 0)) scenario.now) }
     ensures told { world.new.scenario ≡ scenario.now }
-    ensures spare { world.new.spare ≡ world.old.spare }
     ensures stop { HasStop (K.faults sink.old) (K.faults sink.new) result }
 {
     let mut number: u32 = 0;
@@ -166,7 +167,6 @@ fn events<P: Pages, K: Sink>(
     ensures ok { OnOk result (Carries world.old world.new (K.held sink.old) (K.held sink.new) (Reached scenario.now (Scheduled 0)) (Reached scenario.now Finished)) }
     ensures err { OnErr result (Halts world.old world.new (K.held sink.old) (K.held sink.new) (Reached scenario.now (Scheduled 0)) scenario.now) }
     ensures told { world.new.scenario ≡ scenario.now }
-    ensures spare { world.new.spare ≡ world.old.spare }
     ensures stop { HasStop (K.faults sink.old) (K.faults sink.new) result }
 {
     schedule(scenario, world, room, sink)?;
@@ -187,7 +187,6 @@ pub fn replay_through<P: Pages, K: Sink>(
     ensures ok { OnOk result (Completes (Run scenario.now) (WorldStands world.new) (K.held sink.old) (K.held sink.new)) }
     ensures err { OnErr result (Stopped scenario.now all_lines (Replays scenario.now) (WorldStands world.new) (K.held sink.old) (K.held sink.new)) }
     ensures told { world.new.scenario ≡ scenario.now }
-    ensures spare { world.new.spare ≡ world.old.spare }
     ensures stop { HasStop (K.faults sink.old) (K.faults sink.new) result }
 {
     let mut room = Room::new();
@@ -210,7 +209,6 @@ pub fn replay_whole<'s, P: Pages, K: Sink>(
     ensures whole { IfOk result (λ world. Completes (DecidedRun scenario.now)
         (λ w. WorldStands world w × IsFair scenario.now w × AreSettled scenario.now w) (K.held sink.old) (K.held sink.new)) }
     ensures told { IfOk result (λ world. world.scenario ≡ scenario.now) }
-    ensures spare { IfOk result (λ world. AreSpare (length world.scenario.cards) world.spare) }
     ensures calm { OnOk result (K.faults sink.new ≡ K.faults sink.old) }
     ensures cut { IfErr result (λ ended. Plays Order.Replay scenario.now (K.held sink.old) (K.held sink.new) (map P.memory ended.bank.items) ended.tally ended.status) }
     ensures unfinished { IfErr result (λ ended. ended.status ≢ Status.Done) }
@@ -220,6 +218,9 @@ pub fn replay_whole<'s, P: Pages, K: Sink>(
     runs_are_decided();
     losses_are_told();
     dialects_show();
+    captures_are_sent();
+    stores_are_emptied();
+    lanes_stand_alone();
     match World::new(alloc, scenario, bank) {
         Ok(world) => {
             let mut world = world;

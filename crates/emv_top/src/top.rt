@@ -61,6 +61,7 @@ fn read_card<P: Pages, K: Sink>(
 ) -> Ended<P>
     requires rules { IsScenario scenario.now }
     requires some { 1 ≤ length (first_purchases scenario.now.lanes) }
+    requires untorn { (s : ScenarioData) × (scenario.now ≡ to_read s) }
     requires pages { length bank.items ≡ 64 }
     requires blank { All IsBlank (map P.memory bank.items) }
     ensures plays { (s : ScenarioData) → scenario.now ≡ to_read s
@@ -241,7 +242,7 @@ fn answer_words<P: Pages, S: Source, K: Sink>(
 pub struct Finished<P: Drop> {
     /// 0 done, 1 refused, 2 wrong words, 3 the source failed, 4 the sink failed, 5 no memory.
     pub status: u8,
-    /// The pages, each card's at its place.
+    /// The pages, each card's and each store's at their places.
     pub bank: Vec<P>,
     /// How many purchases ended in which way, and after how many replies.
     pub tally: Tally,
@@ -252,13 +253,13 @@ pub struct Finished<P: Drop> {
 /// The words are those behind the program's name. `read` and `replay` read a scenario, a TOML document of
 /// at most 4,194,304 bytes. `replay` makes all its purchases, by the schedule and then lane by lane, then the
 /// settlement and an audit of each card, and reports each exchange, each end, the balances and how many
-/// purchases ended. `read` makes the first lane's first purchase, without its tear, up to the end of
+/// purchases ended. `read` makes the first lane's first purchase, without its tears, up to the end of
 /// reading, and reports the exchanges and the card's data objects. Each line is handed to the sink as soon
 /// as it is made. `generate N` reads nothing: it replays the generated scenario of N purchases, from 1 to
 /// 10,000, and in place of its report sums up how many were approved, declined or ended otherwise, and what
 /// the accounts paid. `check` reads a trace, a TOML document of the same length, and says whether it is what
 /// its terminal says to the same answers, or which entry is the first that isn't. The bank has 64 blank pages
-/// that are off, for the cards in their order.
+/// that are off: the first ones for the cards in their order, the last ones, from the end, for the lanes' stores.
 pub fn run<P: Pages, S: Source, K: Sink>(
     alloc: Global,
     words: &[String],
@@ -270,9 +271,11 @@ pub fn run<P: Pages, S: Source, K: Sink>(
     requires blank { All IsBlank (map P.memory bank.items) }
 
     // 0: the bytes read are a scenario's, and of one run of it the sink got the text of its lines, the pages
-    // stand for its cards' decisions, and the tally is its count. No counter serves two purchases, power-ups
-    // find prefixes, and no transaction is booked twice. In a whole run each purchase without a tear whose card
-    // has applications and was well-formed at its power-up is approved or declined.
+    // stand for its cards' decisions and its stores' lists, and the tally is its count. No counter serves two
+    // purchases, power-ups find prefixes, and no transaction is booked twice. In a whole run each purchase without
+    // a tear whose card has applications and was well-formed at its power-up is approved or declined, of a lane that
+    // keeps its captures durably those that weren't lost are sent, and its store is empty, and a lane that shares no
+    // card and no account with others runs as if it were alone.
     ensures done { generate_of (map string_bytes words.now) ≡ None → spec.asks_check (map string_bytes words.now) ≡ false → result.status ≡ 0
         → (order : Order) × (order_of (map string_bytes words.now) ≡ Some order) × (bytes : List ℕ)
         × ReadsUpTo 4194305 (S.left source.old) (S.left source.new) bytes

@@ -7,6 +7,7 @@ use std::test::Fail;
 
 mod checking;
 mod documents;
+mod durable;
 mod faults;
 mod generating;
 mod rows;

@@ -1,13 +1,15 @@
 -- A generated scenario is a scenario, and its tears leave no choice.
-use Rattle.std.proofs.Common.{◌≡◌, ◌≢◌, ◌≤◌, ℕ, List, [], map, refl, arith}
+use Rattle.std.proofs.Common.{◌≡◌, ◌≢◌, ◌≤◌, ℕ, true, false, List, [], map, slice_get, Some, refl, subst, arith}
+use Rattle.std.proofs.lemmas.Option.{slice_get_within, get_or_from_slice_get}
 use Rattle.std.specs.Prelude.{IfSome}
 use Rattle.std.specs.List.{All, range_with_len}
 use Rattle.issuer_host.specs.Account.{AccountData, IsAccount}
 use Rattle.issuer_host.specs.declared.keys.HostKeys.{HostKeys}
+use Rattle.scenario_fields.specs.declared.place.LaneAt.TheVariants.{Numbered}
 use Rattle.scenario.specs.CardRules.{IsCard, AreCards}
 use Rattle.scenario.specs.Cards.{CardData}
 use Rattle.scenario.specs.Plan.{HasPlainName, AreTables, IsScenario}
-use Rattle.scenario_lanes.specs.Plan.{LaneData, IsLane, HasCards}
+use Rattle.scenario_lanes.specs.Plan.{LaneData, IsLane, HasCards, HasRoom}
 use Rattle.generated.proofs.Cards.{account_rules, card_rules, plain_name, own_pans, own_names}
 use Rattle.generated.proofs.Lanes.{lane_rules, lane_cards, lane_no_choice, all_purchases}
 use Rattle.generated.proofs.Numbered.{all_numbered, pairs_numbered}
@@ -26,6 +28,16 @@ card_tables count = record {
   names = pairs_numbered (λ a b. a.name ≢ b.name) card_of 8 (λ i j order within. own_names i j order);
 }
 
+-- no lane has a store
+no_store : (count i : ℕ) (lane : LaneData) → slice_get (generated_of count).lanes i ≡ Some lane → lane.durable ≡ true → HasRoom 8 (Numbered i)
+unfolding generated_of lane_of
+no_store count i lane there durable =
+    let made : List LaneData = map (lane_of count) (range_with_len 0 4) in
+    let none : lane.durable ≡ false =
+    subst (λ (x : LaneData). x.durable ≡ false) (get_or_from_slice_get made i lane lane there)
+    (all_numbered (λ (x : LaneData). x.durable ≡ false) (lane_of count) 4 (λ l within. refl) i lane (slice_get_within made i lane there)) in
+    absurd (cc (none, durable))
+
 tables : (count : ℕ) → count ≤ 10000 → AreTables (generated_of count)
 unfolding generated_of lane_of settings_of
 tables count few = record {
@@ -37,6 +49,7 @@ tables count few = record {
   some_lane = omega arith;
   few_lanes = omega arith;
   lanes = all_numbered IsLane (lane_of count) 4 (lane_rules count);
+  rooms = λ i lane there durable. no_store count i lane there durable;
   few_purchases = omega (arith, few, all_purchases count);
   pin_keys = all_numbered (λ lane. lane.settings.pin_key ≡ issuer_keys.pin) (lane_of count) 4 (λ lane within. refl);
   few_turns = omega arith;

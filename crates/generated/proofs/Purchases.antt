@@ -41,6 +41,8 @@ planned_rules k x = record {
   purchase = purchase_rules x;
   plan = is_planned (x / 128 % 16 == 0);
   tear = each_tear IsEarly (record { few_marks = omega arith; few_writes = omega arith }) (x / 128 % 16 == 0);
+  terminal_plan = refl;
+  terminal_tear = tt;
 }
 
 pub no_choice : (k x : ℕ) → IfSome (planned_by k x).tear LeavesNoChoice

@@ -48,4 +48,4 @@ unfoldable pub purchases_of : ℕ → ℕ → List Planned
 purchases_of count lane = map (planned_at count) (filter (stands_on lane) (range_with_len 0 count))
 
 unfoldable pub lane_of : ℕ → ℕ → LaneData
-lane_of count lane = record { settings = settings_of lane; purchases = purchases_of count lane; iso = false }
+lane_of count lane = record { settings = settings_of lane; purchases = purchases_of count lane; iso = false; durable = false }

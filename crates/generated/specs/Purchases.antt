@@ -45,7 +45,7 @@ tear_by x = (if x / 128 % 16 == 0 then Some cut_cryptogram else None)
 
 -- purchase `k`, which this number tells: the cards take turns
 unfoldable pub planned_by : ℕ → ℕ → Planned
-planned_by k x = record { purchase = purchase_by x; card = k % cards; link = link_by x; tear = tear_by x }
+planned_by k x = record { purchase = purchase_by x; card = k % cards; link = link_by x; tear = tear_by x; terminal_tear = None }
 
 -- purchase `k` of so many, from 0 on
 abbrev pub planned_at : ℕ → ℕ → Planned

@@ -87,6 +87,7 @@ fn lane(alloc: Global, issuer: &HostKeys, count: u32, number: u32) -> Result<Lan
         settings,
         purchases,
         iso: false,
+        durable: false,
     })
 }
 

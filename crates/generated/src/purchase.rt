@@ -95,5 +95,6 @@ pub(crate) fn planned(alloc: Global, k: u32, x: u32) -> Result<Planned, AllocErr
         card: (k % u32::from(CARDS)) as usize,
         link: link(x),
         tear: tear(x),
+        terminal_tear: None,
     })
 }

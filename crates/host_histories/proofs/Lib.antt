@@ -1,4 +1,4 @@
 mod AddUp
-mod Apart
+pub mod Apart
 mod Once
 mod Responses

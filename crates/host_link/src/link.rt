@@ -34,6 +34,8 @@ pub fn deliver(
     ensures keys { host.new.keys ≡ host.old.keys }
     ensures accounts { host.new.accounts ≡ host.old.accounts }
     ensures err { OnErr result (host.new ≡ host.old) }
+    // Only a message that the host hasn't had can want memory.
+    ensures memory { OnErr result (is_new host.old.books (message_of message.now) ≡ true) }
     ensures call { wire.new.call.items ≡ call_in iso message.now }
     ensures shown { IfOk result (λ comes. reply_if comes wire.new.reply.items ≡ option_map (reply_in iso message.now) (reply_if comes reply.new.items)) }
 {
@@ -66,6 +68,7 @@ fn carry(
     ensures keys { host.new.keys ≡ host.old.keys }
     ensures accounts { host.new.accounts ≡ host.old.accounts }
     ensures err { OnErr result (host.new ≡ host.old) }
+    ensures memory { OnErr result (is_new host.old.books (message_of message.now) ≡ true) }
 {
     match link {
         Link::RequestLost => Ok(false),

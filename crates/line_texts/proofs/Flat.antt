@@ -8,7 +8,7 @@ use Rattle.report_text.specs.Pieces.{hex_or_dash, digits_text}
 use Rattle.report_text.specs.Words.{ending_text}
 use Rattle.report_text.specs.Text.{line_text, all_shown, parts_text}
 use Rattle.report_text.specs.declared.line.Line.{Line}
-use Rattle.report_text.specs.declared.line.Line.TheVariants.{Power, PowerCanned, PowerTorn, ToCard, FromCard, Torn, Gone, ToHost, FromHost, NoReply, End, SettleCall, SettleReply, AuditPower, AuditAsk, AuditAnswer, Balance, Done, Object, ReadOk, ReadEnded}
+use Rattle.report_text.specs.declared.line.Line.TheVariants.{Power, PowerCanned, PowerTorn, ToCard, FromCard, Torn, Gone, ToHost, FromHost, NoReply, End, EndLost, SettleCall, SettleReply, AuditPower, AuditAsk, AuditAnswer, Balance, Done, Object, ReadOk, ReadEnded}
 
 abbrev pub flat_text : Line → List ℕ
 flat_text (Power lane card apps) = 76 ∷ (decimal lane ++ (codes " power " ++ (card.items ++ (all_shown apps.items ++ 10 ∷ []))))
@@ -22,6 +22,7 @@ flat_text (ToHost lane bytes) = 76 ∷ (decimal lane ++ (codes " host > " ++ (he
 flat_text (FromHost lane bytes) = 76 ∷ (decimal lane ++ (codes " host < " ++ (hex_or_dash bytes.items ++ 10 ∷ [])))
 flat_text (NoReply lane) = 76 ∷ (decimal lane ++ (codes " host < none" ++ 10 ∷ []))
 flat_text (End lane number parts) = 76 ∷ (decimal lane ++ (codes " end " ++ (decimal number ++ (codes " " ++ (parts_text parts ++ 10 ∷ [])))))
+flat_text (EndLost lane number) = 76 ∷ (decimal lane ++ (codes " end " ++ (decimal number ++ (codes " lost" ++ 10 ∷ []))))
 flat_text (SettleCall lane bytes) = 83 ∷ (decimal lane ++ (codes " > " ++ (hex_or_dash bytes.items ++ 10 ∷ [])))
 flat_text (SettleReply lane bytes) = 83 ∷ (decimal lane ++ (codes " < " ++ (hex_or_dash bytes.items ++ 10 ∷ [])))
 flat_text (AuditPower card apps) = codes "A " ++ (card.items ++ (codes " power" ++ (all_shown apps.items ++ 10 ∷ [])))
@@ -46,6 +47,7 @@ flat_of (ToHost lane bytes) = simp append_assoc
 flat_of (FromHost lane bytes) = simp append_assoc
 flat_of (NoReply lane) = simp append_assoc
 flat_of (End lane number parts) = simp append_assoc
+flat_of (EndLost lane number) = simp append_assoc
 flat_of (SettleCall lane bytes) = simp append_assoc
 flat_of (SettleReply lane bytes) = simp append_assoc
 flat_of (AuditPower card apps) = simp append_assoc

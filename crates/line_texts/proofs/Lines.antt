@@ -8,7 +8,7 @@ use Rattle.ber_tlv.specs.declared.tag.Tag.{Tag}
 use Rattle.report_text.specs.Pieces.{hex_or_dash}
 use Rattle.report_text.specs.Text.{all_shown}
 use Rattle.report_text.specs.declared.line.Line.{Line}
-use Rattle.report_text.specs.declared.line.Line.TheVariants.{Power, PowerCanned, PowerTorn, ToCard, FromCard, Torn, Gone, ToHost, FromHost, NoReply, End, SettleCall, SettleReply, AuditPower, AuditAsk, AuditAnswer, Balance, Done, Object, ReadOk, ReadEnded}
+use Rattle.report_text.specs.declared.line.Line.TheVariants.{Power, PowerCanned, PowerTorn, ToCard, FromCard, Torn, Gone, ToHost, FromHost, NoReply, End, EndLost, SettleCall, SettleReply, AuditPower, AuditAsk, AuditAnswer, Balance, Done, Object, ReadOk, ReadEnded}
 use Rattle.report_text.specs.declared.line.Shown.{Shown}
 use Rattle.line_texts.specs.Told.{IsCount, IsName, AreBytes, AreCounters, IsTold, LinesDiffer}
 use Rattle.std.specs.List.{All}
@@ -117,6 +117,9 @@ differ (End m i x) (End n j y) e ta tb same =
     let one = lane 76 m n e ta.0 tb.0 in
     let two = number i j 32 32 _ _ (behind 4 one.1) ta.1 tb.1 (omega arith) (omega arith) in
     by_three End one.0 two.0 (parts_same x y (behind 1 two.1) ta.2 tb.2)
+differ (EndLost m i) (EndLost n j) e ta tb same =
+    let one = lane 76 m n e ta.0 tb.0 in
+    by_two EndLost one.0 (number i j 32 32 _ _ (behind 4 one.1) ta.1 tb.1 (omega arith) (omega arith)).0
 differ (SettleCall m x) (SettleCall n y) e ta tb same =
     let one = lane 83 m n e ta.0 tb.0 in
     by_two SettleCall one.0 (bytes_end x y (behind 2 one.1) ta.1 tb.1)

@@ -1,13 +1,18 @@
 -- Which kind of line a text is of, by its first words.
-use Rattle.std.proofs.Common.{◌≡◌, ℕ, ◌<◌, ◌≤◌, ◌==◌, nat_lt, true, false, List, [], ◌∷◌, ◌++◌, drop, refl, sym, ap, ◌∙◌, arith}
+use Rattle.std.proofs.Common.{◌≡◌, ℕ, ◌<◌, ◌≤◌, ◌==◌, nat_lt, true, false, List, [], ◌∷◌, ◌++◌, drop, refl, sym, ap, ◌∙◌, arith, append_assoc}
 use Rattle.std.specs.Prelude.{slice_index, if◌then◌else◌, codes, decimal, IsTrue}
 use Rattle.std.proofs.lemmas.Bool.Decides.{nat_tests}
 use Rattle.std.proofs.lemmas.List.Elements.{All-weaker}
 use Rattle.emv_dict.specs.declared.ending.Ending.{Ending}
 use Rattle.emv_dict.specs.declared.ending.Ending.TheVariants as ending
+use Rattle.emv_dict.specs.Flags.{tvr_bytes}
+use Rattle.hex.specs.Hex.{encode_lower}
+use Rattle.report_text.specs.Pieces.{two_bytes}
+use Rattle.report_text.specs.Text.{arc_text, cryptogram_text, scripts_text, parts_text}
 use Rattle.report_text.specs.Words.{ending_text}
+use Rattle.report_text.specs.declared.line.EndParts.{EndParts}
 use Rattle.report_text.specs.declared.line.Line.{Line}
-use Rattle.report_text.specs.declared.line.Line.TheVariants.{Power, PowerCanned, PowerTorn, ToCard, FromCard, Torn, Gone, ToHost, FromHost, NoReply, End, SettleCall, SettleReply, AuditPower, AuditAsk, AuditAnswer, Balance, Done, Object, ReadOk, ReadEnded}
+use Rattle.report_text.specs.declared.line.Line.TheVariants.{Power, PowerCanned, PowerTorn, ToCard, FromCard, Torn, Gone, ToHost, FromHost, NoReply, End, EndLost, SettleCall, SettleReply, AuditPower, AuditAsk, AuditAnswer, Balance, Done, Object, ReadOk, ReadEnded}
 use Rattle.line_texts.specs.Told.{IsCount, IsName, IsTold}
 use Rattle.line_texts.proofs.Fronts.{AtLeast, high_head, high_tail, decimal_high, dash_first}
 use Rattle.line_texts.proofs.Counters.{begun}
@@ -54,6 +59,7 @@ kind (Done number) = 18
 kind (Object tag value) = 19
 kind ReadOk = 20
 kind (ReadEnded ending) = 21
+kind (EndLost lane number) = 22
 
 -- behind `power` and a name
 power_mark : List ℕ → ℕ
@@ -66,6 +72,10 @@ answer_mark c = if c == 116 then 6 else if c == 103 then 7 else 5
 reply_mark : ℕ → ℕ
 reply_mark c = if c == 110 then 10 else 9
 
+-- behind `end` and a number
+end_mark : List ℕ → ℕ
+end_mark text = if slice_index text 1 == 108 then 22 else 11
+
 -- behind a lane's number
 lane_mark : List ℕ → ℕ
 lane_mark text =
@@ -73,7 +83,7 @@ lane_mark text =
     else if slice_index text 1 == 62 then 4
     else if slice_index text 1 == 60 then answer_mark (slice_index text 3)
     else if slice_index text 1 == 104 then (if slice_index text 6 == 62 then 8 else reply_mark (slice_index text 8))
-    else 11
+    else end_mark (rest_of 48 (drop 5 text))
 
 settle_mark : List ℕ → ℕ
 settle_mark text = if slice_index text 1 == 62 then 12 else 13
@@ -111,6 +121,11 @@ power_line : (lane : ℕ) (card : List ℕ) (c : ℕ) (rest : List ℕ) → IsCo
 unfolding lane_mark
 power_line lane card c rest h name low = lane_line lane _ h ∙ ap power_mark (rest_word 33 card c rest (name_high card name) low)
 
+end_line : (lane number : ℕ) (rest : List ℕ) → IsCount lane → IsCount number
+    → line_mark (76 ∷ (decimal lane ++ (codes " end " ++ (decimal number ++ 32 ∷ rest)))) ≡ end_mark (32 ∷ rest)
+unfolding lane_mark
+end_line lane number rest h few = lane_line lane _ h ∙ ap end_mark (rest_word 48 (decimal number) 32 rest (decimal_high number few) (omega arith))
+
 power_low : (text : List ℕ) → slice_index text 1 < 58 → power_mark text ≡ 1
 unfolding power_mark
 power_low text low = grind (arith, nat_tests)
@@ -130,8 +145,24 @@ ending_mark (ending.Declined online) = refl
 ending_mark (ending.Terminated step cause) = refl
 ending_mark (ending.CutOff step) = refl
 
+end_parts_mark : (ending : Ending) (rest : List ℕ) → end_mark (32 ∷ (ending_text ending ++ rest)) ≡ 11
+unfolding end_mark ending_text
+end_parts_mark (ending.Approved online) rest = refl
+end_parts_mark (ending.Declined online) rest = refl
+end_parts_mark (ending.Terminated step cause) rest = refl
+end_parts_mark (ending.CutOff step) rest = refl
+
+-- the parts begin with the ending
+parts_begin : (parts : EndParts) → (rest : List ℕ) × (parts_text parts ++ 10 ∷ [] ≡ ending_text parts.ending ++ rest)
+unfolding parts_text
+parts_begin parts =
+    let rest : List ℕ =
+    codes " tvr=" ++ (encode_lower (tvr_bytes parts.tvr.0) ++ (codes " tsi=" ++ (encode_lower (two_bytes parts.tsi.0)
+    ++ (codes " cvm=" ++ (encode_lower parts.cvm ++ (codes " arc=" ++ (arc_text parts.arc ++ (cryptogram_text parts.atc_ac ++ (codes " scripts=" ++ (scripts_text parts.scripts.items ++ 10 ∷ [])))))))))) in
+    (rest, simp append_assoc)
+
 marked : (line : Line) → IsTold line → line_mark (flat_text line) ≡ kind line
-unfolding IsTold line_mark lane_mark settle_mark audit_mark answer_mark reply_mark read_mark power_mark
+unfolding IsTold line_mark lane_mark settle_mark audit_mark answer_mark reply_mark read_mark power_mark end_mark
 marked (Power lane card apps) t =
     let start = begun apps.items t.2 in
     let whole : line_mark (76 ∷ (decimal lane ++ (codes " power " ++ (card.items ++ start.first ∷ start.rest)))) ≡ power_mark (start.first ∷ start.rest) =
@@ -146,7 +177,11 @@ marked (Gone lane) t = lane_line lane _ t
 marked (ToHost lane bytes) t = lane_line lane _ t.0
 marked (FromHost lane bytes) t = lane_line lane _ t.0 ∙ reply_low _ (dash_first bytes.items (10 ∷ []) t.1)
 marked (NoReply lane) t = lane_line lane _ t
-marked (End lane number parts) t = lane_line lane _ t.0
+marked (End lane number parts) t =
+    let begin = parts_begin parts in
+    end_line lane number (parts_text parts ++ 10 ∷ []) t.0 t.1
+    ∙ ap (λ (text : List ℕ). end_mark (32 ∷ text)) begin.1 ∙ end_parts_mark parts.ending begin.0
+marked (EndLost lane number) t = end_line lane number _ t.0 t.1
 marked (SettleCall lane bytes) t = settle_line lane _ t.0
 marked (SettleReply lane bytes) t = settle_line lane _ t.0
 marked (AuditPower card apps) t = audit_line card.items _ t.0

@@ -8,7 +8,7 @@ use Rattle.emv_dict.specs.declared.ending.Ending.{Ending}
 use Rattle.emv_dict.specs.declared.ending.Ending.TheVariants as ending
 use Rattle.report_text.specs.Text.{line_text}
 use Rattle.report_text.specs.declared.line.Line.{Line}
-use Rattle.report_text.specs.declared.line.Line.TheVariants.{Power, PowerCanned, PowerTorn, ToCard, FromCard, Torn, Gone, ToHost, FromHost, NoReply, End, SettleCall, SettleReply, AuditPower, AuditAsk, AuditAnswer, Balance, Done, Object, ReadOk, ReadEnded}
+use Rattle.report_text.specs.declared.line.Line.TheVariants.{Power, PowerCanned, PowerTorn, ToCard, FromCard, Torn, Gone, ToHost, FromHost, NoReply, End, EndLost, SettleCall, SettleReply, AuditPower, AuditAsk, AuditAnswer, Balance, Done, Object, ReadOk, ReadEnded}
 use Rattle.report_text.specs.declared.line.Shown.{Shown}
 use Rattle.report_text.specs.declared.line.EndParts.{EndParts}
 
@@ -89,6 +89,7 @@ IsTold (ToHost lane bytes) = IsCount lane × AreBytes bytes.items
 IsTold (FromHost lane bytes) = IsCount lane × AreBytes bytes.items
 IsTold (NoReply lane) = IsCount lane
 IsTold (End lane number parts) = IsCount lane × IsCount number × ArePartsTold parts
+IsTold (EndLost lane number) = IsCount lane × IsCount number
 IsTold (SettleCall lane bytes) = IsCount lane × AreBytes bytes.items
 IsTold (SettleReply lane bytes) = IsCount lane × AreBytes bytes.items
 IsTold (AuditPower card apps) = IsName card.items × All AreCounters apps.items

@@ -79,8 +79,15 @@ fn replay(rt: &impl Abort, alloc: Global, history: &History) -> Result<(), Fail>
     assert_eq!(rt; finished.status, 0);
     assert_eq!(rt; told_by(alloc, sink.bytes())?.as_str(), history.told);
     assert_eq!(rt; finished.tally.counts(), history.counts);
-    for (pages, marks) in finished.bank.into_iter().zip(history.marks) {
-        assert_eq!(rt; pages.into_inner().marks(), marks);
+    let [first, second] = history.marks;
+    for (place, pages) in finished.bank.into_iter().enumerate() {
+        let marks = match place {
+            0 => first,
+            1 => second,
+            63 => history.stored,
+            _ => 0,
+        };
+        assert_eq!(rt; pages.into_inner().marks(), marks, "pages {place}");
     }
     Ok(())
 }

@@ -8,7 +8,7 @@ use Rattle.emv_dict.specs.Flags.{tvr_bytes}
 use Rattle.report_text.specs.Pieces.{newline, hex_or_dash, digits_text, two_bytes}
 use Rattle.report_text.specs.Words.{ending_text}
 use Rattle.report_text.specs.declared.line.Line.{Line}
-use Rattle.report_text.specs.declared.line.Line.TheVariants.{Power, PowerCanned, PowerTorn, ToCard, FromCard, Torn, Gone, ToHost, FromHost, NoReply, End, SettleCall, SettleReply, AuditPower, AuditAsk, AuditAnswer, Balance, Done, Object, ReadOk, ReadEnded}
+use Rattle.report_text.specs.declared.line.Line.TheVariants.{Power, PowerCanned, PowerTorn, ToCard, FromCard, Torn, Gone, ToHost, FromHost, NoReply, End, EndLost, SettleCall, SettleReply, AuditPower, AuditAsk, AuditAnswer, Balance, Done, Object, ReadOk, ReadEnded}
 use Rattle.report_text.specs.declared.line.Shown.{Shown}
 use Rattle.report_text.specs.declared.line.EndParts.{EndParts}
 
@@ -55,6 +55,7 @@ line_text (ToHost lane bytes) = codes "L" ++ decimal lane ++ codes " host > " ++
 line_text (FromHost lane bytes) = codes "L" ++ decimal lane ++ codes " host < " ++ hex_or_dash bytes.items ++ newline
 line_text (NoReply lane) = codes "L" ++ decimal lane ++ codes " host < none" ++ newline
 line_text (End lane number parts) = codes "L" ++ decimal lane ++ codes " end " ++ decimal number ++ codes " " ++ parts_text parts ++ newline
+line_text (EndLost lane number) = codes "L" ++ decimal lane ++ codes " end " ++ decimal number ++ codes " lost" ++ newline
 line_text (SettleCall lane bytes) = codes "S" ++ decimal lane ++ codes " > " ++ hex_or_dash bytes.items ++ newline
 line_text (SettleReply lane bytes) = codes "S" ++ decimal lane ++ codes " < " ++ hex_or_dash bytes.items ++ newline
 line_text (AuditPower card apps) = codes "A " ++ card.items ++ codes " power" ++ all_shown apps.items ++ newline

@@ -1,13 +1,16 @@
 //! The report of a run, line by line: the exact bytes of each line.
 #![tactic(auto)]
 
+mod head;
 pub mod line;
+pub mod packed;
 pub mod pieces;
 pub mod words;
 pub mod write;
 
 pub use line::{EndParts, Line, Shown};
-pub use write::{Text, end_parts, write_line};
+pub use packed::{LineAt, Lines, LinesLeft};
+pub use write::{Text, end_parts, write_line, write_packed};
 
 #[cfg(test)]
 mod tests;

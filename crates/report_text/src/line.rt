@@ -96,6 +96,12 @@ pub enum Line {
         number: u32,
         parts: EndParts,
     },
+    /// The lane's purchase of this number, from 1, was lost: the power of its terminal was cut before its
+    /// outcome was stored.
+    EndLost {
+        lane: u8,
+        number: u32,
+    },
     /// A settlement message of a lane.
     SettleCall {
         lane: u8,

@@ -118,6 +118,13 @@ fn lines_of_a_card(rt: HostRuntime) {
         (from_card(0, &[]), "L0 < -\n"),
         (Line::Torn { lane: 0 }, "L0 < torn\n"),
         (Line::Gone { lane: 2 }, "L2 < gone\n"),
+        (
+            Line::EndLost {
+                lane: 15,
+                number: 10_000,
+            },
+            "L15 end 10000 lost\n",
+        ),
     ] {
         assert!(rt; same_text(&line, want), "{want}");
     }

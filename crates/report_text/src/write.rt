@@ -8,9 +8,10 @@ ghost use Rattle.report_text.specs.Pieces.{newline, hex_or_dash, digits_text};
 ghost use Rattle.report_text.specs.Words.{ending_text};
 ghost use Rattle.report_text.specs.Text.{line_text, second_text, shown_text, all_shown, arc_text, cryptogram_text, scripts_text, parts_text};
 
+use crate::head::Head;
 use crate::pieces::{amount, append, digits, hex, hex_or_dash, number, tag, two_bytes};
 use crate::words::ending;
-use crate::{EndParts, Line, Shown};
+use crate::{EndParts, Line, LineAt, Shown};
 use arrayvec::ArrayVec;
 use ber_tlv::Tag;
 use emv_dict::{Digits, Ending};
@@ -39,6 +40,7 @@ pub fn write_line(line: &Line, out: &mut Text)
             number,
             parts,
         } => end(out, *lane, *number, parts),
+        Line::EndLost { lane, number } => end_lost(out, *lane, *number),
         Line::SettleCall { lane, bytes } => exchange(out, b"S", *lane, b" > ", bytes.as_slice()),
         Line::SettleReply { lane, bytes } => exchange(out, b"S", *lane, b" < ", bytes.as_slice()),
         Line::AuditPower { card, apps } => audit_power(out, card.as_slice(), apps.as_slice()),
@@ -49,6 +51,37 @@ pub fn write_line(line: &Line, out: &mut Text)
         Line::Object { tag, value } => object(out, *tag, value.as_slice()),
         Line::ReadOk => read_ok(out),
         Line::ReadEnded { ending } => read_ended(out, *ending),
+    }
+}
+
+/// Writes the text of a line where it stands, with its newline, to `out`, in place of what it held.
+#[tactic(auto, unfolding(crate::specs::Text::line_text))]
+pub fn write_packed(line: &LineAt<'_>, out: &mut Text)
+    ensures { out.new.items ≡ line_text line.now }
+{
+    let bytes = line.bytes;
+    match line.head {
+        Head::Power { lane, card, apps } => power(out, *lane, card.as_slice(), apps.as_slice()),
+        Head::PowerCanned { lane, card } => power_word(out, *lane, card.as_slice(), b" canned"),
+        Head::PowerTorn { lane, card } => power_word(out, *lane, card.as_slice(), b" torn"),
+        Head::ToCard { lane } => exchange(out, b"L", *lane, b" > ", bytes),
+        Head::FromCard { lane } => exchange(out, b"L", *lane, b" < ", bytes),
+        Head::Torn { lane } => event(out, *lane, b" < torn"),
+        Head::Gone { lane } => event(out, *lane, b" < gone"),
+        Head::ToHost { lane } => exchange(out, b"L", *lane, b" host > ", bytes),
+        Head::FromHost { lane } => exchange(out, b"L", *lane, b" host < ", bytes),
+        Head::NoReply { lane } => event(out, *lane, b" host < none"),
+        Head::End {
+            lane,
+            number,
+            parts,
+        } => end(out, *lane, *number, parts),
+        Head::EndLost { lane, number } => end_lost(out, *lane, *number),
+        Head::SettleCall { lane } => exchange(out, b"S", *lane, b" > ", bytes),
+        Head::SettleReply { lane } => exchange(out, b"S", *lane, b" < ", bytes),
+        Head::AuditPower { card, apps } => audit_power(out, card.as_slice(), apps.as_slice()),
+        Head::AuditAsk { card } => audit(out, card.as_slice(), b" > ", bytes),
+        Head::AuditAnswer { card } => audit(out, card.as_slice(), b" < ", bytes),
     }
 }
 
@@ -118,6 +151,18 @@ fn end(out: &mut Text, lane: u8, purchase: u32, parts: &EndParts)
     number(out, u64::from(purchase));
     append(out, b" ");
     end_parts(out, parts);
+    append(out, b"\n");
+}
+
+fn end_lost(out: &mut Text, lane: u8, purchase: u32)
+    ensures { out.new.items ≡ codes "L" ++ decimal lane ++ codes " end " ++ decimal purchase ++ codes " lost" ++ newline }
+{
+    out.clear();
+    append(out, b"L");
+    number(out, u64::from(lane));
+    append(out, b" end ");
+    number(out, u64::from(purchase));
+    append(out, b" lost");
     append(out, b"\n");
 }
 

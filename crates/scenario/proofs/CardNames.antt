@@ -1,5 +1,6 @@
 -- The names of cards.
-use Rattle.std.proofs.Common.{◌≡◌, ℕ, suc, List, [], ◌∷◌, length, map, Bool, ◌||◌, refl, ap}
+use Rattle.std.proofs.Common.{◌≡◌, ℕ, suc, List, [], ◌∷◌, length, map, Bool, ◌||◌, refl, ap, ◌∙◌}
+use Rattle.std.proofs.lemmas.List.{length-map}
 use Rattle.std.specs.List.{list_any}
 use Rattle.std.specs.Str.{bytes_eq}
 use Rattle.scenario.specs.Cards.{is_named, card_names}
@@ -19,3 +20,6 @@ card_names_seen (c ∷ cards) = ap (λ (names : List (List ℕ)). c.name.items �
 pub cards_count : (cards : List NamedCard) → length (seen_cards cards) ≡ length cards
 cards_count [] = refl
 cards_count (c ∷ cards) = ap suc (cards_count cards)
+
+pub names_count : (cards : List NamedCard) → length (card_names (seen_cards cards)) ≡ length cards
+names_count cards = ap length (card_names_seen cards) ∙ length-map cards (λ c. c.name.items)

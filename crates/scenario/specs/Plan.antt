@@ -5,7 +5,7 @@ use Rattle.issuer_host.specs.Account.{AccountData, IsAccount}
 use Rattle.issuer_host.specs.declared.keys.HostKeys.{HostKeys}
 use Rattle.scenario_fields.specs.Value.{is_one_of}
 use Rattle.scenario_fields.specs.declared.spot.Characters.TheVariants.{LowercaseOrDigit}
-use Rattle.scenario_lanes.specs.Plan.{LaneData, IsLane, HasCards, purchase_count}
+use Rattle.scenario_lanes.specs.Plan.{LaneData, IsLane, HasCards, HaveRoom, purchase_count}
 use Rattle.scenario.specs.CardRules.{AreCards}
 use Rattle.scenario.specs.Cards.{CardData}
 
@@ -35,6 +35,7 @@ pub record AreTables (scenario : ScenarioData) : Type 0 where
   pub some_lane : 1 ≤ length scenario.lanes
   pub few_lanes : length scenario.lanes ≤ 16
   pub lanes : All IsLane scenario.lanes
+  pub rooms : HaveRoom (length scenario.cards) scenario.lanes
   pub few_purchases : purchase_count scenario.lanes ≤ 10000
   pub pin_keys : All (λ lane. lane.settings.pin_key ≡ scenario.issuer.pin) scenario.lanes
   pub few_turns : length scenario.schedule ≤ 200000

@@ -7,7 +7,7 @@ ghost use Rattle.scenario_fields.specs.Fields.{only};
 ghost use Rattle.scenario_fields.specs.Place.{path};
 ghost use Rattle.scenario_fields.specs.declared.fault.ScenarioFault.TheVariants.{OutOfLimit};
 ghost use Rattle.scenario_lanes.specs.Lanes.{lanes_at as lanes_found};
-ghost use Rattle.scenario_lanes.specs.Plan.{IsLane, HasCards, purchase_count};
+ghost use Rattle.scenario_lanes.specs.Plan.{IsLane, HasCards, HaveRoom, purchase_count};
 ghost use Rattle.scenario.specs.Cards.{card_names as names_of};
 ghost use Rattle.scenario.specs.Plan.{AreTables, IsScenario};
 ghost use Rattle.scenario.specs.Scenario.{top_keys, tables_of, names_known as names_tried, scenario_of, IsReading};
@@ -46,6 +46,7 @@ fn card_names(alloc: Global, cards: &[NamedCard]) -> Result<Vec<&[u8]>, AllocErr
 }
 
 /// The lanes at their key in the document, whose purchases name one of these cards.
+#[tactic(auto, using(crate::proofs::CardNames::names_count))]
 fn lanes_with(
     document: &Fields,
     cards: &[NamedCard],
@@ -56,6 +57,7 @@ fn lanes_with(
     ensures few { IfOk result (λ lanes. vec_len lanes ≤ 16) }
     ensures few_purchases { IfOk result (λ lanes. purchase_count lanes.items ≤ 10000) }
     ensures rules { IfOk result (λ lanes. All IsLane lanes.items) }
+    ensures rooms { IfOk result (λ lanes. HaveRoom (length cards.now) lanes.items) }
     ensures pins { IfOk result (λ lanes. All (λ lane. lane.settings.pin_key ≡ pin_key) lanes.items) }
 {
     let names = card_names(document.alloc, cards)?;

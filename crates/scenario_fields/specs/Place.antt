@@ -3,7 +3,7 @@ use Rattle.std.specs.Prelude.{ℕ, List, [], ◌++◌, codes, decimal, Option, S
 use Rattle.scenario_fields.specs.declared.place.LaneAt.{LaneAt}
 use Rattle.scenario_fields.specs.declared.place.LaneAt.TheVariants.{Numbered, Only}
 use Rattle.scenario_fields.specs.declared.place.Place.{Place}
-use Rattle.scenario_fields.specs.declared.place.Place.TheVariants.{Top, Issuer, Account, Scripts, Card, App, Record, Lane, Aid, Purchase, Tear}
+use Rattle.scenario_fields.specs.declared.place.Place.TheVariants.{Top, Issuer, Account, Scripts, Card, App, Record, Lane, Aid, Purchase, Tear, TerminalTear}
 
 -- item `i` of the array at a key, and what follows it
 abbrev pub item_path : List ℕ → ℕ → List ℕ → List ℕ
@@ -48,6 +48,9 @@ in_purchase at j key = in_lane at (item_path (codes "purchase") j (codes "." ++ 
 abbrev pub in_tear : LaneAt → ℕ → List ℕ → List ℕ
 in_tear at j key = in_purchase at j (codes "tear." ++ key)
 
+abbrev pub in_terminal_tear : LaneAt → ℕ → List ℕ → List ℕ
+in_terminal_tear at j key = in_purchase at j (codes "terminal_tear." ++ key)
+
 -- the path of a key of a table
 abbrev pub path : Place → List ℕ → List ℕ
 path Top key = at_top key
@@ -61,6 +64,7 @@ path (Lane at) key = in_lane at key
 path (Aid at j) key = in_aid at j key
 path (Purchase at j) key = in_purchase at j key
 path (Tear at j) key = in_tear at j key
+path (TerminalTear at j) key = in_terminal_tear at j key
 
 -- a key, or an item of the array at it
 abbrev pub spot_key : List ℕ → Option ℕ → List ℕ

@@ -1,5 +1,5 @@
 ghost use Rattle.std.specs.Prelude.{◌≡◌, IfOk, string_bytes};
-ghost use Rattle.scenario_fields.specs.Place.{in_purchase, in_tear, path, spot_key, spot_path};
+ghost use Rattle.scenario_fields.specs.Place.{in_purchase, in_tear, in_terminal_tear, path, spot_key, spot_path};
 
 use std::alloc::{AllocError, Global};
 
@@ -38,6 +38,8 @@ pub enum Place {
     Purchase(LaneAt, usize),
     /// The tear of a purchase.
     Tear(LaneAt, usize),
+    /// The terminal's tear of a purchase.
+    TerminalTear(LaneAt, usize),
 }
 
 /// The path of a key of a table.
@@ -58,6 +60,7 @@ pub fn path_text(alloc: Global, place: Place, key: &str) -> Result<String, Alloc
         Place::Aid(LaneAt::Only, j) => format!(in alloc; "lane.aid[{j}].{key}"),
         Place::Purchase(lane, j) => purchase_text(alloc, lane, j, key),
         Place::Tear(lane, j) => tear_text(alloc, lane, j, key),
+        Place::TerminalTear(lane, j) => terminal_tear_text(alloc, lane, j, key),
     }
 }
 
@@ -78,6 +81,21 @@ fn tear_text(alloc: Global, lane: LaneAt, j: usize, key: &str) -> Result<String,
     match lane {
         LaneAt::Numbered(i) => format!(in alloc; "lane[{i}].purchase[{j}].tear.{key}"),
         LaneAt::Only => format!(in alloc; "lane.purchase[{j}].tear.{key}"),
+    }
+}
+
+/// The path of a key of a purchase's terminal tear.
+fn terminal_tear_text(
+    alloc: Global,
+    lane: LaneAt,
+    j: usize,
+    key: &str,
+) -> Result<String, AllocError>
+    ensures { IfOk result (λ t. string_bytes t ≡ in_terminal_tear lane j key.now) }
+{
+    match lane {
+        LaneAt::Numbered(i) => format!(in alloc; "lane[{i}].purchase[{j}].terminal_tear.{key}"),
+        LaneAt::Only => format!(in alloc; "lane.purchase[{j}].terminal_tear.{key}"),
     }
 }
 

@@ -4,7 +4,7 @@ use std::alloc::Global;
 use std::test::Fail;
 use toml::Table;
 
-const PLACES: [(Place, &str); 11] = [
+const PLACES: [(Place, &str); 12] = [
     (Place::Top, "copies"),
     (Place::Issuer, "issuer.copies"),
     (Place::Account(1), "account[1].copies"),
@@ -21,6 +21,10 @@ const PLACES: [(Place, &str); 11] = [
     (
         Place::Tear(LaneAt::Numbered(2), 3),
         "lane[2].purchase[3].tear.copies",
+    ),
+    (
+        Place::TerminalTear(LaneAt::Numbered(2), 3),
+        "lane[2].purchase[3].terminal_tear.copies",
     ),
 ];
 

@@ -1,5 +1,6 @@
 -- One more lane read, and the sum of its purchases.
-use Rattle.std.proofs.Common.{◌≡◌, ℕ, ◌+◌, ◌<◌, List, [], ◌∷◌, ◌++◌, length, get_or, drop, Result, Ok, Err, refl, ap, sym, subst, ◌∙◌}
+use Rattle.std.proofs.Common.{◌≡◌, ℕ, zero, suc, true, ◌⊎◌, inl, inr, ◌+◌, ◌<◌, List, [], ◌∷◌, ◌++◌, length, get_or, slice_get, drop, Some, Result, Ok, Err, refl, ap, sym, subst, ◌∙◌}
+use Rattle.std.proofs.lemmas.Option.{same_Some}
 use Rattle.std.proofs.lemmas.List.Sums.{sum_by_push}
 use Rattle.toml.proofs.Views.{items_view-drop}
 use Rattle.toml.specs.Data.{Data, Items, item}
@@ -8,8 +9,9 @@ use Rattle.toml.specs.declared.value.Value.{Value}
 use Rattle.scenario_fields.proofs.Loops.{front_moved}
 use Rattle.scenario_fields.specs.Fields.{with_front}
 use Rattle.scenario_fields.specs.declared.fault.ScenarioFault.{ScenarioFault}
+use Rattle.scenario_fields.specs.declared.place.LaneAt.TheVariants.{Numbered}
 use Rattle.scenario_lanes.specs.Lanes.{lane_item, lanes_from}
-use Rattle.scenario_lanes.specs.Plan.{LaneData, purchase_count}
+use Rattle.scenario_lanes.specs.Plan.{LaneData, HasRoom, HaveRoom, purchase_count}
 
 lanes_step : (path : List ℕ → List ℕ) (names : List (List ℕ)) (pin : List ℕ) (front : List LaneData) (i earlier : ℕ) (d : Data) (ds : Items) (x : LaneData) →
     lane_item path i earlier names pin d ≡ Ok x →
@@ -45,3 +47,23 @@ lanes_stopped path names pin i j earlier vs v old whole e inside item_is at befo
 
 pub purchase_count-push : (lanes : List LaneData) (x : LaneData) → purchase_count (lanes ++ x ∷ []) ≡ purchase_count lanes + length x.purchases
 purchase_count-push lanes x = sum_by_push (λ lane. length lane.purchases) lanes x
+
+-- an element of a list that has grown stands among the earlier ones, or is the new one
+push_at : {A : Type 0} (xs : List A) (e : A) (k : ℕ) (x : A) → slice_get (xs ++ e ∷ []) k ≡ Some x
+    → (slice_get xs k ≡ Some x) ⊎ ((k ≡ length xs) × (e ≡ x))
+push_at [] e zero x here = inr (refl, same_Some e x here)
+push_at [] e (suc k) x here = cc
+push_at (y ∷ ys) e zero x here = inl here
+push_at (y ∷ ys) e (suc k) x here =
+    elim (push_at ys e k x here) [ inl before ↦ inl before | inr last ↦ inr (ap (λ n. suc n) last.0, last.1) ]
+
+-- the room of one more lane
+pub HaveRoom-push : (cards : ℕ) (lanes : List LaneData) (x : LaneData) (j : ℕ) → j ≡ length lanes → HaveRoom cards lanes
+    → (x.durable ≡ true → HasRoom cards (Numbered j)) → HaveRoom cards (lanes ++ x ∷ [])
+HaveRoom-push cards lanes x j at before here i lane there durable =
+    elim (push_at lanes x i lane there) [
+      | inl old ↦ before i lane old durable
+      | inr new ↦
+          let at_end : HasRoom cards (Numbered j) = here (ap (λ (l : LaneData). l.durable) new.1 ∙ durable) in
+          subst (λ (k : ℕ). HasRoom cards (Numbered k)) (at ∙ sym new.0) at_end
+    ]

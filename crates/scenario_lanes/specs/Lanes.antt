@@ -1,5 +1,5 @@
 -- The tables of a lane and of its applications.
-use Rattle.std.specs.Prelude.{ℕ, ◌+◌, ◌-◌, Bool, List, [], ◌∷◌, length, codes, true, false, Result, Ok, Err, if◌then◌else◌}
+use Rattle.std.specs.Prelude.{ℕ, ◌+◌, ◌-◌, Bool, ◌&&◌, nat_lt, List, [], ◌∷◌, length, codes, true, false, Result, Ok, Err, if◌then◌else◌}
 use Rattle.std.specs.Str.{bytes_eq}
 use Rattle.emv_dict.specs.Pan.{least_pan, most_pan}
 use Rattle.emv_dict.specs.Settings.{most_amount}
@@ -9,14 +9,14 @@ use Rattle.toml.specs.Data.{Data, Items, no_items, item, Members, get_member}
 use Rattle.scenario_fields.specs.Fault.{◌>>=◌}
 use Rattle.scenario_fields.specs.Fields.{number_at, flag_or, text_at, code_at, bytes_at, array_at, digits_list, table_item, or_default, each, only}
 use Rattle.scenario_fields.specs.Place.{in_lane, in_aid}
-use Rattle.scenario_fields.specs.Value.{str_of}
+use Rattle.scenario_fields.specs.Value.{str_of, flag_of}
 use Rattle.scenario_fields.specs.declared.place.LaneAt.{LaneAt}
 use Rattle.scenario_fields.specs.declared.place.LaneAt.TheVariants.{Numbered, Only}
 use Rattle.scenario_fields.specs.declared.fault.ScenarioFault.{ScenarioFault}
-use Rattle.scenario_fields.specs.declared.fault.ScenarioFault.TheVariants.{BadValue}
+use Rattle.scenario_fields.specs.declared.fault.ScenarioFault.TheVariants.{BadValue, OutOfLimit}
 use Rattle.scenario_fields.specs.declared.spot.Characters.TheVariants.{LetterOrDigit}
-use Rattle.scenario_lanes.specs.Plan.{LaneData}
-use Rattle.scenario_lanes.specs.Purchases.{purchases_at}
+use Rattle.scenario_lanes.specs.Plan.{LaneData, last_pages}
+use Rattle.scenario_lanes.specs.Purchases.{purchases_at, tears_tried}
 
 unfoldable pub aid_keys : List (List ℕ)
 aid_keys =
@@ -59,9 +59,9 @@ aids_at path at ms = array_at path (codes "aid") 1 16 ms >>= each (aid_item path
 unfoldable pub lane_keys : List (List ℕ)
 lane_keys =
     codes "kind" ∷ codes "country" ∷ codes "caps" ∷ codes "id" ∷ codes "exceptions" ∷ codes "aid" ∷ codes "purchase"
-    ∷ codes "pse" ∷ codes "dialect" ∷ []
+    ∷ codes "pse" ∷ codes "dialect" ∷ codes "durable" ∷ []
 
--- the settings of a lane's terminal, with the key for PINs; whether it begins with the directory stands behind the purchases
+-- the settings of a lane's terminal but for the directory, which is read behind the purchases
 unfoldable pub settings_of : (List ℕ → List ℕ) → LaneAt → List ℕ → Members → Result SettingsData ScenarioFault
 settings_of path at pin_key ms = do
   kind ← number_at path (codes "kind") 21 26 ms
@@ -87,6 +87,19 @@ dialect_in Only path d = Err (BadValue path)
 unfoldable pub dialect_or_tlv : LaneAt → (List ℕ → List ℕ) → Members → Result Bool ScenarioFault
 dialect_or_tlv at path ms = or_default false (dialect_in at (path (codes "dialect"))) (get_member (codes "dialect") ms)
 
+-- the store of lane `i` is on no card's pages
+unfoldable pub durable_on : ℕ → ℕ → List ℕ → Bool → Result Bool ScenarioFault
+durable_on cards i path durable = if durable && nat_lt (last_pages - i) cards then Err (OutOfLimit path) else Ok durable
+
+-- a trace's terminal has no store
+abbrev pub durable_in : ℕ → LaneAt → List ℕ → Data → Result Bool ScenarioFault
+durable_in cards (Numbered i) path d = flag_of path d >>= durable_on cards i path
+durable_in cards Only path d = Err (BadValue path)
+
+-- whether a lane keeps its captures durably, where the scenario has so many cards
+unfoldable pub durable_or_not : ℕ → LaneAt → (List ℕ → List ℕ) → Members → Result Bool ScenarioFault
+durable_or_not cards at path ms = or_default false (durable_in cards at (path (codes "durable"))) (get_member (codes "durable") ms)
+
 -- a lane of `least` to `most` purchases
 unfoldable pub lane_of : (List ℕ → List ℕ) → LaneAt → ℕ → ℕ → List (List ℕ) → List ℕ → Members → Result LaneData ScenarioFault
 lane_of path at least most names pin_key ms = do
@@ -94,8 +107,10 @@ lane_of path at least most names pin_key ms = do
   purchases ← purchases_at path at least most names ms
   pse ← flag_or false path (codes "pse") ms
   iso ← dialect_or_tlv at path ms
+  durable ← durable_or_not (length names) at path ms
+  _ ← tears_tried at durable purchases
   _ ← only path lane_keys ms
-  Ok (record { settings = record settings { pse = pse }; purchases = purchases; iso = iso })
+  Ok (record { settings = record settings { pse = pse }; purchases = purchases; iso = iso; durable = durable })
 
 -- lane `i`, where the lanes before it have `earlier` purchases: at most 10,000 in all lanes
 unfoldable pub lane_item : (List ℕ → List ℕ) → ℕ → ℕ → List (List ℕ) → List ℕ → Data → Result LaneData ScenarioFault

@@ -1,5 +1,5 @@
 -- The tables of a purchase and of its tear.
-use Rattle.std.specs.Prelude.{ℕ, ◌+◌, List, [], ◌∷◌, codes, true, false, Option, Some, None, Result, Ok, Err, if◌then◌else◌}
+use Rattle.std.specs.Prelude.{ℕ, ◌+◌, List, [], ◌∷◌, codes, Bool, true, false, is_some, Option, Some, None, Result, Ok, Err, if◌then◌else◌}
 use Rattle.std.specs.Int.{to_be_bytes, w32}
 use Rattle.std.specs.Str.{bytes_eq}
 use Rattle.emv_dict.specs.Settings.{most_amount}
@@ -10,7 +10,7 @@ use Rattle.emv_ports.specs.declared.tear.TearAt.TheVariants.{Before, Within, Rel
 use Rattle.toml.specs.Data.{Data, Members, get_member}
 use Rattle.scenario_fields.specs.Fault.{◌>>=◌}
 use Rattle.scenario_fields.specs.Fields.{number_at, number_or, listed_or, flag_or, str_at, text_at, code_at, six_digits_or, day_at, array_at, optional_table, table_item, digits_list, or_default, each, only}
-use Rattle.scenario_fields.specs.Place.{in_purchase, in_tear}
+use Rattle.scenario_fields.specs.Place.{in_purchase, in_tear, in_terminal_tear}
 use Rattle.scenario_fields.specs.Value.{str_of}
 use Rattle.scenario_fields.specs.declared.place.LaneAt.{LaneAt}
 use Rattle.scenario_fields.specs.declared.place.LaneAt.TheVariants.{Numbered, Only}
@@ -49,18 +49,18 @@ tear_of path ms = do
   _ ← only path tear_keys ms
   Ok (record { commit = commit; at = moment })
 
--- a trace's card is no image whose power could be cut
-abbrev pub tear_in : (List ℕ → List ℕ) → LaneAt → ℕ → Members → Result Tear ScenarioFault
-tear_in path (Numbered i) j ms = tear_of (in_tear (Numbered i) j) ms
-tear_in path Only j ms = Err (BadValue (path (codes "tear")))
+-- the power of a trace's card and terminal is not cut
+abbrev pub tear_in : (List ℕ → List ℕ) → (List ℕ → List ℕ) → List ℕ → LaneAt → Members → Result Tear ScenarioFault
+tear_in path inner key (Numbered i) ms = tear_of inner ms
+tear_in path inner key Only ms = Err (BadValue (path key))
 
-abbrev pub tear_if : (List ℕ → List ℕ) → LaneAt → ℕ → Option Members → Result (Option Tear) ScenarioFault
-tear_if path at j None = Ok None
-tear_if path at j (Some ms) = tear_in path at j ms >>= (λ tear. Ok (Some tear))
+abbrev pub tear_if : (List ℕ → List ℕ) → (List ℕ → List ℕ) → List ℕ → LaneAt → Option Members → Result (Option Tear) ScenarioFault
+tear_if path inner key at None = Ok None
+tear_if path inner key at (Some ms) = tear_in path inner key at ms >>= (λ tear. Ok (Some tear))
 
--- the tear of purchase `j` of a lane, whose keys have these paths
-unfoldable pub tear_at : (List ℕ → List ℕ) → LaneAt → ℕ → Members → Result (Option Tear) ScenarioFault
-tear_at path at j ms = optional_table path (codes "tear") ms >>= tear_if path at j
+-- a tear at a key of a purchase; `inner` gives the paths of its own keys
+unfoldable pub tear_at : (List ℕ → List ℕ) → (List ℕ → List ℕ) → List ℕ → LaneAt → Members → Result (Option Tear) ScenarioFault
+tear_at path inner key at ms = optional_table path key ms >>= tear_if path inner key at
 
 -- what becomes of the message to the host, by its word
 unfoldable pub link_named : List ℕ → List ℕ → Result Link ScenarioFault
@@ -127,7 +127,8 @@ purchase_of path ms = do
 unfoldable pub planned_keys : List (List ℕ)
 planned_keys =
     codes "card" ∷ codes "amount" ∷ codes "other" ∷ codes "currency" ∷ codes "trade" ∷ codes "services" ∷ codes "date" ∷ codes "time"
-    ∷ codes "number" ∷ codes "word" ∷ codes "pins" ∷ codes "forced" ∷ codes "confirm" ∷ codes "link" ∷ codes "tear" ∷ []
+    ∷ codes "number" ∷ codes "word" ∷ codes "pins" ∷ codes "forced" ∷ codes "confirm" ∷ codes "link" ∷ codes "tear"
+    ∷ codes "terminal_tear" ∷ []
 
 -- purchase `j` of a lane, with the names of the cards
 unfoldable pub planned_of : (List ℕ → List ℕ) → LaneAt → ℕ → List (List ℕ) → Members → Result Planned ScenarioFault
@@ -135,9 +136,10 @@ planned_of path at j names ms = do
   card ← card_at path names ms
   purchase ← purchase_of path ms
   link ← link_or_sound at path ms
-  tear ← tear_at path at j ms
+  tear ← tear_at path (in_tear at j) (codes "tear") at ms
+  terminal_tear ← tear_at path (in_terminal_tear at j) (codes "terminal_tear") at ms
   _ ← only path planned_keys ms
-  Ok (record { purchase = purchase; card = card; link = link; tear = tear })
+  Ok (record { purchase = purchase; card = card; link = link; tear = tear; terminal_tear = terminal_tear })
 
 unfoldable pub planned_item : (List ℕ → List ℕ) → LaneAt → List (List ℕ) → ℕ → Data → Result Planned ScenarioFault
 planned_item path at names j d = table_item path (codes "purchase") j d >>= planned_of (in_purchase at j) at j names
@@ -147,3 +149,14 @@ unfoldable pub purchases_at : (List ℕ → List ℕ) → LaneAt → ℕ → ℕ
 purchases_at path at least most names ms = do
   items ← array_at path (codes "purchase") least most ms
   each (planned_item path at names) 0 items
+
+-- no purchase of a lane, from number `j` on, has a terminal tear
+abbrev pub no_terminal_tears : LaneAt → ℕ → List Planned → Result (Unit {0}) ScenarioFault
+no_terminal_tears at j [] = Ok tt
+no_terminal_tears at j (p ∷ ps) =
+    if is_some p.terminal_tear then Err (BadValue (in_purchase at j (codes "terminal_tear"))) else no_terminal_tears at (j + 1) ps
+
+-- only a terminal that keeps its captures durably has something to lose
+abbrev pub tears_tried : LaneAt → Bool → List Planned → Result (Unit {0}) ScenarioFault
+tears_tried at true ps = Ok tt
+tears_tried at false ps = no_terminal_tears at 0 ps

@@ -1,16 +1,17 @@
 //! The tables of a lane and of its applications.
-ghost use Rattle.std.specs.Prelude.{◌≡◌, ◌≤◌, ◌+◌, length, map, IfOk, vec_len};
+ghost use Rattle.std.specs.Prelude.{◌≡◌, ◌≤◌, ◌+◌, ◌-◌, length, map, IfOk, vec_len, true};
 ghost use Rattle.std.specs.List.{All};
 ghost use Rattle.emv_dict.specs.Settings.{IsAidRow, IsSettings};
 ghost use Rattle.toml.specs.View.{view, table_view, items_view};
 ghost use Rattle.scenario_fields.specs.Fault.{Gives};
 ghost use Rattle.scenario_fields.specs.Fields.{only, each};
 ghost use Rattle.scenario_fields.specs.Place.{path, spot_path};
-ghost use Rattle.scenario_lanes.specs.Lanes.{aid_keys, aid_of, aid_item, aids_at, lane_keys, settings_of, dialect_named, dialect_in, dialect_or_tlv, lane_of, traced_lane, lane_item, lanes_from, lanes_at};
-ghost use Rattle.scenario_lanes.specs.Plan.{IsLane, purchase_count};
+ghost use Rattle.scenario_lanes.specs.Lanes.{aid_keys, aid_of, aid_item, aids_at, lane_keys, settings_of, dialect_named, dialect_in, dialect_or_tlv, durable_on, durable_in, durable_or_not, lane_of, traced_lane, lane_item, lanes_from, lanes_at};
+ghost use Rattle.scenario_lanes.specs.Plan.{IsLane, HasRoom, HaveRoom, last_pages, purchase_count};
+ghost use Rattle.scenario_fields.specs.declared.place.LaneAt.TheVariants.{Numbered};
 
 use crate::plan::Lane;
-use crate::purchase::purchases_at;
+use crate::purchase::{purchases_at, try_terminal_tears};
 use emv_dict::{AidRow, LEAST_PAN, MOST_AMOUNT, MOST_PAN, Name, Settings};
 use scenario_fields::{Characters, Fields, LaneAt, Place, ScenarioFault, Spot};
 use std::alloc::Global;
@@ -18,6 +19,10 @@ use toml::{Table, Value};
 
 /// All lanes together have at most so many purchases.
 const MOST_PURCHASES: usize = 10_000;
+
+/// The last of the bank's page objects, which is that of lane 0's store. The next lane has the one
+/// before it.
+pub const LAST_PAGES: usize = 63;
 
 #[tactic(auto, unfolding(crate::specs::Lanes::aid_keys))]
 fn only_aid_keys(fields: &Fields) -> Result<(), ScenarioFault>
@@ -120,6 +125,7 @@ fn only_lane_keys(fields: &Fields) -> Result<(), ScenarioFault>
         "purchase",
         "pse",
         "dialect",
+        "durable",
     ])
 }
 
@@ -188,6 +194,43 @@ fn dialect_or_tlv(fields: &Fields, lane: LaneAt) -> Result<bool, ScenarioFault>
     }
 }
 
+/// Whether a lane keeps its captures durably: its page object must be none of the cards'.
+#[tactic(auto, unfolding(crate::specs::Lanes::durable_on))]
+fn durable_on(spot: &Spot, lane: usize, cards: usize, durable: bool) -> Result<bool, ScenarioFault>
+    ensures exact { Gives (λ durable. durable) result (durable_on cards lane (spot_path spot.now.place spot.now.key.now spot.now.index) durable) }
+    ensures room { IfOk result (λ durable. durable ≡ true → cards ≤ last_pages - lane) }
+{
+    if durable && LAST_PAGES.saturating_sub(lane) < cards {
+        Err(spot.far())
+    } else {
+        Ok(durable)
+    }
+}
+
+/// Whether a lane keeps its captures durably, by the value for it. The terminal of a trace has no
+/// store.
+fn durable_in(spot: &Spot, lane: LaneAt, cards: usize, value: &Value) -> Result<bool, ScenarioFault>
+    ensures exact { Gives (λ durable. durable) result (durable_in cards lane (spot_path spot.now.place spot.now.key.now spot.now.index) (view value.now)) }
+    ensures room { IfOk result (λ durable. durable ≡ true → HasRoom cards lane) }
+{
+    match lane {
+        LaneAt::Numbered(index) => durable_on(spot, index, cards, spot.flag(value)?),
+        LaneAt::Only => Err(spot.bad()),
+    }
+}
+
+/// Whether a lane keeps its captures durably, where the scenario has so many cards.
+#[tactic(auto, unfolding(crate::specs::Lanes::durable_or_not))]
+fn durable_or_not(fields: &Fields, lane: LaneAt, cards: usize) -> Result<bool, ScenarioFault>
+    ensures exact { Gives (λ durable. durable) result (durable_or_not cards lane (path fields.now.place) (table_view fields.now.table.now)) }
+    ensures room { IfOk result (λ durable. durable ≡ true → HasRoom cards lane) }
+{
+    match fields.optional("durable") {
+        Some(value) => durable_in(&fields.spot("durable"), lane, cards, value),
+        None => Ok(false),
+    }
+}
+
 /// A lane of `least` to `most` purchases.
 #[tactic(auto, unfolding(crate::specs::Lanes::lane_of))]
 fn lane_with(
@@ -202,24 +245,29 @@ fn lane_with(
     ensures some { IfOk result (λ lane. least ≤ length lane.purchases) }
     ensures few { IfOk result (λ lane. length lane.purchases ≤ most) }
     ensures rules { IfOk result IsLane }
+    ensures room { IfOk result (λ found. found.durable ≡ true → HasRoom (length cards.now) lane) }
     ensures pin { IfOk result (λ lane. lane.settings.pin_key ≡ pin_key) }
 {
     let settings = read_settings(fields, lane, pin_key)?;
     let purchases = purchases_at(fields, lane, least, most, cards)?;
     let pse = fields.flag_or(false, "pse")?;
     let iso = dialect_or_tlv(fields, lane)?;
+    let durable = durable_or_not(fields, lane, cards.len())?;
+    try_terminal_tears(fields, lane, durable, &purchases)?;
     only_lane_keys(fields)?;
     Ok(Lane {
         settings: Settings { pse, ..settings },
         purchases,
         iso,
+        durable,
     })
 }
 
 /// The lane of a captured trace, from the table at the key `lane`, the only one of its document: with
 /// one purchase, whose card has a name that no card is looked up by, so that its index is 0. `pin_key` is
-/// the key under which the terminal sends PINs to the issuer. A `link`, a `tear` or a `dialect`, which
-/// would act on the host's side, the card or the messages, is a `BadValue` where it stands.
+/// the key under which the terminal sends PINs to the issuer. A `link`, a `tear`, a `terminal_tear`, a
+/// `dialect` or a `durable`, which would act on the host's side, the card, the terminal's memory or the
+/// messages, is a `BadValue` where it stands.
 pub fn read_lane(alloc: Global, table: &Table, pin_key: [u8; 16]) -> Result<Lane, ScenarioFault>
     ensures exact { Gives (λ lane. lane) result (traced_lane pin_key (table_view table.now)) }
     ensures one { IfOk result (λ lane. length lane.purchases ≡ 1) }
@@ -248,6 +296,7 @@ fn lane_item(
     ensures exact { Gives (λ lane. lane) result (lane_item (path document.now.place) lane earlier (map (λ name. name.now) cards.now) pin_key (view value.now)) }
     ensures count { IfOk result (λ lane. earlier + length lane.purchases ≤ 10000) }
     ensures rules { IfOk result IsLane }
+    ensures room { IfOk result (λ found. found.durable ≡ true → HasRoom (length cards.now) (Numbered lane)) }
     ensures pin { IfOk result (λ lane. lane.settings.pin_key ≡ pin_key) }
 {
     let at = LaneAt::Numbered(lane);
@@ -266,6 +315,7 @@ fn read_lanes(
     ensures count { IfOk result (λ lanes. vec_len lanes ≡ length values.now) }
     ensures few { IfOk result (λ lanes. purchase_count lanes.items ≤ 10000) }
     ensures rules { IfOk result (λ lanes. All IsLane lanes.items) }
+    ensures rooms { IfOk result (λ lanes. HaveRoom (length cards.now) lanes.items) }
     ensures pins { IfOk result (λ lanes. All (λ lane. lane.settings.pin_key ≡ pin_key) lanes.items) }
 {
     let mut lanes: Vec<Lane> = Vec::new(document.alloc);
@@ -292,6 +342,7 @@ pub fn lanes_at(
     ensures few { IfOk result (λ lanes. vec_len lanes ≤ 16) }
     ensures few_purchases { IfOk result (λ lanes. purchase_count lanes.items ≤ 10000) }
     ensures rules { IfOk result (λ lanes. All IsLane lanes.items) }
+    ensures rooms { IfOk result (λ lanes. HaveRoom (length cards.now) lanes.items) }
     ensures pins { IfOk result (λ lanes. All (λ lane. lane.settings.pin_key ≡ pin_key) lanes.items) }
 {
     read_lanes(document, cards, pin_key, document.array("lane", 1, 16)?)

@@ -25,6 +25,8 @@ pub struct Planned {
     pub link: Link,
     /// Where the power of its card is cut.
     pub tear: Option<Tear>,
+    /// Where the power of its terminal is cut, whose commits are counted from the store's opening.
+    pub terminal_tear: Option<Tear>,
 }
 
 /// A terminal and its purchases in their order. Contracts see a list in place of the vector.
@@ -34,6 +36,8 @@ pub struct Lane {
     pub purchases: Vec<Planned>,
     /// Whether its messages to the issuer's host go in the form of ISO 8583.
     pub iso: bool,
+    /// Whether it keeps its captures on a page object of the bank, and not in working memory alone.
+    pub durable: bool,
 }
 
 impl Model for Lane {
@@ -41,5 +45,5 @@ impl Model for Lane {
 
     ghost Value = { LaneData };
 
-    ghost view = { λ lane. record { settings = lane.settings; purchases = lane.purchases.items; iso = lane.iso } };
+    ghost view = { λ lane. record { settings = lane.settings; purchases = lane.purchases.items; iso = lane.iso; durable = lane.durable } };
 }

@@ -3,11 +3,12 @@ ghost use Rattle.std.specs.Prelude.{◌≡◌, ◌≤◌, ◌==◌, ◌||◌, []
 ghost use Rattle.std.specs.List.{All};
 ghost use Rattle.emv_dict.specs.Settings.{IsPurchase};
 ghost use Rattle.toml.specs.View.{view, table_view, items_view};
-ghost use Rattle.scenario_fields.specs.Fault.{Gives};
+ghost use Rattle.scenario_fields.specs.Fault.{Gives, Tells};
 ghost use Rattle.scenario_fields.specs.Fields.{listed_or, only, each};
-ghost use Rattle.scenario_fields.specs.Place.{path, spot_path};
+ghost use Rattle.scenario_fields.specs.Place.{path, spot_path, in_purchase};
+ghost use Rattle.scenario_fields.specs.declared.fault.ScenarioFault.TheVariants.{BadValue};
 ghost use Rattle.scenario_lanes.specs.Plan.{IsPlanned};
-ghost use Rattle.scenario_lanes.specs.Purchases.{link_named, link_of, link_in, link_or_sound, place_of, card_at, purchase_of, planned_keys, planned_of, planned_item, purchases_at};
+ghost use Rattle.scenario_lanes.specs.Purchases.{link_named, link_of, link_in, link_or_sound, place_of, card_at, purchase_of, planned_keys, planned_of, planned_item, purchases_at, no_terminal_tears, tears_tried};
 
 use crate::plan::{Link, Planned};
 use crate::tear::tear_at;
@@ -137,8 +138,22 @@ fn only_planned_keys(fields: &Fields) -> Result<(), ScenarioFault>
     ensures { Gives (λ u. u) result (only (path fields.now.place) planned_keys (table_view fields.now.table.now)) }
 {
     fields.only(&[
-        "card", "amount", "other", "currency", "trade", "services", "date", "time", "number",
-        "word", "pins", "forced", "confirm", "link", "tear",
+        "card",
+        "amount",
+        "other",
+        "currency",
+        "trade",
+        "services",
+        "date",
+        "time",
+        "number",
+        "word",
+        "pins",
+        "forced",
+        "confirm",
+        "link",
+        "tear",
+        "terminal_tear",
     ])
 }
 
@@ -156,13 +171,16 @@ fn read_planned(
     let card = card_at(fields, cards)?;
     let purchase = read_purchase(fields)?;
     let link = link_or_sound(fields, lane)?;
-    let tear = tear_at(fields, lane, index)?;
+    let tear = tear_at(fields, lane, "tear", Place::Tear(lane, index))?;
+    let inner = Place::TerminalTear(lane, index);
+    let terminal_tear = tear_at(fields, lane, "terminal_tear", inner)?;
     only_planned_keys(fields)?;
     Ok(Planned {
         purchase,
         card,
         link,
         tear,
+        terminal_tear,
     })
 }
 
@@ -216,4 +234,49 @@ pub fn purchases_at(
 {
     let values = fields.array("purchase", least, most)?;
     read_purchases(fields, lane, cards, values)
+}
+
+/// The fault of a purchase whose terminal has no store that could be torn.
+fn terminal_tear_fault(fields: &Fields, lane: LaneAt, index: usize) -> ScenarioFault
+    ensures { Tells result (BadValue (in_purchase lane index (codes "terminal_tear"))) }
+{
+    let spot = Spot {
+        alloc: fields.alloc,
+        place: Place::Purchase(lane, index),
+        key: "terminal_tear",
+        index: None,
+    };
+    spot.bad()
+}
+
+/// That no purchase of a lane has a terminal tear.
+fn no_terminal_tears(
+    fields: &Fields,
+    lane: LaneAt,
+    purchases: &[Planned],
+) -> Result<(), ScenarioFault>
+    ensures { Gives (λ u. u) result (no_terminal_tears lane 0 purchases.now) }
+{
+    for (index, planned) in purchases.iter().enumerate() {
+        if planned.terminal_tear.is_some() {
+            return Err(terminal_tear_fault(fields, lane, index));
+        }
+    }
+    Ok(())
+}
+
+/// That no purchase has a terminal tear, unless the terminal keeps its captures durably.
+pub fn try_terminal_tears(
+    fields: &Fields,
+    lane: LaneAt,
+    durable: bool,
+    purchases: &[Planned],
+) -> Result<(), ScenarioFault>
+    ensures { Gives (λ u. u) result (tears_tried lane durable purchases.now) }
+{
+    if durable {
+        Ok(())
+    } else {
+        no_terminal_tears(fields, lane, purchases)
+    }
 }

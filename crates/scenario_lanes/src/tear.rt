@@ -8,7 +8,6 @@ ghost use Rattle.scenario_fields.specs.Fields.{only};
 ghost use Rattle.scenario_fields.specs.Place.{path};
 ghost use Rattle.scenario_lanes.specs.Plan.{IsEarly, write_number};
 ghost use Rattle.scenario_lanes.specs.Purchases.{without_write, moment_of, tear_keys, tear_of, tear_in, tear_at};
-ghost use Rattle.scenario_fields.specs.declared.place.Place.TheVariants as places;
 
 use emv_ports::{Tear, TearAt};
 use scenario_fields::{Fields, LaneAt, Place, ScenarioFault};
@@ -63,33 +62,32 @@ fn read_tear(fields: &Fields) -> Result<Tear, ScenarioFault>
     Ok(Tear { commit, at })
 }
 
-/// The tear of a purchase. The card of a trace has none.
-fn tear_in(
-    fields: &Fields,
-    lane: LaneAt,
-    index: usize,
-    tear: &Fields,
-) -> Result<Tear, ScenarioFault>
-    requires { tear.now.place ≡ places.Tear lane index }
-    ensures exact { Gives (λ tear. tear) result (tear_in (path fields.now.place) lane index (table_view tear.now.table.now)) }
+/// The tear at a key of a purchase. A trace has none.
+fn tear_in(fields: &Fields, lane: LaneAt, key: &str, tear: &Fields) -> Result<Tear, ScenarioFault>
+    ensures exact { Gives (λ tear. tear) result (tear_in (path fields.now.place) (path tear.now.place) key.now lane (table_view tear.now.table.now)) }
     ensures plan { IfOk result (λ tear. IsTrue (is_place tear.at)) }
     ensures early { IfOk result IsEarly }
 {
     match lane {
         LaneAt::Numbered(_) => read_tear(tear),
-        LaneAt::Only => Err(fields.spot("tear").bad()),
+        LaneAt::Only => Err(fields.spot(key).bad()),
     }
 }
 
-/// The tear of a purchase, where it has one.
+/// The tear at a key of a purchase, where it has one: of its card, or of its terminal.
 #[tactic(auto, unfolding(crate::specs::Purchases::tear_at))]
-pub fn tear_at(fields: &Fields, lane: LaneAt, index: usize) -> Result<Option<Tear>, ScenarioFault>
-    ensures exact { Gives (λ tear. tear) result (tear_at (path fields.now.place) lane index (table_view fields.now.table.now)) }
+pub fn tear_at(
+    fields: &Fields,
+    lane: LaneAt,
+    key: &str,
+    place: Place,
+) -> Result<Option<Tear>, ScenarioFault>
+    ensures exact { Gives (λ tear. tear) result (tear_at (path fields.now.place) (path place) key.now lane (table_view fields.now.table.now)) }
     ensures plan { IfOk result (λ tear. IsTrue (is_plan tear)) }
     ensures early { IfOk result (λ tear. IfSome tear IsEarly) }
 {
-    match fields.optional_inner("tear", Place::Tear(lane, index))? {
-        Some(tear) => Ok(Some(tear_in(fields, lane, index, &tear)?)),
+    match fields.optional_inner(key, place)? {
+        Some(tear) => Ok(Some(tear_in(fields, lane, key, &tear)?)),
         None => Ok(None),
     }
 }

@@ -1,14 +1,30 @@
 -- The pages that cards take and give back.
-use Rattle.std.proofs.Common.{◌≡◌, ℕ, zero, suc, ◌+◌, ◌-◌, ◌≤◌, ◌<◌, List, [], ◌∷◌, ◌++◌, length, map, drop, take, get_or, slice_get, Some, refl, sym, ap, ◌∙◌, subst, inl, inr, arith}
-use Rattle.std.specs.List.{All}
+use Rattle.std.proofs.Common.{◌≡◌, ℕ, zero, suc, ◌+◌, ◌-◌, ◌≤◌, ◌<◌, cond, List, [], ◌∷◌, ◌++◌, length, map, drop, take, get_or, slice_get, Option, Bool, true, false, Some, None, refl, sym, ap, ◌∙◌, subst, inl, inr, arith}
+use Rattle.std.specs.List.{All, insert, remove, take-map}
+use Rattle.std.specs.Prelude.{is_some}
 use Rattle.std.proofs.lemmas.Bool.{cases_eq}
-use Rattle.std.proofs.lemmas.List.{drop-map}
-use Rattle.std.proofs.lemmas.List.Elements.{All-drop}
+use Rattle.std.proofs.lemmas.List.{drop-map, map-append}
+use Rattle.std.proofs.lemmas.List.Elements.{All-append, All-drop, All-take}
+use Rattle.std.proofs.lemmas.List.Sums.{sum_by-append, sum_by-cons}
 use Rattle.std.proofs.lemmas.Option.{same_Some, slice_get_within}
+use Rattle.capture_store.specs.SeenShelf.{ShelfSeen, ShelfOff}
+use Rattle.capture_store.specs.StoreRow.{new_store}
 use Rattle.emv_ports.specs.Memory.{Memory, IsBlank}
 use Rattle.scenario.specs.Cards.{CardData}
-use Rattle.txn_replay.specs.Banked.{IsNew, AreNew, IsLeft, AreGiven}
+use Rattle.scenario_lanes.specs.Plan.{LaneData}
+use Rattle.txn_replay.specs.Banked.{IsNew, AreNew, IsNewStore, AreNewStores, stores_in, IsLeft, AreGiven, IsStoreLeft, IsStoreGiven, StoresAreGiven}
 use Rattle.txn_replay.specs.Slot.{SlotSeen}
+
+-- the new element of a longer list, and the others
+at_end : {A : Type 0} (xs : List A) (x y : A) → slice_get (xs ++ x ∷ []) (length xs) ≡ Some y → x ≡ y
+at_end [] x y at = same_Some x y at
+at_end (z ∷ zs) x y at = at_end zs x y at
+
+in_front : {A : Type 0} (xs : List A) (x y : A) (i : ℕ) → (i ≡ length xs → ⊥) → slice_get (xs ++ x ∷ []) i ≡ Some y → slice_get xs i ≡ Some y
+in_front [] x y zero other at = absurd (other refl)
+in_front [] x y (suc i) other at = cc
+in_front (z ∷ zs) x y zero other at = at
+in_front (z ∷ zs) x y (suc i) other at = in_front zs x y i (λ same. other (ap (λ n. suc n) same)) at
 
 -- one card more
 pub one_new : (cards : List CardData) (slots : List SlotSeen) (card : CardData) (slot : SlotSeen) → AreNew cards slots
@@ -21,16 +37,106 @@ one_new cards slots card slot before here new = λ i other found wanted there.
           subst (λ (x : CardData). IsNew x found) its (subst (λ (x : SlotSeen). IsNew card x) slot_is new)
       | inr differs ↦ before i other found wanted (in_front slots slot found i differs there)
     ]
-  where
-    at_end : (xs : List SlotSeen) (x y : SlotSeen) → slice_get (xs ++ x ∷ []) (length xs) ≡ Some y → x ≡ y
-    at_end [] x y at = same_Some x y at
-    at_end (z ∷ zs) x y at = at_end zs x y at
 
-    in_front : (xs : List SlotSeen) (x y : SlotSeen) (i : ℕ) → (i ≡ length xs → ⊥) → slice_get (xs ++ x ∷ []) i ≡ Some y → slice_get xs i ≡ Some y
-    in_front [] x y zero other at = absurd (other refl)
-    in_front [] x y (suc i) other at = cc
-    in_front (z ∷ zs) x y zero other at = at
-    in_front (z ∷ zs) x y (suc i) other at = in_front zs x y i (λ same. other (ap (λ n. suc n) same)) at
+-- one store more, or one lane without a store
+pub one_new_store : (lanes : List LaneData) (shelves : List ShelfSeen) (lane : LaneData) (shelf : ShelfSeen) → AreNewStores lanes shelves
+    → slice_get lanes (length shelves) ≡ Some lane → IsNewStore shelf lane.durable → AreNewStores lanes (shelves ++ shelf ∷ [])
+one_new_store lanes shelves lane shelf before here new = λ i other found wanted there.
+    elim (cases_eq i (length shelves)) [
+      | inl same ↦
+          let its : lane ≡ other = same_Some lane other (sym here ∙ ap (λ n. slice_get lanes n) (sym same) ∙ wanted) in
+          let shelf_is : shelf ≡ found = at_end shelves shelf found (ap (λ n. slice_get (shelves ++ shelf ∷ []) n) (sym same) ∙ there) in
+          subst (λ (x : LaneData). IsNewStore found x.durable) its (subst (λ (x : ShelfSeen). IsNewStore x lane.durable) shelf_is new)
+      | inr differs ↦ before i other found wanted (in_front shelves shelf found i differs there)
+    ]
+
+pub stores_more : (shelves : List ShelfSeen) (shelf : ShelfSeen) → stores_in (shelves ++ shelf ∷ []) ≡ stores_in shelves + cond (is_some shelf) 1 0
+stores_more shelves shelf =
+    let both : stores_in (shelves ++ shelf ∷ []) ≡ stores_in shelves + stores_in (shelf ∷ []) = sum_by-append (λ (x : ShelfSeen). cond (is_some x) 1 0) shelves (shelf ∷ []) in
+    let one : stores_in (shelf ∷ []) ≡ cond (is_some shelf) 1 0 + 0 = sum_by-cons (λ (x : ShelfSeen). cond (is_some x) 1 0) shelf [] in
+    omega (arith, both, one)
+
+pub store_is_some : (shelf : ShelfSeen) → ShelfOff shelf new_store → is_some shelf ≡ true
+store_is_some None off = absurd off
+store_is_some (Some seen) off = refl
+
+pub one_store : (shelf : ShelfSeen) → is_some shelf ≡ true → stores_in (shelf ∷ []) ≡ 1
+one_store shelf some =
+    let one : stores_in (shelf ∷ []) ≡ cond (is_some shelf) 1 0 + 0 = sum_by-cons (λ (x : ShelfSeen). cond (is_some x) 1 0) shelf [] in
+    let is : cond (is_some shelf) 1 0 + 0 ≡ 1 = ap (λ (b : Bool). cond b 1 0 + 0) some in
+    omega (arith, one, is)
+
+pub zero_store : (shelf : ShelfSeen) → is_some shelf ≡ false → stores_in (shelf ∷ []) ≡ 0
+zero_store shelf none =
+    let one : stores_in (shelf ∷ []) ≡ cond (is_some shelf) 1 0 + 0 = sum_by-cons (λ (x : ShelfSeen). cond (is_some x) 1 0) shelf [] in
+    let is : cond (is_some shelf) 1 0 + 0 ≡ 0 = ap (λ (b : Bool). cond b 1 0 + 0) none in
+    omega (arith, one, is)
+
+pub no_store : (shelf : ShelfSeen) → shelf ≡ None → stores_in (shelf ∷ []) ≡ 0
+no_store shelf none =
+    let one : stores_in (shelf ∷ []) ≡ cond (is_some shelf) 1 0 + 0 = sum_by-cons (λ (x : ShelfSeen). cond (is_some x) 1 0) shelf [] in
+    let is : cond (is_some shelf) 1 0 + 0 ≡ 0 = ap (λ (x : ShelfSeen). cond (is_some x) 1 0 + 0) none in
+    omega (arith, one, is)
+
+pub single : (shelf : ShelfSeen) → stores_in (shelf ∷ []) ≡ cond (is_some shelf) 1 0
+single shelf =
+    let one : stores_in (shelf ∷ []) ≡ cond (is_some shelf) 1 0 + 0 = sum_by-cons (λ (x : ShelfSeen). cond (is_some x) 1 0) shelf [] in
+    omega (arith, one)
+
+pub one_of : (shelf : ShelfSeen) → cond (is_some shelf) 1 0 ≤ 1
+one_of None = omega arith
+one_of (Some seen) = omega arith
+
+-- no more stores than shelves
+pub stores_few : (shelves : List ShelfSeen) → stores_in shelves ≤ length shelves
+stores_few [] = omega arith
+stores_few (shelf ∷ shelves) =
+    let more : stores_in (shelf ∷ shelves) ≡ cond (is_some shelf) 1 0 + stores_in shelves = sum_by-cons (λ (x : ShelfSeen). cond (is_some x) 1 0) shelf shelves in
+    omega (arith, more, one_of shelf, stores_few shelves)
+
+-- pages put back among others
+pub map_insert : {A : Type 0} (f : A → Memory) (xs : List A) (i : ℕ) (x : A) → map f (insert xs i x) ≡ insert (map f xs) i (f x)
+map_insert {A} f xs i x =
+    map-append f (take i xs) (x ∷ drop i xs) ∙ ap (λ ys. ys ++ f x ∷ map f (drop i xs)) (sym (take-map f i xs)) ∙ ap (λ ys. take i (map f xs) ++ f x ∷ ys) (sym (drop-map f i xs))
+
+-- what a shelf leaves
+pub left_given : (shelf : ShelfSeen) (memory : Memory) → is_some shelf ≡ true → IsStoreLeft shelf memory → IsStoreGiven shelf (Some memory)
+left_given None memory none left = cc
+left_given (Some seen) memory some left = left
+
+pub none_left : (shelf : ShelfSeen) → is_some shelf ≡ false → IsStoreGiven shelf None
+none_left None none = tt
+none_left (Some seen) none = cc
+
+-- a store takes none of the pages that the cards need
+pub room_left : (cards index before now stores : ℕ) (shelf : ShelfSeen) (durable : Bool) → is_some shelf ≡ durable → before + stores ≡ 64 → stores ≤ index
+    → index < 16 → now + cond (is_some shelf) 1 0 ≡ before → cards ≤ before → (durable ≡ true → cards ≤ 63 - index) → cards ≤ now
+room_left cards index before now stores shelf durable is whole few within taken fits room = by durable is room
+  where
+    by : (b : Bool) → is_some shelf ≡ b → (b ≡ true → cards ≤ 63 - index) → cards ≤ now
+    by true some own =
+        let one : cond (is_some shelf) 1 0 + 0 ≡ 1 = ap (λ (x : Bool). cond x 1 0 + 0) some in
+        let enough : cards ≤ 63 - index = own refl in
+        omega (arith, one, enough, whole, few, within, taken)
+    by false none own =
+        let zero_of : cond (is_some shelf) 1 0 + 0 ≡ 0 = ap (λ (x : Bool). cond x 1 0 + 0) none in
+        omega (arith, zero_of, taken, fits)
+
+-- the pages that are left are still blank, and those that are taken were
+pub left_blank : {A : Type 0} (f : A → Memory) (xs : List A) (i : ℕ) → All IsBlank (map f xs) → All IsBlank (map f (remove xs i))
+left_blank {A} f xs i blank =
+    subst (λ (ms : List Memory). All IsBlank ms) (sym (map-append f (take i xs) (drop (suc i) xs)))
+    (All-append IsBlank (map f (take i xs)) (map f (drop (suc i) xs))
+    (subst (λ (ms : List Memory). All IsBlank ms) (take-map f i xs) (All-take IsBlank i (map f xs) blank))
+    (subst (λ (ms : List Memory). All IsBlank ms) (drop-map f (suc i) xs) (All-drop IsBlank (suc i) (map f xs) blank)))
+
+pub taken_blank : {A : Type 0} (f : A → Memory) (xs : List A) (i : ℕ) (x : A) → i < length xs → x ≡ get_or xs i x → All IsBlank (map f xs) → IsBlank (f x)
+taken_blank {A} f xs i x within is blank = by xs i within is blank
+  where
+    by : (ys : List A) (k : ℕ) → k < length ys → x ≡ get_or ys k x → All IsBlank (map f ys) → IsBlank (f x)
+    by [] k below at all = absurd (omega (arith, below))
+    by (y ∷ ys) zero below at all = subst (λ (z : A). IsBlank (f z)) (sym at) (all 0 (f y) (omega arith))
+    by (y ∷ ys) (suc k) below at all = by ys k (omega (arith, below)) at (λ n d inside. all (suc n) d (omega (arith, inside)))
 
 -- the last of the cards has left its pages
 pub one_given : (slots : List SlotSeen) (n : ℕ) (bank : List Memory) (slot : SlotSeen) (memory : Memory) → slice_get slots n ≡ Some slot → IsLeft slot memory
@@ -76,3 +182,10 @@ take_less zero m xs within = refl
 take_less (suc n) zero xs within = absurd (omega arith)
 take_less (suc n) (suc m) [] within = refl
 take_less {A} (suc n) (suc m) (x ∷ xs) within = ap (λ (ys : List A). x ∷ ys) (take_less n m xs (omega arith))
+
+-- the last of the shelves has left its pages
+pub shelf_given : (shelves : List ShelfSeen) (n : ℕ) (shelf : ShelfSeen) (page : Option Memory) (pages : List (Option Memory)) → slice_get shelves n ≡ Some shelf
+    → IsStoreGiven shelf page → StoresAreGiven (drop (suc n) shelves) pages → StoresAreGiven (drop n shelves) (page ∷ pages)
+shelf_given [] n shelf page pages there given others = cc
+shelf_given (x ∷ shelves) zero shelf page pages there given others = (subst (λ (y : ShelfSeen). IsStoreGiven y page) (sym (same_Some x shelf there)) given, others)
+shelf_given (x ∷ shelves) (suc n) shelf page pages there given others = shelf_given shelves n shelf page pages there given others

@@ -2,6 +2,7 @@
 use Rattle.std.proofs.Common.{◌≡◌, ◌+◌, Bool, ℕ, List, [], ◌∷◌, length, Option, Some, None, refl, sym, subst}
 use Rattle.std.specs.Global.{Box}
 use Rattle.std.specs.Prelude.{IsSomeAnd}
+use Rattle.capture_store.specs.SeenShelf.{ShelfSeen}
 use Rattle.card_pages.specs.Pages.{found_of}
 use Rattle.card_state.specs.Decisions.{Decided}
 use Rattle.kernel.specs.Ended.{EndData}
@@ -11,14 +12,15 @@ use Rattle.kernel.specs.Tally.{Counts, raised}
 use Rattle.report_text.specs.declared.line.Line.{Line}
 use Rattle.txn_replay.specs.Called.{IsSpared, IsPowered, IsLost, powered_line}
 use Rattle.txn_replay.specs.Changes.{lost}
-use Rattle.txn_replay.specs.Lines.{power_torn_line, end_line}
-use Rattle.txn_replay.specs.Part.{Part, lane_ended, settled, on_for, cut_ends, begun_by, begun_with}
+use Rattle.txn_replay.specs.Lines.{power_torn_line, outcome_line}
+use Rattle.txn_replay.specs.Part.{Part, loses, lane_ended, settled, on_for, cut_ends, begun_by, begun_with}
 use Rattle.txn_replay.specs.Payment.{Payment, end_at}
 use Rattle.txn_replay.specs.Slot.{SlotSeen, IsSlotOf, HasLost}
-use Rattle.txn_replay.specs.Standing.{RunStands, LaneKeeps, LaneStands, PartRests, PartRuns, MovedTo, IsCounted, Led}
+use Rattle.txn_replay.specs.Standing.{RunStands, LaneKeeps, LaneStands, ShelfStands, PartRests, PartRuns, MovedTo, IsCounted, Led}
 use Rattle.txn_replay.specs.World.{LaneRow}
 use Rattle.txn_replay.specs.declared.lane.Lane.{Lane}
 use Rattle.txn_replay.proofs.Moves.{this_one}
+use Rattle.txn_replay.proofs.Preparing.{shelf_with}
 
 -- what a purchase began with isn't kept
 keeps_began : (lane : Lane) (row : LaneRow) (found : Option (List Decided)) → LaneKeeps lane row → LaneKeeps lane (record row { began = found })
@@ -28,6 +30,8 @@ keeps_began lane row found keeps = record {
   amounts = keeps.amounts;
   captures = keeps.captures;
   messages = keeps.messages;
+  stored = keeps.stored;
+  found = keeps.found;
   card = keeps.card;
   ending = keeps.ending;
 }
@@ -44,6 +48,8 @@ kept_on lane later row same keeps replies = by later.running same
       amounts = keeps.amounts;
       captures = keeps.captures;
       messages = keeps.messages;
+      stored = keeps.stored;
+      found = keeps.found;
       card = λ none. cc;
       ending = keeps.ending;
     }
@@ -52,7 +58,7 @@ kept_on lane later row same keeps replies = by later.running same
     by None some = absurd some
     by (Some kernel) is = subst (λ (x : Lane). LaneKeeps x (record row { running = Some replies })) (sym is) (with_it kernel)
 
-module _ (p : Payment) (lane : Lane) (slot next : SlotSeen) (part : Part) (rests : PartRests p lane slot part) (is : IsSlotOf next p.card) where
+module _ (p : Payment) (lane : Lane) (shelf : ShelfSeen) (slot next : SlotSeen) (part : Part) (rests : PartRests p lane shelf slot part) (is : IsSlotOf next p.card) where
   -- a card of canned answers decides nothing
   abbrev pub began_in : Option (List (List ℕ)) → List Decided → Option (List Decided)
   began_in None found = Some found
@@ -68,12 +74,13 @@ module _ (p : Payment) (lane : Lane) (slot next : SlotSeen) (part : Part) (rests
 
   pub powered_runs : (later : Lane) (choice : Bool) → IsPowered next p.card part.card p.planned.tear choice → HasLost next part.card.losses
       → IsSomeAnd later.running (λ kernel. later ≡ record lane { running = Some kernel; place = later.place }) → RunStands later.running p (Some [])
-      → PartRuns p later next [] (begun_part choice)
+      → PartRuns p later shelf next [] (begun_part choice)
   powered_runs later choice up losses same told = record {
     lane_is = record {
       keeps = kept_on lane later (begun_part choice).lane same (keeps_began lane part.lane (begun_part choice).lane.began rests.keeps) [];
       running = told;
     };
+    shelf_is = shelf_with shelf p part.lane part.lane.running (begun_part choice).lane.began part.lane.sent rests.shelf_is;
     holder = this_one p part;
     has = refl;
     on = up.on (Some (this_one p part));
@@ -84,40 +91,42 @@ module _ (p : Payment) (lane : Lane) (slot next : SlotSeen) (part : Part) (rests
   abbrev pub begun_lines : Bool → Option (List (List ℕ)) → List Line
   begun_lines choice canned = powered_line p.lane p.card (found_of part.card.kept part.card.pending choice) canned ∷ []
 
-  pub powered_led : (later : Lane) (after : SlotSeen) (before tally : Counts) (lines : List Line) (choice : Bool) → IsSpared p.planned.tear choice p.card.canned
-      → MovedTo p later after lines (settled p [] (begun_part choice) (begun_lines choice p.card.canned))
+  pub powered_led : (later : Lane) (behind : ShelfSeen) (after : SlotSeen) (before tally : Counts) (lines : List Line) (choice : Bool) → IsSpared p.planned.tear choice p.card.canned
+      → MovedTo p later behind after lines (settled p [] (begun_part choice) (begun_lines choice p.card.canned))
       → IsCounted before tally part.lane.ended (settled p [] (begun_part choice) (begun_lines choice p.card.canned)).part.lane.ended
-      → Led p later after before tally lines part (begun_with p part choice p.card.canned)
-  powered_led later after before tally lines choice spared = by p.card.canned spared
+      → Led p later behind after before tally lines part (begun_with p part choice p.card.canned)
+  powered_led later behind after before tally lines choice spared = by p.card.canned spared
     where
       by : (canned : Option (List (List ℕ))) → IsSpared p.planned.tear choice canned
-          → MovedTo p later after lines (settled p [] (begun_as canned choice) (begun_lines choice canned))
+          → MovedTo p later behind after lines (settled p [] (begun_as canned choice) (begun_lines choice canned))
           → IsCounted before tally part.lane.ended (settled p [] (begun_as canned choice) (begun_lines choice canned)).part.lane.ended
-          → Led p later after before tally lines part (begun_with p part choice canned)
+          → Led p later behind after before tally lines part (begun_with p part choice canned)
       by None spared moved counted =
-          subst (λ b. Led p later after before tally lines part (begun_by p part choice b)) (sym spared)
-          (record { moved = record { lane_is = moved.lane_is; card = moved.card; lines_are = moved.lines_are }; counted = counted })
+          subst (λ b. Led p later behind after before tally lines part (begun_by p part choice b)) (sym spared)
+          (record { moved = record { lane_is = moved.lane_is; shelf_is = moved.shelf_is; card = moved.card; lines_are = moved.lines_are }; counted = counted })
       by (Some answers) none moved counted =
           record {
-            moved = subst (λ b. MovedTo p later after lines (settled p [] (begun_as (Some answers) b) (begun_lines b (Some answers)))) none moved;
+            moved = subst (λ b. MovedTo p later behind after lines (settled p [] (begun_as (Some answers) b) (begun_lines b (Some answers)))) none moved;
             counted = subst (λ b. IsCounted before tally part.lane.ended (settled p [] (begun_as (Some answers) b) (begun_lines b (Some answers))).part.lane.ended) none counted;
           }
 
   -- and cut off
-  pub cut_led : (later : Lane) (before tally : Counts) (lines : List Line) (choice : Bool) (end : EndData) → IsLost next p.card part.card p.planned.tear
+  pub cut_led : (later : Lane) (behind : ShelfSeen) (before tally : Counts) (lines : List Line) (choice : Bool) (end : EndData) → IsLost next p.card part.card p.planned.tear
       → end_at p (CardGone ∷ []) ≡ Some end → LaneStands later p (lane_ended p (CardGone ∷ []) end part.lane)
-      → lines ≡ power_torn_line p.lane p.card ∷ end_line p.lane (length part.lane.ended + 1) end ∷ [] → tally ≡ raised before end.ending 1
-      → Led p later next before tally lines part (begun_with p part choice p.card.canned)
-  cut_led later before tally lines choice end cut over stands made counted =
-      subst (λ (o : Option (List (List ℕ))). Led p later next before tally lines part (begun_with p part choice o)) (sym cut.none)
-      (subst (λ b. Led p later next before tally lines part (begun_by p part choice b)) (sym cut.cut)
-      (subst (λ (e : Option EndData). Led p later next before tally lines part
+      → ShelfStands behind p (lane_ended p (CardGone ∷ []) end part.lane)
+      → lines ≡ power_torn_line p.lane p.card ∷ outcome_line (loses p part.lane.store end.capture) p.lane (length part.lane.ended + 1) end ∷ [] → tally ≡ raised before end.ending 1
+      → Led p later behind next before tally lines part (begun_with p part choice p.card.canned)
+  cut_led later behind before tally lines choice end cut over stands stored made counted =
+      subst (λ (o : Option (List (List ℕ))). Led p later behind next before tally lines part (begun_with p part choice o)) (sym cut.none)
+      (subst (λ b. Led p later behind next before tally lines part (begun_by p part choice b)) (sym cut.cut)
+      (subst (λ (e : Option EndData). Led p later behind next before tally lines part
       (cut_ends p (CardGone ∷ []) part (record part { card = lost part.card }) (power_torn_line p.lane p.card ∷ []) e)) (sym over)
       (record {
         moved = record {
           lane_is = stands;
+          shelf_is = stored;
           card = record { is = is; losses = cut.losses; stands = cut.off };
           lines_are = made;
         };
-        counted = (record { began = part.lane.began; replies = CardGone ∷ []; end = end } ∷ [], refl, counted);
+        counted = (record { began = part.lane.began; replies = CardGone ∷ []; end = Some end; lost = loses p part.lane.store end.capture } ∷ [], refl, counted, (λ none. cc, tt));
       })))

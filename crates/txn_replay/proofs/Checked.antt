@@ -1,5 +1,5 @@
 -- A value and its world behind a step of the audit.
-use Rattle.std.proofs.Common.{◌≡◌, ℕ, ◌+◌, ◌≤◌, ◌<◌, Bool, true, false, List, [], ◌∷◌, length, get_or, set, slice_get, Option, Some, None, refl, sym, ap, ◌∙◌, subst, inl, inr, arith}
+use Rattle.std.proofs.Common.{◌≡◌, ℕ, ◌+◌, ◌≤◌, ◌<◌, Bool, true, List, [], ◌∷◌, length, get_or, set, slice_get, Option, Some, None, refl, sym, ap, ◌∙◌, subst, inl, inr, arith}
 use Rattle.std.specs.Prelude.{IfSome}
 use Rattle.std.proofs.lemmas.Bool.{cases_eq}
 use Rattle.std.proofs.lemmas.List.{get_or-set_same, get_or-set_other}
@@ -14,16 +14,17 @@ use Rattle.txn_replay.specs.Seen.{WorldSeen, SlotStands, WorldStands, Goes, IsNe
 use Rattle.txn_replay.specs.Slot.{SlotSeen, SlotOn, IsSlotOf, HasLost, is_on}
 use Rattle.txn_replay.specs.Sound.{HeldBy}
 use Rattle.txn_replay.specs.Standing.{PlaceStands}
-use Rattle.txn_replay.specs.Steps.{After, Check, PowersUp, checks, with_card, nothing, audits, happens}
+use Rattle.txn_replay.specs.Steps.{After, Check, PowersUp, checks, with_card, nothing, audits, happens, Step}
 use Rattle.txn_replay.specs.World.{Holder, CardRow, World, new_card, card_at}
 use Rattle.txn_replay.specs.declared.audit.Question.{Question}
 use Rattle.txn_replay.specs.declared.event.Event.TheVariants.{Audit}
 use Rattle.txn_replay.proofs.Few.{checks_few}
 use Rattle.txn_replay.proofs.Following.{index_of, first_powers, asks_follow}
 use Rattle.txn_replay.proofs.Lists.{set_other, set_here}
+use Rattle.txn_replay.proofs.OwnEvents.{step_apart}
 use Rattle.txn_replay.proofs.Payments.{payment_facts}
 use Rattle.txn_replay.proofs.Sounding.{card_sound}
-use Rattle.txn_replay.proofs.Turning.{below_over, over_next}
+use Rattle.txn_replay.proofs.Waiting.{below_over, over_next}
 use Rattle.txn_replay.proofs.Sending.{LanesLike}
 use Rattle.txn_replay.proofs.Waiting.{stays_over}
 
@@ -66,12 +67,9 @@ module _ (v : WorldSeen) (w : World) (stands : WorldStands v w) (over : all_over
   pub none_checks : (k : ℕ) → slice_get (checks v.scenario) k ≡ None → Goes v w (Audit k) []
   none_checks k none =
       let is : happens v.scenario w (Audit k) [] ≡ nothing w = ap (λ (o : Option Check). audits w [] o) none in
-      record {
-        choices = [];
-        after = w;
-        step = record { taken = ap (λ (x : After). x.choices) (sym is); made = ap (λ (x : After). x.lines) (sym is); leads = ap (λ (x : After). x.world) (sym is) };
-        stands = stands;
-      }
+      let step : Step v.scenario w (Audit k) [] [] w =
+      record { taken = ap (λ (x : After). x.choices) (sym is); made = ap (λ (x : After). x.lines) (sym is); leads = ap (λ (x : After). x.world) (sym is) } in
+      record { choices = []; after = w; step = step; apart = step_apart v.scenario w (Audit k) [] [] w step; stands = stands }
 
   module _ (i : ℕ) (slot next : SlotSeen) (card : CardData) (there : slice_get v.slots i ≡ Some slot) (is : slice_get v.scenario.cards i ≡ Some card)
       (is_of : IsSlotOf next card) (losses : HasLost next (card_at w i).losses) where
@@ -133,6 +131,8 @@ module _ (v : WorldSeen) (w : World) (stands : WorldStands v w) (over : all_over
         few = stands.few;
         slots = slots_after;
         lanes = stands.lanes;
+        shelves = stands.shelves;
+        stored = record { lanes = stands.stored.lanes; before = λ l. inr (stays_over v.scenario w after same_lanes over) };
         messages = record { books = stands.messages.books };
         tally = stands.tally;
       }
@@ -143,26 +143,32 @@ module _ (v : WorldSeen) (w : World) (stands : WorldStands v w) (over : all_over
       one_checks None choice at checked =
           let is_so : happens v.scenario w (Audit k) (choice ∷ []) ≡ audits w (choice ∷ []) (Some (PowersUp i card)) =
           ap (λ (o : Option Check). audits w (choice ∷ []) o) at in
+          let step : Step v.scenario w (Audit k) (choice ∷ []) lines (audits w (choice ∷ []) (Some (PowersUp i card))).world =
+          record {
+            taken = ap (λ (x : After). x.choices) (sym is_so);
+            made = checked.lines_are ∙ ap (λ (x : After). x.lines) (sym is_so);
+            leads = ap (λ (x : After). x.world) (sym is_so);
+          } in
           record {
             choices = choice ∷ [];
             after = (audits w (choice ∷ []) (Some (PowersUp i card))).world;
-            step = record {
-              taken = ap (λ (x : After). x.choices) (sym is_so);
-              made = checked.lines_are ∙ ap (λ (x : After). x.lines) (sym is_so);
-              leads = ap (λ (x : After). x.world) (sym is_so);
-            };
+            step = step;
+            apart = step_apart v.scenario w (Audit k) (choice ∷ []) lines (audits w (choice ∷ []) (Some (PowersUp i card))).world step;
             stands = checked_stands (checked_row card (card_at w i) None choice) refl refl checked.on;
           }
       one_checks (Some question) choice at checked =
           let is_so : happens v.scenario w (Audit k) [] ≡ audits w [] (Some (check_by i card (Some question))) = ap (λ (o : Option Check). audits w [] o) at in
+          let step : Step v.scenario w (Audit k) [] lines (audits w [] (Some (check_by i card (Some question)))).world =
+          record {
+            taken = ap (λ (x : After). x.choices) (sym is_so);
+            made = checked.lines_are ∙ ap (λ (x : After). x.lines) (sym is_so);
+            leads = ap (λ (x : After). x.world) (sym is_so);
+          } in
           record {
             choices = [];
             after = (audits w [] (Some (check_by i card (Some question)))).world;
-            step = record {
-              taken = ap (λ (x : After). x.choices) (sym is_so);
-              made = checked.lines_are ∙ ap (λ (x : After). x.lines) (sym is_so);
-              leads = ap (λ (x : After). x.world) (sym is_so);
-            };
+            step = step;
+            apart = step_apart v.scenario w (Audit k) [] lines (audits w [] (Some (check_by i card (Some question)))).world step;
             stands = checked_stands (checked_row card (card_at w i) (Some question) choice) refl refl checked.on;
           }
 

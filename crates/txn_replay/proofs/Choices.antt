@@ -1,5 +1,6 @@
--- An exchange takes a truth value at a power-up that is completed, and nowhere else.
-use Rattle.std.proofs.Common.{◌≡◌, ℕ, Bool, true, false, List, [], ◌∷◌, ◌++◌, length, slice_get, Option, Some, None, refl, sym}
+-- An exchange takes a truth value at an opening and at a power-up that are completed, and nowhere else.
+use Rattle.std.proofs.Common.{◌≡◌, ℕ, suc, ◌+◌, Bool, true, false, List, [], ◌∷◌, ◌++◌, length, slice_get, Option, Some, None, refl, sym, ap, ◌∙◌, arith}
+use Rattle.capture_store.specs.StoreRow.{opened_to_add, is_cut}
 use Rattle.card_app.specs.Answering.{card_answer}
 use Rattle.card_pages.specs.Cuts.{Cut, cut_of}
 use Rattle.card_pages.specs.Pages.{found_of}
@@ -13,9 +14,10 @@ use Rattle.kernel.specs.Reply.{Reply, CardSaid, CardGone, from_host, Deed, ToCar
 use Rattle.report_text.specs.declared.line.Line.{Line}
 use Rattle.txn_replay.specs.Changes.{exchanged, told_once, torn, lost}
 use Rattle.txn_replay.specs.Lines.{answer_lines, torn_lines, gone_lines, host_lines, power_canned_line, power_torn_line}
-use Rattle.txn_replay.specs.Part.{Part, Moved, settled_by, sending, on_for, cut_ends, answered, canned_by, asked_by, asked, begun, begun_by, begun_with, piece_by, piece}
+use Rattle.txn_replay.specs.Part.{Part, Moved, still, settled_by, sending, on_for, cut_ends, answered, canned_by, asked_by, asked, begun, begun_by, begun_with, piece_by, piece}
 use Rattle.txn_replay.specs.Payment.{Payment, deal_for, end_at}
 use Rattle.txn_replay.specs.Steps.{choice_in}
+use Rattle.txn_replay.specs.Storing.{part_with, lost_with, copied, copy_lines, dropped_by, delivers_first, delivers, opened_for, opens_by, goes_through, stored_by, free_by, runs_by, before_by, more_chosen, behind, lane_piece}
 use Rattle.txn_replay.specs.World.{Holder}
 
 -- these truth values are taken
@@ -89,3 +91,79 @@ choice_taken p part choice = by_lane part.lane.running
     by_lane None = by_holder part.card.holder
     by_lane (Some replies) =
         none_taken (piece_by p part choice (Some replies)) choice (none_asked p replies part (dialogue (deal_for p) replies).deed)
+
+-- these truth values are taken of two that may be
+pub record BothTaken (f : Bool → Bool → Moved) (one other : Bool) : Type 0 where
+  pub choices : List Bool
+  pub count : length choices ≡ (f (choice_in choices 0) (choice_in choices 1)).choices
+  pub same : f (choice_in choices 0) (choice_in choices 1) ≡ f one other
+
+neither_taken : (m : Moved) (one other : Bool) → m.choices ≡ 0 → BothTaken (λ a b. m) one other
+neither_taken m one other none = record { choices = []; count = sym none; same = refl }
+
+first_taken : (f : Bool → Moved) (one other : Bool) → Taken f one → BothTaken (λ a b. f a) one other
+first_taken f one other taken = record { choices = taken.choices; count = taken.count; same = taken.same }
+
+none_delivered : (p : Payment) (part : Part) (list : List (List ℕ)) → (delivers_first p part list).choices ≡ 0
+none_delivered p part [] = refl
+none_delivered p part (message ∷ others) = by (is_cut p.planned.terminal_tear part.lane.store)
+  where
+    by : (cut : Bool) → (dropped_by p (copied p message part) (copy_lines p message part.messages p.copies) cut).choices ≡ 0
+    by true = refl
+    by false = refl
+
+pub choices_taken : (p : Payment) (part : Part) (one other : Bool) → BothTaken (λ a b. lane_piece p part a b) one other
+choices_taken p part one other = by_durable p.durable
+  where
+    goes : BothTaken (λ a b. piece p part a) one other
+    goes = first_taken (λ b. piece p part b) one other (choice_taken p part one)
+
+    more : (n m : ℕ) → n ≡ m → suc n ≡ m + 1
+    more n m same = omega arith
+
+    by_due : (d : Bool) → (opened_to_add part.lane.store one).due ≡ d
+        → BothTaken (λ a b. behind p a b (opened_for (part_with (opened_to_add part.lane.store a) part) (opened_to_add part.lane.store a).due)) one other
+    by_due true is =
+        let here : (b : Bool) → behind p one b (opened_for (part_with (opened_to_add part.lane.store one) part) (opened_to_add part.lane.store one).due)
+        ≡ record { part = part_with (opened_to_add part.lane.store one) part; lines = []; choices = 1 } =
+        (λ b. ap (λ (d : Bool). behind p one b (opened_for (part_with (opened_to_add part.lane.store one) part) d)) is) in
+        record {
+          choices = one ∷ [];
+          count = sym (ap (λ (m : Moved). m.choices) (here false));
+          same = here false ∙ sym (here other);
+        }
+    by_due false is =
+        let taken : Taken (λ b. piece p (part_with (opened_to_add part.lane.store one) part) b) other =
+        choice_taken p (part_with (opened_to_add part.lane.store one) part) other in
+        let here : (b : Bool) → behind p one b (opened_for (part_with (opened_to_add part.lane.store one) part) (opened_to_add part.lane.store one).due)
+        ≡ more_chosen (piece p (part_with (opened_to_add part.lane.store one) part) b) =
+        (λ b. ap (λ (d : Bool). behind p one b (opened_for (part_with (opened_to_add part.lane.store one) part) d)) is) in
+        record {
+          choices = one ∷ taken.choices;
+          count = more (length taken.choices) _ taken.count ∙ sym (ap (λ (m : Moved). m.choices) (here (choice_in taken.choices 0)));
+          same = here (choice_in taken.choices 0) ∙ ap more_chosen taken.same ∙ sym (here other);
+        }
+
+    by_cut : (cut : Bool) → BothTaken (λ a b. behind p a b (opens_by p part a cut)) one other
+    by_cut true = neither_taken (lost_with p part []) one other refl
+    by_cut false = by_due (opened_to_add part.lane.store one).due refl
+
+    by_delivery : (d : Bool) → BothTaken (λ a b. behind p a b (goes_through p part d)) one other
+    by_delivery true = neither_taken (delivers p part) one other (none_delivered p part part.lane.store.list)
+    by_delivery false = goes
+
+    by_store : (commits : Option ℕ) → BothTaken (λ a b. behind p a b (stored_by p part a commits)) one other
+    by_store None = by_cut (is_named p.planned.terminal_tear 0)
+    by_store (Some made) = by_delivery part.lane.store.due
+
+    by_holder : (o : Option Holder) → BothTaken (λ a b. behind p a b (free_by p part a o)) one other
+    by_holder None = by_store part.lane.store.commits
+    by_holder (Some holder) = neither_taken (still part) one other refl
+
+    by_running : (o : Option (List Reply)) → BothTaken (λ a b. behind p a b (runs_by p part a o)) one other
+    by_running None = by_holder part.card.holder
+    by_running (Some replies) = goes
+
+    by_durable : (durable : Bool) → BothTaken (λ a b. behind p a b (before_by p part a durable)) one other
+    by_durable false = goes
+    by_durable true = by_running part.lane.running

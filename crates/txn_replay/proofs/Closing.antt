@@ -1,5 +1,6 @@
 -- What each event keeps of a card holds of every card of every run.
 use Rattle.std.proofs.Common.{◌≡◌, ◌⊎◌, ℕ, Bool, true, false, List, [], ◌∷◌, ◌++◌, length, slice_get, Option, Some, None, refl, inl}
+use Rattle.capture_store.specs.StoreRow.{opened_to_add, is_cut}
 use Rattle.card_app.specs.Answering.{card_answer}
 use Rattle.card_files.specs.Views.{ImageData}
 use Rattle.card_pages.specs.Cuts.{Cut, cut_of}
@@ -15,7 +16,9 @@ use Rattle.txn_replay.specs.Changes.{powered, exchanged, told_once, torn, lost, 
 use Rattle.txn_replay.specs.Lines.{torn_lines, gone_lines, power_torn_line}
 use Rattle.txn_replay.specs.Part.{Part, settled_by, sending, on_for, cut_ends, answered, canned_by, asked_by, asked, begun, begun_by, begun_with, piece_by, piece}
 use Rattle.txn_replay.specs.Payment.{Payment, deal_for, end_at}
+use Rattle.txn_replay.specs.Storing.{part_with, copied, copy_lines, dropped_by, delivers_first, lane_piece}
 use Rattle.txn_replay.specs.World.{Holder, CardRow, new_card}
+use Rattle.txn_replay.proofs.Ways.{AtRest, IsOn, lane_ways}
 
 -- a purchase has the card, or nothing is decided
 abbrev pub Live : ImageData → CardRow → List ℕ → Type 0
@@ -107,3 +110,25 @@ module _ (P : ImageData → CardRow → Type 0) (closed : Closed P) (p : Payment
       by_lane : (o : Option (List Reply)) → part.lane.running ≡ o → P p.card.image (piece_by p part choice o).part.card
       by_lane None is = begins part.card.holder
       by_lane (Some replies) is = ask_keeps replies part (dialogue (deal_for p) replies).deed h (has replies is) holds
+
+  delivery_keeps : (part : Part) → P p.card.image part.card → (list : List (List ℕ)) → P p.card.image (delivers_first p part list).part.card
+  delivery_keeps part holds [] = holds
+  delivery_keeps part holds (message ∷ others) = by (is_cut p.planned.terminal_tear part.lane.store)
+    where
+      by : (cut : Bool) → P p.card.image (dropped_by p (copied p message part) (copy_lines p message part.messages p.copies) cut).part.card
+      by true = holds
+      by false = holds
+
+  -- so with the lane's store
+  pub lane_keeps : (part : Part) (one other : Bool) (h : Holder)
+      → ((replies : List Reply) → part.lane.running ≡ Some replies → part.card.holder ≡ Some h)
+      → P p.card.image part.card → P p.card.image (lane_piece p part one other).part.card
+  lane_keeps part one other h has holds =
+      lane_ways (λ m. P p.card.image m.part.card) p part
+      holds
+      (λ choice so. piece_keeps part choice h has holds)
+      (λ at off cut. holds)
+      (λ first at off full. holds)
+      (λ first second at off room. piece_keeps (part_with (opened_to_add part.lane.store first) part) second h has holds)
+      (λ at on. delivery_keeps part holds part.lane.store.list)
+      one other

@@ -1,6 +1,7 @@
 -- An exchange with the card: it answers, or is gone.
 use Rattle.std.proofs.Common.{◌≡◌, ℕ, ◌+◌, List, [], ◌∷◌, ◌++◌, length, Option, Some, None, refl, sym, ap, ◌∙◌, subst}
 use Rattle.std.specs.Global.{Box}
+use Rattle.capture_store.specs.SeenShelf.{ShelfSeen}
 use Rattle.card_app.specs.Answering.{card_answer}
 use Rattle.card_pages.specs.Cuts.{Cut}
 use Rattle.kernel.specs.Ended.{EndData}
@@ -11,11 +12,11 @@ use Rattle.report_text.specs.declared.line.Line.{Line}
 use Rattle.scenario.specs.Cards.{CardData}
 use Rattle.txn_replay.specs.Called.{AnswerIs, answered_row, IsAnswered, IsGone, no_answer_lines}
 use Rattle.txn_replay.specs.Changes.{exchanged, torn}
-use Rattle.txn_replay.specs.Lines.{answer_lines, torn_lines, gone_lines, end_line}
-use Rattle.txn_replay.specs.Part.{Part, Moved, lane_ended, ended_with, settled, cut_ends, cut_short, answered as answered_by, canned_by, asked_by, asked_card}
+use Rattle.txn_replay.specs.Lines.{answer_lines, torn_lines, gone_lines, outcome_line}
+use Rattle.txn_replay.specs.Part.{Part, Moved, loses, lane_ended, ended_with, settled, cut_ends, cut_short, answered as answered_by, canned_by, asked_by, asked_card}
 use Rattle.txn_replay.specs.Payment.{Payment, deal_for, end_at}
 use Rattle.txn_replay.specs.Slot.{SlotSeen, SlotOff, IsSlotOf, HasLost}
-use Rattle.txn_replay.specs.Standing.{LaneStands, PartRuns, MovedTo, IsCounted}
+use Rattle.txn_replay.specs.Standing.{LaneStands, ShelfStands, PartRuns, MovedTo, IsCounted}
 use Rattle.txn_replay.specs.World.{CardRow, LaneRow}
 use Rattle.txn_replay.specs.declared.lane.Lane.{Lane}
 
@@ -30,6 +31,8 @@ lane_on p lane row replies more kernel stands told deal = record {
     amounts = stands.keeps.amounts;
     captures = stands.keeps.captures;
     messages = stands.keeps.messages;
+    stored = stands.keeps.stored;
+    found = stands.keeps.found;
     card = λ none. cc;
     ending = stands.keeps.ending;
   };
@@ -47,8 +50,8 @@ answered_losses : (card : CardData) (row : CardRow) (command : List ℕ) (canned
 answered_losses card row command None = refl
 answered_losses card row command (Some answers) = refl
 
-module _ (p : Payment) (lane : Lane) (slot next : SlotSeen) (replies : List Reply) (part : Part) (command : List ℕ)
-    (runs : PartRuns p lane slot replies part) (is : IsSlotOf next p.card) where
+module _ (p : Payment) (lane : Lane) (shelf : ShelfSeen) (slot next : SlotSeen) (replies : List Reply) (part : Part) (command : List ℕ)
+    (runs : PartRuns p lane shelf slot replies part) (is : IsSlotOf next p.card) where
   -- the card answered
   abbrev pub answered_part : Part
   answered_part = record part { card = answered_row p.card part.card command p.card.canned }
@@ -71,9 +74,10 @@ module _ (p : Payment) (lane : Lane) (slot next : SlotSeen) (replies : List Repl
   -- and its purchase runs on
   pub runs_on : (answer : List ℕ) (kernel : Box KernelData) → IsAnswered next p.card part.card p.planned.tear command answer
       → KernelStands kernel.value (replies ++ CardSaid answer part.lane.log ∷ []) → deal_in kernel.value ≡ deal_for p → HasLost next part.card.losses
-      → PartRuns p (record lane { running = Some kernel }) next (replies ++ CardSaid answer part.lane.log ∷ []) answered_part
+      → PartRuns p (record lane { running = Some kernel }) shelf next (replies ++ CardSaid answer part.lane.log ∷ []) answered_part
   runs_on answer kernel answered told deal losses = record {
     lane_is = lane_on p lane part.lane replies (replies ++ CardSaid answer part.lane.log ∷ []) kernel runs.lane_is told deal;
+    shelf_is = runs.shelf_is;
     holder = runs.holder;
     has = answered_holder p.card part.card command p.card.canned ∙ runs.has;
     on = answered.on;
@@ -125,15 +129,17 @@ module _ (p : Payment) (lane : Lane) (slot next : SlotSeen) (replies : List Repl
           losses = empty.losses;
         }
 
-    pub gone_moved : (after : Lane) (lines : List Line) → LaneStands after p (lane_ended p (replies ++ CardGone ∷ []) end part.lane)
-        → lines ≡ no_answer_lines p.lane command p.card.canned ++ end_line p.lane (length part.lane.ended + 1) end ∷ []
-        → MovedTo p after next lines (asked_card p replies command part)
-    gone_moved after lines stands made =
-        subst (λ (m : Moved). MovedTo p after next lines m) (sym ended.same)
-        (record { lane_is = stands; card = record { is = is; losses = ended.losses; stands = ended.off }; lines_are = made })
+    pub gone_moved : (after : Lane) (behind : ShelfSeen) (lines : List Line) → LaneStands after p (lane_ended p (replies ++ CardGone ∷ []) end part.lane)
+        → ShelfStands behind p (lane_ended p (replies ++ CardGone ∷ []) end part.lane)
+        → lines ≡ no_answer_lines p.lane command p.card.canned
+        ++ outcome_line (loses p part.lane.store end.capture) p.lane (length part.lane.ended + 1) end ∷ []
+        → MovedTo p after behind next lines (asked_card p replies command part)
+    gone_moved after behind lines stands stored made =
+        subst (λ (m : Moved). MovedTo p after behind next lines m) (sym ended.same)
+        (record { lane_is = stands; shelf_is = stored; card = record { is = is; losses = ended.losses; stands = ended.off }; lines_are = made })
 
     pub gone_counted : (before after : Counts) → after ≡ raised before end.ending (length (replies ++ CardGone ∷ []))
         → IsCounted before after part.lane.ended (asked_card p replies command part).part.lane.ended
     gone_counted before after one =
         subst (λ (m : Moved). IsCounted before after part.lane.ended m.part.lane.ended) (sym ended.same)
-        (record { began = part.lane.began; replies = replies ++ CardGone ∷ []; end = end } ∷ [], refl, one)
+        (record { began = part.lane.began; replies = replies ++ CardGone ∷ []; end = Some end; lost = loses p part.lane.store end.capture } ∷ [], refl, one, (λ none. cc, tt))

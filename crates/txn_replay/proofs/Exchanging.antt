@@ -1,6 +1,7 @@
 -- What one exchange makes of a lane's part, case by case: how the replies, the card, the messages and the lines came, and
 -- whether the purchase goes on or ends.
 use Rattle.std.proofs.Common.{◌≡◌, ℕ, ◌+◌, Bool, true, false, List, [], ◌∷◌, ◌++◌, length, slice_get, Option, Some, None, refl}
+use Rattle.capture_store.specs.StoreRow.{opened_to_add, is_cut}
 use Rattle.card_app.specs.Answering.{card_answer}
 use Rattle.card_pages.specs.Cuts.{Cut, cut_of}
 use Rattle.card_pages.specs.Pages.{found_of}
@@ -11,13 +12,16 @@ use Rattle.kernel.specs.Dialogue.{dialogue}
 use Rattle.kernel.specs.Ended.{EndData}
 use Rattle.kernel.specs.Reply.{Reply, CardSaid, CardGone, from_host, Deed, ToCard, ToHost, Over}
 use Rattle.report_text.specs.declared.line.Line.{Line}
+use Rattle.report_text.specs.declared.line.Line.TheVariants.{EndLost}
 use Rattle.txn_replay.specs.Changes.{powered, exchanged, told_once, torn, lost, freed}
-use Rattle.txn_replay.specs.Lines.{power_line, power_canned_line, power_torn_line, answer_lines, torn_lines, gone_lines, host_lines, end_line}
-use Rattle.txn_replay.specs.Part.{Part, Moved, lane_ended, settled_by, cut_ends, answered, canned_by, asked_by, asked, begun, begun_by, begun_with, piece_by, piece}
+use Rattle.txn_replay.specs.Lines.{power_line, power_canned_line, power_torn_line, answer_lines, torn_lines, gone_lines, host_lines, outcome_line}
+use Rattle.txn_replay.specs.Part.{Part, Moved, loses, lane_ended, settled_by, cut_ends, answered, canned_by, asked_by, asked, begun, begun_by, begun_with, piece_by, piece}
 use Rattle.txn_replay.specs.Payment.{Payment, deal_for, end_at}
+use Rattle.txn_replay.specs.Storing.{part_with, lane_lost, lane_copied, copied, copy_lines, dropped_by, delivers_first, lane_piece}
 use Rattle.txn_replay.specs.World.{Holder, CardRow, LaneRow, with_sent}
 use Rattle.txn_replay.proofs.Moves.{this_one}
 use Rattle.txn_replay.proofs.Sending.{Later, as_is, beginning, messaging}
+use Rattle.txn_replay.proofs.Ways.{AtRest, IsOn, lane_ways}
 
 -- what came of the replies, the card, the messages and the lines leads to what holds behind the exchange
 pub record Tells (p : Payment) (part : Part) (Came : LaneRow → List Reply → CardRow → List (List ℕ) → List Line → Type 0) (R : Part → List Line → Type 0) : Type 0 where
@@ -28,7 +32,7 @@ pub record Tells (p : Payment) (part : Part) (Came : LaneRow → List Reply → 
   pub ends : (lane : LaneRow) → Later part.lane lane → (replies : List Reply) (card : CardRow) (messages : List (List ℕ)) (lines : List Line)
       → Came lane replies card messages lines → (end : EndData) → end_at p replies ≡ Some end
       → R (record { lane = lane_ended p replies end lane; card = freed card; messages = messages })
-      (lines ++ end_line p.lane (length lane.ended + 1) end ∷ [])
+      (lines ++ outcome_line (loses p lane.store end.capture) p.lane (length lane.ended + 1) end ∷ [])
   pub powers : part.lane.running ≡ None → part.card.holder ≡ None → p.card.canned ≡ None → (choice : Bool)
       → Came (record part.lane { began = Some (found_of part.card.kept part.card.pending choice) }) [] (powered part.card (found_of part.card.kept part.card.pending choice) (Some (this_one p part))) part.messages
       (power_line p.lane p.card (found_of part.card.kept part.card.pending choice) ∷ [])
@@ -125,3 +129,37 @@ module _ (p : Payment) (part : Part) (Came : LaneRow → List Reply → CardRow 
       by_lane : (o : Option (List Reply)) → part.lane.running ≡ o → Holds (piece_by p part choice o)
       by_lane None is = by_holder is part.card.holder refl
       by_lane (Some replies) is = ask_tells replies is (dialogue (deal_for p) replies).deed refl
+
+-- So with the lane's store: what comes before a purchase leads to it too. `again` is for the purchase that begins behind the
+-- opening.
+pub record StoreTells (p : Payment) (part : Part) (Came : LaneRow → List Reply → CardRow → List (List ℕ) → List Line → Type 0) (R : Part → List Line → Type 0) : Type 0 where
+  pub own : Tells p part Came R
+  pub again : (one : Bool) → AtRest p part → part.lane.store.commits ≡ None
+      → Tells p (part_with (opened_to_add part.lane.store one) part) Came R
+  pub opened : (one : Bool) → AtRest p part → part.lane.store.commits ≡ None → R (part_with (opened_to_add part.lane.store one) part) []
+  pub lost : AtRest p part → is_named p.planned.terminal_tear 0 ≡ true → R (record part { lane = lane_lost part.lane }) (EndLost p.lane (length part.lane.ended + 1) ∷ [])
+  pub sent : AtRest p part → (message : List ℕ) → R (copied p message part) (copy_lines p message part.messages p.copies)
+  pub sent_lost : AtRest p part → (message : List ℕ) → is_cut p.planned.terminal_tear part.lane.store ≡ true
+      → R (record (copied p message part) { lane = lane_lost (lane_copied p message part.lane) })
+      (copy_lines p message part.messages p.copies ++ EndLost p.lane (length part.lane.ended + 1) ∷ [])
+
+pub lane_tells : (p : Payment) (part : Part) (Came : LaneRow → List Reply → CardRow → List (List ℕ) → List Line → Type 0) (R : Part → List Line → Type 0)
+    → StoreTells p part Came R → (one other : Bool) → R (lane_piece p part one other).part (lane_piece p part one other).lines
+lane_tells p part Came R tells one other =
+    lane_ways (λ m. R m.part m.lines) p part
+    tells.own.still
+    (λ choice so. piece_tells p part Came R tells.own choice)
+    (λ at off cut. tells.lost at cut)
+    (λ choice at off full. tells.opened choice at off)
+    (λ choice second at off room. piece_tells p (part_with (opened_to_add part.lane.store choice) part) Came R (tells.again choice at off) second)
+    (λ at on. delivered at part.lane.store.list)
+    one other
+  where
+    delivered : AtRest p part → (list : List (List ℕ)) → R (delivers_first p part list).part (delivers_first p part list).lines
+    delivered at [] = tells.own.still
+    delivered at (message ∷ others) = by (is_cut p.planned.terminal_tear part.lane.store) refl
+      where
+        by : (cut : Bool) → is_cut p.planned.terminal_tear part.lane.store ≡ cut → R (dropped_by p (copied p message part) (copy_lines p message part.messages p.copies) cut).part
+            (dropped_by p (copied p message part) (copy_lines p message part.messages p.copies) cut).lines
+        by true is = tells.sent_lost at message is
+        by false is = tells.sent at message

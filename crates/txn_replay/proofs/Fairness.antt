@@ -16,6 +16,7 @@ use Rattle.txn_replay.proofs.Few.{lanes_few, few_of, settlements_few}
 use Rattle.txn_replay.proofs.Folding.{AllHold, reached_holds}
 use Rattle.txn_replay.proofs.Lists.{some_at}
 use Rattle.txn_replay.proofs.Prefixes.{IsKept, kept_closed}
+use Rattle.txn_replay.proofs.Stores.{reached_found}
 use Rattle.txn_replay.proofs.Uses.{IsCounted, counted_closed}
 
 -- a card of the world is one of the scenario's
@@ -52,7 +53,8 @@ pub reached_few : (s : ScenarioData) (place : Place) (n : ℕ) (choices : List B
     → Reached s place n choices lines w → IsFew s w
 reached_few s place n choices lines w reached =
     few_of s w (reached_sound s place n choices lines w reached) (lanes_few s place n choices lines w reached)
+    (reached_found s place n choices lines w reached)
 
 pub reached_settlements : (s : ScenarioData) (place : Place) (n : ℕ) (choices : List Bool) (lines : List Line) (w : World)
-    → IsScenario s → Reached s place n choices lines w → length (settlements s w) ≤ 30000
+    → IsScenario s → Reached s place n choices lines w → length (settlements s w) ≤ 30352
 reached_settlements s place n choices lines w is reached = settlements_few s w is (reached_few s place n choices lines w reached)

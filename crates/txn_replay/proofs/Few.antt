@@ -1,10 +1,11 @@
 -- How much a run comes to: purchases end one by one, and each captures at most one message.
-use Rattle.std.proofs.Common.{◌≡◌, ℕ, suc, ◌+◌, ◌*◌, ◌≤◌, ◌<◌, Bool, List, [], ◌∷◌, ◌++◌, length, replicate, get_or, slice_get, Option, Some, None, refl, sym, ap, ◌∙◌, subst, arith, length-append}
+use Rattle.std.proofs.Common.{◌≡◌, ℕ, suc, ◌+◌, ◌*◌, ◌-◌, ◌≤◌, ◌<◌, Bool, true, false, List, [], ◌∷◌, ◌++◌, length, replicate, get_or, slice_get, Option, Some, None, refl, sym, ap, ◌∙◌, subst, arith, length-append}
 use Rattle.std.specs.List.{flat_map, sum_by}
-use Rattle.std.specs.Prelude.{option_to_list, option_and_then}
+use Rattle.std.specs.Prelude.{if◌then◌else◌, unwrap_or, option_to_list, option_and_then}
 use Rattle.std.proofs.lemmas.List.{length-replicate}
 use Rattle.std.proofs.lemmas.List.Sums.{sum_by-cons}
 use Rattle.std.proofs.lemmas.Option.{slice_get_within, get_or_from_slice_get}
+use Rattle.capture_store.specs.StoreRow.{opened_to_add}
 use Rattle.card_files.specs.Views.{AppData, ImageData}
 use Rattle.emv_dict.specs.Views.{PurchaseData}
 use Rattle.emv_dict.specs.declared.ending.Ending.{Ending}
@@ -19,16 +20,17 @@ use Rattle.scenario.specs.Plan.{ScenarioData, IsScenario}
 use Rattle.scenario_lanes.specs.Plan.{LaneData, purchase_count}
 use Rattle.scenario_lanes.specs.declared.plan.Planned.{Planned}
 use Rattle.txn_replay.specs.Bounds.{purchases_in, IsFewIn, IsFew}
-use Rattle.txn_replay.specs.Part.{approval, lane_ended, piece}
-use Rattle.txn_replay.specs.Payment.{Payment, payment_of, payment_on, payment_in, next_of}
+use Rattle.txn_replay.specs.Part.{approval, loses, lane_ended}
+use Rattle.txn_replay.specs.Payment.{Payment, payment_of, payment_on, payment_in, next_of, durable_of}
 use Rattle.txn_replay.specs.Run.{Place, Reached}
 use Rattle.txn_replay.specs.Sound.{IsSound}
-use Rattle.txn_replay.specs.Steps.{Settlement, settlements, settlements_from, app_checks, checks_for, card_checks, checks_from, checks, part_of, choice_in, turned_by, settles, audits, happens}
-use Rattle.txn_replay.specs.World.{Past, LaneRow, World, new_lane, first_world, lane_at}
+use Rattle.txn_replay.specs.Steps.{Settlement, Sends, copies_of, dropped_copies, lane_settlements, settlements, settlements_from, app_checks, checks_for, card_checks, checks_from, checks, part_of, choice_in, turned_by, settles, audits, happens}
+use Rattle.txn_replay.specs.Storing.{lane_lost, lane_copied, lane_piece}
+use Rattle.txn_replay.specs.World.{Past, LaneRow, World, new_lane, first_world, lane_at, with_store}
 use Rattle.txn_replay.specs.declared.event.Event.{Event}
 use Rattle.txn_replay.specs.declared.event.Event.TheVariants.{Turn, Settle, Audit}
 use Rattle.txn_replay.proofs.Folding.{reached_keeps}
-use Rattle.txn_replay.proofs.Lanes.{piece_lane}
+use Rattle.txn_replay.proofs.Lanes.{lane_lane}
 use Rattle.txn_replay.proofs.Lists.{at_set, get_or-map_const}
 use Rattle.txn_replay.proofs.Sending.{Later, as_is, beginning, messaging, later_ended, unsent, LanesLike, settle_like, audit_like}
 
@@ -57,26 +59,48 @@ one_capture : (o : Option (List ℕ)) → length (option_to_list o) ≤ 1
 one_capture None = omega arith
 one_capture (Some message) = omega arith
 
+one_if_waiting : (durable : Bool) (o : Option (List ℕ)) → length (if durable then [] else option_to_list o) ≤ 1
+one_if_waiting true o = omega arith
+one_if_waiting false o = one_capture o
+
+one_if_told : (lost : Bool) (purchase : PurchaseData) (ending : Ending) (card : Option ReadCard)
+    → length (if lost then [] else approval purchase ending card) ≤ 1
+one_if_told true purchase ending card = omega arith
+one_if_told false purchase ending card = one_approval purchase ending card
+
 one_ended : (s : ScenarioData) (l : ℕ) (p : Payment) (row : LaneRow) (replies : List Reply) (end : EndData) → IsFewIn s l row
     → length row.ended < purchases_in (slice_get s.lanes l) → IsFewIn s l (lane_ended p replies end row)
 one_ended s l p row replies end few room =
-    let more : length (row.ended ++ record { began = row.began; replies = replies; end = end } ∷ []) ≡ length row.ended + 1 =
-    length-append row.ended (record { began = row.began; replies = replies; end = end } ∷ []) in
+    let more : length (row.ended ++ record { began = row.began; replies = replies; end = Some end; lost = loses p row.store end.capture } ∷ [])
+    ≡ length row.ended + 1 =
+    length-append row.ended (record { began = row.began; replies = replies; end = Some end; lost = loses p row.store end.capture } ∷ []) in
     record {
       captures =
-          (let both : length (row.captures ++ option_to_list end.capture) ≡ length row.captures + length (option_to_list end.capture) =
-          length-append row.captures (option_to_list end.capture) in
-          let one : length (option_to_list end.capture) ≤ 1 = one_capture end.capture in
+          (let both : length (row.captures ++ (if p.durable then [] else option_to_list end.capture))
+          ≡ length row.captures + length (if p.durable then [] else option_to_list end.capture) =
+          length-append row.captures (if p.durable then [] else option_to_list end.capture) in
+          let one : length (if p.durable then [] else option_to_list end.capture) ≤ 1 = one_if_waiting p.durable end.capture in
           let before : length row.captures ≤ length row.ended = few.captures in
           omega arith);
       log =
-          (let both : length (row.log ++ approval p.planned.purchase end.ending end.card) ≡ length row.log + length (approval p.planned.purchase end.ending end.card) =
-          length-append row.log (approval p.planned.purchase end.ending end.card) in
-          let one : length (approval p.planned.purchase end.ending end.card) ≤ 1 = one_approval p.planned.purchase end.ending end.card in
+          (let both : length (row.log ++ (if loses p row.store end.capture then [] else approval p.planned.purchase end.ending end.card))
+          ≡ length row.log + length (if loses p row.store end.capture then [] else approval p.planned.purchase end.ending end.card) =
+          length-append row.log (if loses p row.store end.capture then [] else approval p.planned.purchase end.ending end.card) in
+          let one : length (if loses p row.store end.capture then [] else approval p.planned.purchase end.ending end.card) ≤ 1 =
+          one_if_told (loses p row.store end.capture) p.planned.purchase end.ending end.card in
           let before : length row.log ≤ length row.ended = few.log in
           omega arith);
       ended = omega arith;
     }
+
+-- a purchase that is lost before its card is powered up captures nothing
+one_lost : (s : ScenarioData) (l : ℕ) (row : LaneRow) → IsFewIn s l row → length row.ended < purchases_in (slice_get s.lanes l) → IsFewIn s l (lane_lost row)
+one_lost s l row few room =
+    let more : length (row.ended ++ record { began = None; replies = []; end = None; lost = true } ∷ []) ≡ length row.ended + 1 =
+    length-append row.ended (record { began = None; replies = []; end = None; lost = true } ∷ []) in
+    let captures : length row.captures ≤ length row.ended = few.captures in
+    let log : length row.log ≤ length row.ended = few.log in
+    record { captures = omega arith; log = omega arith; ended = omega arith }
 
 abbrev pub LanesFew : ScenarioData → World → Type 0
 LanesFew s w = (l : ℕ) → IsFewIn s l (lane_at w l)
@@ -98,7 +122,7 @@ module _ (s : ScenarioData) where
       → LanesFew s (turned_by w l choices o).world
   turn_few w l choices None is few = few
   turn_few w l choices (Some p) is few =
-      at_set (IsFewIn s) w.lanes l (piece p (part_of w l p.planned.card) (choice_in choices 0)).part.lane new_lane here few
+      at_set (IsFewIn s) w.lanes l (lane_piece p (part_of w l p.planned.card) (choice_in choices 0) (choice_in choices 1)).part.lane new_lane here few
     where
       before : IsFewIn s l (lane_at w l)
       before = few l
@@ -106,17 +130,38 @@ module _ (s : ScenarioData) where
       room : length (lane_at w l).ended < purchases_in (slice_get s.lanes l)
       room = inside_lane s l (length (lane_at w l).ended) p is
 
-      goes_on : (lane : LaneRow) (replies : List Reply) → Later (lane_at w l) lane → IsFewIn s l (record lane { running = Some replies })
-      goes_on lane replies later =
-          let now : IsFewIn s l lane = few_later s l (lane_at w l) lane before later in record { captures = now.captures; log = now.log; ended = now.ended }
+      -- which has as many ended purchases
+      room_in : (row : LaneRow) → row.ended ≡ (lane_at w l).ended → length row.ended < purchases_in (slice_get s.lanes l)
+      room_in row same = subst (λ (pasts : List Past). length pasts < purchases_in (slice_get s.lanes l)) (sym same) room
 
-      ends : (lane : LaneRow) (replies : List Reply) (end : EndData) → Later (lane_at w l) lane → IsFewIn s l (lane_ended p replies end lane)
-      ends lane replies end later =
-          one_ended s l p lane replies end (few_later s l (lane_at w l) lane before later)
-          (subst (λ (pasts : List Past). length pasts < purchases_in (slice_get s.lanes l)) (sym (later_ended (lane_at w l) lane later)) room)
+      goes_on : (row lane : LaneRow) (replies : List Reply) → IsFewIn s l row → row.ended ≡ (lane_at w l).ended → Later row lane
+          → IsFewIn s l (record lane { running = Some replies })
+      goes_on row lane replies has same later =
+          let now : IsFewIn s l lane = few_later s l row lane has later in record { captures = now.captures; log = now.log; ended = now.ended }
 
-      here : IsFewIn s l (piece p (part_of w l p.planned.card) (choice_in choices 0)).part.lane
-      here = piece_lane (IsFewIn s l) p (part_of w l p.planned.card) before goes_on ends (choice_in choices 0)
+      ends : (row lane : LaneRow) (replies : List Reply) (end : EndData) → IsFewIn s l row → row.ended ≡ (lane_at w l).ended → Later row lane
+          → IsFewIn s l (lane_ended p replies end lane)
+      ends row lane replies end has same later =
+          one_ended s l p lane replies end (few_later s l row lane has later) (room_in lane (later_ended row lane later ∙ same))
+
+      same_few : (row : LaneRow) → row.ended ≡ (lane_at w l).ended → row.captures ≡ (lane_at w l).captures → row.log ≡ (lane_at w l).log → IsFewIn s l row
+      same_few row ended captures log = record {
+        captures = rw (ended, captures) before.captures;
+        log = rw (ended, log) before.log;
+        ended = rw ended before.ended;
+      }
+
+      copied_few : (message : List ℕ) → IsFewIn s l (lane_copied p message (lane_at w l))
+      copied_few message = same_few (lane_copied p message (lane_at w l)) refl refl refl
+
+      here : IsFewIn s l (lane_piece p (part_of w l p.planned.card) (choice_in choices 0) (choice_in choices 1)).part.lane
+      here =
+          lane_lane (IsFewIn s l) p (part_of w l p.planned.card) before goes_on ends
+          (λ one at off. same_few (with_store (opened_to_add (lane_at w l).store one) (lane_at w l)) refl refl refl)
+          (λ at. one_lost s l (lane_at w l) before room)
+          (λ message at on. copied_few message)
+          (λ message at on. one_lost s l (lane_copied p message (lane_at w l)) (copied_few message) room)
+          (choice_in choices 0) (choice_in choices 1)
 
   pub like_few : (w v : World) → LanesLike v w → LanesFew s w → LanesFew s v
   like_few w v like few l = few_like s l (lane_at v l) (lane_at w l) (like.each l) (few l)
@@ -124,7 +169,7 @@ module _ (s : ScenarioData) where
   event_few : (w : World) (e : Event) (choices : List Bool) → LanesFew s w → LanesFew s (happens s w e choices).world
   event_few w (Turn l) choices few = turn_few w l choices (next_of s w l) refl few
   event_few w (Settle k) choices few =
-      like_few w (settles s w (slice_get (settlements s w) k)).world (settle_like s w (slice_get (settlements s w) k)) few
+      like_few w (settles s w choices (slice_get (settlements s w) k)).world (settle_like s w choices (slice_get (settlements s w) k)) few
   event_few w (Audit k) choices few =
       like_few w (audits w choices (slice_get (checks s) k)).world (audit_like w choices (slice_get (checks s) k)) few
 
@@ -151,55 +196,93 @@ sum_below f (row ∷ rows) (lane ∷ lanes) same below =
     sum_by-cons (λ (x : LaneData). length x.purchases) lane lanes in
     omega arith
 
-pub copies_length : (copies l : ℕ) (captures : List (List ℕ))
-    → length {A = Settlement} (flat_map (λ message. replicate copies (record { lane = l; message = message })) captures) ≡ copies * length captures
+pub copies_length : (copies l : ℕ) (captures : List (List ℕ)) → length (flat_map (copies_of copies l) captures) ≡ copies * length captures
 copies_length copies l [] = omega arith
 copies_length copies l (message ∷ captures) =
-    let at : Settlement = record { lane = l; message = message } in
-    let later : List Settlement = flat_map (λ m. replicate copies (record { lane = l; message = m })) captures in
-    let both : length (replicate copies at ++ later) ≡ length (replicate copies at) + length later = length-append (replicate copies at) later in
-    let one : length (replicate copies at) ≡ copies = length-replicate copies at in
-    let others : length later ≡ copies * length captures = copies_length copies l captures in
+    let both : length (copies_of copies l message ++ flat_map (copies_of copies l) captures)
+    ≡ length (copies_of copies l message) + length (flat_map (copies_of copies l) captures) =
+    length-append (copies_of copies l message) (flat_map (copies_of copies l) captures) in
+    let one : length (copies_of copies l message) ≡ copies = length-replicate copies (Sends l message false) in
+    let others : length (flat_map (copies_of copies l) captures) ≡ copies * length captures = copies_length copies l captures in
     omega arith
 
--- a product over a sum
-added : (c a b d e : ℕ) → a ≡ c * b → d ≡ c * e → a + d ≡ c * (b + e)
-added c a b d e first second = omega arith
+-- the last copy drops the message
+pub dropped_length : (copies l : ℕ) (found : List (List ℕ)) → 1 ≤ copies → length (flat_map (dropped_copies copies l) found) ≡ copies * length found
+dropped_length copies l [] some = omega arith
+dropped_length copies l (message ∷ found) some =
+    let both : length (dropped_copies copies l message ++ flat_map (dropped_copies copies l) found)
+    ≡ length (dropped_copies copies l message) + length (flat_map (dropped_copies copies l) found) =
+    length-append (dropped_copies copies l message) (flat_map (dropped_copies copies l) found) in
+    let earlier : length (replicate (copies - 1) (Sends l message false)) ≡ copies - 1 = length-replicate (copies - 1) (Sends l message false) in
+    let one : length (dropped_copies copies l message) ≡ length (replicate (copies - 1) (Sends l message false)) + 1 =
+    length-append (replicate (copies - 1) (Sends l message false)) (Sends l message true ∷ []) in
+    let others : length (flat_map (dropped_copies copies l) found) ≡ copies * length found = dropped_length copies l found some in
+    omega arith
 
-pub settlements_length : (copies l : ℕ) (rows : List LaneRow) → length (settlements_from copies l rows) ≡ copies * sum_by (λ row. length row.captures) rows
-unfolding settlements_from
-settlements_length copies l [] = omega arith
-settlements_length copies l (row ∷ rows) =
-    let own : List Settlement = flat_map (λ message. replicate copies (record { lane = l; message = message })) row.captures in
-    let both : length (own ++ settlements_from copies (l + 1) rows) ≡ length own + length (settlements_from copies (l + 1) rows) =
-    length-append own (settlements_from copies (l + 1) rows) in
-    let one : length own ≡ copies * length row.captures = copies_length copies l row.captures in
-    let others : length (settlements_from copies (l + 1) rows) ≡ copies * sum_by (λ (x : LaneRow). length x.captures) rows =
-    settlements_length copies (l + 1) rows in
-    let sum : sum_by (λ (x : LaneRow). length x.captures) (row ∷ rows) ≡ length row.captures + sum_by (λ (x : LaneRow). length x.captures) rows =
-    sum_by-cons (λ (x : LaneRow). length x.captures) row rows in
-    both ∙ added copies (length own) (length row.captures) (length (settlements_from copies (l + 1) rows)) (sum_by (λ (x : LaneRow). length x.captures) rows) one others
-    ∙ ap (λ n. copies * n) (sym sum)
+-- what the opening for settlement finds is few
+abbrev pub HasFewFound : LaneRow → Type 0
+HasFewFound row = length (unwrap_or row.store.found []) ≤ 7
 
 times_le : (c a b : ℕ) → a ≤ b → c * a ≤ c * b
 times_le c a b le = grind arith
 
-pub few_of : (s : ScenarioData) (w : World) → IsSound s w → LanesFew s w → IsFew s w
-few_of s w sound few =
+lane_length : (copies l : ℕ) (row : LaneRow) (durable : Bool) → 1 ≤ copies → HasFewFound row
+    → length (lane_settlements copies l row durable) ≤ copies * length row.captures + (1 + copies * 7)
+lane_length copies l row false some few = omega (arith, copies_length copies l row.captures)
+lane_length copies l row true some few =
+    let own : length (flat_map (dropped_copies copies l) (unwrap_or row.store.found [])) ≡ copies * length (unwrap_or row.store.found []) =
+    dropped_length copies l (unwrap_or row.store.found []) some in
+    let most : copies * length (unwrap_or row.store.found []) ≤ copies * 7 = times_le copies (length (unwrap_or row.store.found [])) 7 few in
+    omega arith
+
+-- a product over a sum, with a bound for each summand
+added : (c a b d e k n : ℕ) → a ≤ c * b + k → d ≤ c * e + k * n → a + d ≤ c * (b + e) + k * (n + 1)
+added c a b d e k n first second = omega arith
+
+pub settlements_length : (s : ScenarioData) (l : ℕ) (rows : List LaneRow) → 1 ≤ s.copies → ((i : ℕ) (row : LaneRow) → slice_get rows i ≡ Some row → HasFewFound row)
+    → length (settlements_from s l rows) ≤ s.copies * sum_by (λ row. length row.captures) rows + (1 + s.copies * 7) * length rows
+unfolding settlements_from
+settlements_length s l [] some few = omega arith
+settlements_length s l (row ∷ rows) some few =
+    let both : length (lane_settlements s.copies l row (durable_of s l) ++ settlements_from s (l + 1) rows)
+    ≡ length (lane_settlements s.copies l row (durable_of s l)) + length (settlements_from s (l + 1) rows) =
+    length-append (lane_settlements s.copies l row (durable_of s l)) (settlements_from s (l + 1) rows) in
+    let one : length (lane_settlements s.copies l row (durable_of s l)) ≤ s.copies * length row.captures + (1 + s.copies * 7) =
+    lane_length s.copies l row (durable_of s l) some (few 0 row refl) in
+    let others : length (settlements_from s (l + 1) rows) ≤ s.copies * sum_by (λ (x : LaneRow). length x.captures) rows + (1 + s.copies * 7) * length rows =
+    settlements_length s (l + 1) rows some (λ i other there. few (suc i) other there) in
+    let sum : sum_by (λ (x : LaneRow). length x.captures) (row ∷ rows) ≡ length row.captures + sum_by (λ (x : LaneRow). length x.captures) rows =
+    sum_by-cons (λ (x : LaneRow). length x.captures) row rows in
+    let all : length (lane_settlements s.copies l row (durable_of s l)) + length (settlements_from s (l + 1) rows)
+    ≤ s.copies * (length row.captures + sum_by (λ (x : LaneRow). length x.captures) rows) + (1 + s.copies * 7) * (length rows + 1) =
+    added s.copies _ (length row.captures) _ (sum_by (λ (x : LaneRow). length x.captures) rows) (1 + s.copies * 7) (length rows) one others in
+    let count : length rows + 1 ≡ length (row ∷ rows) = omega arith in
+    rw (sum, both)
+    (subst (λ n. length (lane_settlements s.copies l row (durable_of s l)) + length (settlements_from s (l + 1) rows)
+    ≤ s.copies * (length row.captures + sum_by (λ (x : LaneRow). length x.captures) rows) + (1 + s.copies * 7) * n) count all)
+
+pub few_of : (s : ScenarioData) (w : World) → IsSound s w → LanesFew s w → ((l : ℕ) → HasFewFound (lane_at w l)) → IsFew s w
+few_of s w sound few found =
     record {
       lanes = here;
       ended = sum_below (λ row. length row.ended) w.lanes s.lanes sound.lane_count (λ i row there. (here i row there).ended);
-      settlements =
+      settlements = λ some.
           (let captured : sum_by (λ (row : LaneRow). length row.captures) w.lanes ≤ purchase_count s.lanes =
           sum_below (λ row. length row.captures) w.lanes s.lanes sound.lane_count captures_below in
-          let all : length (settlements s w) ≡ s.copies * sum_by (λ (row : LaneRow). length row.captures) w.lanes = settlements_length s.copies 0 w.lanes in
+          let all : length (settlements s w) ≤ s.copies * sum_by (λ (row : LaneRow). length row.captures) w.lanes + (1 + s.copies * 7) * length w.lanes =
+          settlements_length s 0 w.lanes some found_at in
           let most : s.copies * sum_by (λ (row : LaneRow). length row.captures) w.lanes ≤ s.copies * purchase_count s.lanes =
           times_le s.copies (sum_by (λ (row : LaneRow). length row.captures) w.lanes) (purchase_count s.lanes) captured in
+          let lanes : (1 + s.copies * 7) * length w.lanes ≡ (1 + s.copies * 7) * length s.lanes =
+          ap (λ n. (1 + s.copies * 7) * n) sound.lane_count in
           omega arith);
     }
   where
     here : (l : ℕ) (row : LaneRow) → slice_get w.lanes l ≡ Some row → IsFewIn s l row
     here l row there = subst (λ (x : LaneRow). IsFewIn s l x) (get_or_from_slice_get w.lanes l row new_lane there) (few l)
+
+    found_at : (l : ℕ) (row : LaneRow) → slice_get w.lanes l ≡ Some row → HasFewFound row
+    found_at l row there = subst HasFewFound (get_or_from_slice_get w.lanes l row new_lane there) (found l)
 
     captures_below : (i : ℕ) (row : LaneRow) → slice_get w.lanes i ≡ Some row → length row.captures ≤ purchases_in (slice_get s.lanes i)
     captures_below i row there =
@@ -208,14 +291,16 @@ few_of s w sound few =
         let b : length row.ended ≤ purchases_in (slice_get s.lanes i) = one.ended in
         omega arith
 
-most_of : (copies purchases n : ℕ) → copies ≤ 3 → purchases ≤ 10000 → n ≤ copies * purchases → n ≤ 30000
-most_of copies purchases n few_copies few_purchases below =
+most_of : (copies purchases lanes n : ℕ) → copies ≤ 3 → purchases ≤ 10000 → lanes ≤ 16 → n ≤ copies * purchases + (1 + copies * 7) * lanes → n ≤ 30352
+most_of copies purchases lanes n few_copies few_purchases few_lanes below =
     let most : copies * purchases ≤ 3 * 10000 = grind arith in
+    let own : (1 + copies * 7) * lanes ≤ 22 * 16 = grind arith in
     omega arith
 
-pub settlements_few : (s : ScenarioData) (w : World) → IsScenario s → IsFew s w → length (settlements s w) ≤ 30000
+pub settlements_few : (s : ScenarioData) (w : World) → IsScenario s → IsFew s w → length (settlements s w) ≤ 30352
 settlements_few s w is few =
-    most_of s.copies (purchase_count s.lanes) (length (settlements s w)) is.tables.few_copies is.tables.few_purchases few.settlements
+    most_of s.copies (purchase_count s.lanes) (length s.lanes) (length (settlements s w)) is.tables.few_copies is.tables.few_purchases is.tables.few_lanes
+    (few.settlements is.tables.one_copy)
 
 -- The steps of an audit.
 pub asks_length : (i : ℕ) (card : CardData) (apps : List AppData) → length (flat_map (app_checks i card) apps) ≡ 3 * length apps

@@ -8,16 +8,16 @@ use Rattle.report_text.specs.declared.line.Line.{Line}
 use Rattle.scenario.specs.Cards.{CardData}
 use Rattle.scenario.specs.Plan.{ScenarioData}
 use Rattle.txn_replay.specs.Changes.{powered, exchanged}
-use Rattle.txn_replay.specs.Part.{piece}
 use Rattle.txn_replay.specs.Payment.{Payment, next_of}
 use Rattle.txn_replay.specs.Run.{Place, Reached, start, scheduled, rounds, round, again, settlement, settling, audit, auditing, finished}
 use Rattle.txn_replay.specs.Sound.{IsSound}
-use Rattle.txn_replay.specs.Steps.{Settlement, Check, PowersUp, Asks, settlements, checks, part_of, turned_by, settles, audits, with_card, choice_in, happens, Step}
+use Rattle.txn_replay.specs.Steps.{Settlement, Opens, Sends, Check, PowersUp, Asks, settlements, checks, part_of, turned_by, settles, audits, with_card, choice_in, happens, Step}
+use Rattle.txn_replay.specs.Storing.{lane_piece}
 use Rattle.txn_replay.specs.World.{CardRow, World, new_card, first_world, card_at}
 use Rattle.txn_replay.specs.declared.event.Event.{Event}
 use Rattle.txn_replay.specs.declared.event.Event.TheVariants.{Turn, Settle, Audit}
 use Rattle.txn_replay.proofs.Auditing.{IsChecked, check_facts}
-use Rattle.txn_replay.proofs.Closing.{Closed, piece_keeps}
+use Rattle.txn_replay.proofs.Closing.{Closed, lane_keeps}
 use Rattle.txn_replay.proofs.Lists.{at_set, get_or-map_const}
 use Rattle.txn_replay.proofs.Moves.{this_one}
 use Rattle.txn_replay.proofs.Payments.{payment_facts}
@@ -55,27 +55,27 @@ module _ (P : ImageData → CardRow → Type 0) (closed : Closed P) (s : Scenari
       → (i : ℕ) → At i (card_at (turned_by w l choices o).world i)
   turn_cards w l choices hold None is i = hold.cards i
   turn_cards w l choices hold (Some p) is i =
-      at_set At w.cards p.planned.card (piece p (part_of w l p.planned.card) choice).part.card new_card here hold.cards i
+      at_set At w.cards p.planned.card (lane_piece p (part_of w l p.planned.card) (choice_in choices 0) (choice_in choices 1)).part.card new_card here
+      hold.cards i
     where
-      choice : Bool
-      choice = choice_in choices 0
-
       there : slice_get s.cards p.planned.card ≡ Some p.card
       there = (payment_facts s l _ p is).card
 
-      kept : P p.card.image (piece p (part_of w l p.planned.card) choice).part.card
+      kept : P p.card.image (lane_piece p (part_of w l p.planned.card) (choice_in choices 0) (choice_in choices 1)).part.card
       kept =
-          piece_keeps P closed p (part_of w l p.planned.card) choice (this_one p (part_of w l p.planned.card))
+          lane_keeps P closed p (part_of w l p.planned.card) (choice_in choices 0) (choice_in choices 1) (this_one p (part_of w l p.planned.card))
           (has_card s w l p hold.sound is) (hold.cards p.planned.card p.card there)
 
-      here : At p.planned.card (piece p (part_of w l p.planned.card) choice).part.card
+      here : At p.planned.card (lane_piece p (part_of w l p.planned.card) (choice_in choices 0) (choice_in choices 1)).part.card
       here card is_there =
-          subst (λ (x : CardData). P x.image (piece p (part_of w l p.planned.card) choice).part.card)
+          subst (λ (x : CardData). P x.image (lane_piece p (part_of w l p.planned.card) (choice_in choices 0) (choice_in choices 1)).part.card)
           (same_Some p.card card (sym there ∙ is_there)) kept
 
-  settle_holds : (w : World) (o : Option Settlement) → AllHold P s w → AllHold P s (settles s w o).world
-  settle_holds w None hold = hold
-  settle_holds w (Some at) hold = record { sound = settled_sound s w (Some at) hold.sound; cards = hold.cards }
+  settle_holds : (w : World) (choices : List Bool) (o : Option Settlement) → AllHold P s w → AllHold P s (settles s w choices o).world
+  settle_holds w choices None hold = hold
+  settle_holds w choices (Some (Opens l)) hold = record { sound = settled_sound s w choices (Some (Opens l)) hold.sound; cards = hold.cards }
+  settle_holds w choices (Some (Sends l message drops)) hold =
+      record { sound = settled_sound s w choices (Some (Sends l message drops)) hold.sound; cards = hold.cards }
 
   -- an audited card
   audited : (w : World) (i : ℕ) (card : CardData) (row : CardRow) → AllHold P s w → slice_get s.cards i ≡ Some card
@@ -107,7 +107,7 @@ module _ (P : ImageData → CardRow → Type 0) (closed : Closed P) (s : Scenari
   event_holds : (w : World) (e : Event) (choices : List Bool) → AllHold P s w → AllHold P s (happens s w e choices).world
   event_holds w (Turn l) choices hold =
       record { sound = turn_sound s w l choices hold.sound; cards = turn_cards w l choices hold (next_of s w l) refl }
-  event_holds w (Settle k) choices hold = settle_holds w (slice_get (settlements s w) k) hold
+  event_holds w (Settle k) choices hold = settle_holds w choices (slice_get (settlements s w) k) hold
   event_holds w (Audit k) choices hold = audit_holds w choices (slice_get (checks s) k) (check_facts s k) hold
 
   first_holds : AllHold P s (first_world s)
@@ -122,7 +122,7 @@ module _ (P : ImageData → CardRow → Type 0) (closed : Closed P) (s : Scenari
 -- each event leads from a sound world to a sound one
 pub event_sound : (s : ScenarioData) (w : World) (e : Event) (choices : List Bool) → IsSound s w → IsSound s (happens s w e choices).world
 event_sound s w (Turn l) choices sound = turn_sound s w l choices sound
-event_sound s w (Settle k) choices sound = settled_sound s w (slice_get (settlements s w) k) sound
+event_sound s w (Settle k) choices sound = settled_sound s w choices (slice_get (settlements s w) k) sound
 event_sound s w (Audit k) choices sound = by (slice_get (checks s) k)
   where
     by : (o : Option Check) → IsSound s (audits w choices o).world

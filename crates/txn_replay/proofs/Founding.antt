@@ -1,25 +1,28 @@
 -- The value of a run before its first event.
-use Rattle.std.proofs.Common.{◌≡◌, ℕ, List, [], ◌∷◌, length, map, get_or, slice_get, Option, Some, None, refl, sym, ap, ◌∙◌, subst, inl, arith}
+use Rattle.std.proofs.Common.{◌≡◌, ℕ, ◌<◌, Bool, true, false, List, [], ◌∷◌, length, map, get_or, slice_get, Option, Some, None, refl, sym, ap, ◌∙◌, subst, inl, arith}
 use Rattle.std.specs.Global.{Box}
 use Rattle.std.specs.List.{All, flat_map}
 use Rattle.std.proofs.lemmas.Option.{slice_get_within, get_or_from_slice_get}
+use Rattle.capture_store.specs.SeenShelf.{ShelfSeen}
+use Rattle.emv_ports.specs.declared.tear.Tear.{Tear}
 use Rattle.issuer_host.specs.History.{HostStands}
 use Rattle.kernel.specs.Kernel.{KernelData}
 use Rattle.kernel.specs.Tally.{Counts}
 use Rattle.scenario.specs.Cards.{CardData}
 use Rattle.scenario.specs.Plan.{ScenarioData}
 use Rattle.scenario_lanes.specs.Plan.{LaneData}
-use Rattle.txn_replay.specs.Banked.{IsNew, AreNew}
+use Rattle.txn_replay.specs.Banked.{IsNew, AreNew, IsNewStore, AreNewStores}
 use Rattle.txn_replay.specs.Counting.{counts_of, counts}
-use Rattle.txn_replay.specs.Payment.{Payment, payment_in}
-use Rattle.txn_replay.specs.Seen.{WorldSeen, SlotStands, RunFor, LaneAt, WorldStands, IsNewLane}
+use Rattle.txn_replay.specs.Payment.{Payment, payment_in, is_durable, durable_of}
+use Rattle.txn_replay.specs.Seen.{WorldSeen, SlotStands, terminal_plan, ShelfAt, RunFor, LaneAt, WorldStands, IsNewLane}
 use Rattle.txn_replay.specs.Slot.{SlotSeen}
-use Rattle.txn_replay.specs.Standing.{RunStands, LaneKeeps, LaneFits, is_over, card_in}
+use Rattle.txn_replay.specs.Standing.{RunStands, LaneKeeps, ShelfFor, LaneFits, is_over, card_in}
 use Rattle.txn_replay.specs.World.{CardRow, LaneRow, World, new_card, new_lane, first_world, card_at, lane_at}
 use Rattle.txn_replay.specs.declared.lane.Lane.{Lane}
 use Rattle.txn_replay.proofs.Few.{first_few}
-use Rattle.txn_replay.proofs.Lists.{get_or-map_const}
+use Rattle.txn_replay.proofs.Lists.{get_or-map_const, some_at}
 use Rattle.txn_replay.proofs.Sounding.{first_sound}
+use Rattle.txn_replay.proofs.Stores.{first_stand}
 
 none_ended : (lanes : List LaneData) → flat_map (λ (row : LaneRow). row.ended) (map (λ lane. new_lane) lanes) ≡ []
 none_ended [] = refl
@@ -45,13 +48,15 @@ fits_new lane new = record {
 pub fit_all : (lanes : List Lane) → All IsNewLane lanes → All LaneFits lanes
 fit_all lanes new = λ k d within. fits_new (get_or lanes k d) (new k d within)
 
-pub first_stands : (v : WorldSeen) → AreNew v.scenario.cards v.slots → All IsNewLane v.lanes → HostStands v.host [] → v.tally ≡ no_counts
-    → WorldStands v (first_world v.scenario)
-first_stands v new_slots lanes host tally = record {
+pub first_stands : (v : WorldSeen) → AreNew v.scenario.cards v.slots → All IsNewLane v.lanes → length v.shelves ≡ length v.scenario.lanes
+    → AreNewStores v.scenario.lanes v.shelves → HostStands v.host [] → v.tally ≡ no_counts → WorldStands v (first_world v.scenario)
+first_stands v new_slots lanes count new_stores host tally = record {
   sound = first_sound v.scenario;
   few = first_few v.scenario;
   slots = slot_stands;
   lanes = lane_stands;
+  shelves = shelf_at;
+  stored = first_stand v.scenario;
   messages = host;
   tally = tally ∙ first_counts v.scenario;
 }
@@ -73,6 +78,8 @@ first_stands v new_slots lanes host tally = record {
       amounts = λ k d within. absurd (omega arith);
       captures = ap (λ ms. map (λ message. message.items) ms) new.captures;
       messages = λ k d within. absurd (omega arith);
+      stored = λ found k d within. absurd (omega arith);
+      found = new.found;
       card = λ none. ap card_in new.place;
       ending = new.ending;
     }
@@ -86,3 +93,17 @@ first_stands v new_slots lanes host tally = record {
         let new : IsNewLane lane = new_lane_of v.lanes lanes l lane there in
         subst (λ (row : LaneRow). LaneAt v.scenario l lane row) (sym (get_or-map_const v.scenario.lanes l new_lane))
         (record { keeps = keeps lane new; runs = runs lane new (payment_in v.scenario l 0) })
+
+    -- a store that is off and empty, or none
+    new_shelf : (shelf : ShelfSeen) (plan : Option Tear) (durable : Bool) → IsNewStore shelf durable → ShelfFor shelf new_lane plan durable
+    new_shelf shelf plan true new = record { place = new.0; losses = new.1 }
+    new_shelf shelf plan false new = new
+
+    shelf_at : (l : ℕ) (shelf : ShelfSeen) → slice_get v.shelves l ≡ Some shelf → ShelfAt v.scenario l shelf (lane_at (first_world v.scenario) l)
+    shelf_at l shelf there =
+        let within : l < length v.scenario.lanes = (let a : l < length v.shelves = slice_get_within v.shelves l shelf there in omega arith) in
+        let lane = some_at v.scenario.lanes l within in
+        let durable : durable_of v.scenario l ≡ lane.0.durable = ap is_durable lane.1 in
+        subst (λ (row : LaneRow). ShelfAt v.scenario l shelf row) (sym (get_or-map_const v.scenario.lanes l new_lane))
+        (subst (λ (b : Bool). ShelfFor shelf new_lane (terminal_plan (payment_in v.scenario l 0)) b) (sym durable)
+        (new_shelf shelf (terminal_plan (payment_in v.scenario l 0)) lane.0.durable (new_stores l lane.0 shelf lane.1 there)))

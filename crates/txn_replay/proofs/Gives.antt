@@ -1,29 +1,33 @@
 -- A card's rows grow by those of the cryptograms that the lines of an exchange tell.
-use Rattle.std.proofs.Common.{◌≡◌, ℕ, ◌+◌, ◌<◌, ◌&&◌, Bool, true, false, if◌then◌else◌, List, [], ◌∷◌, ◌++◌, length, slice_get, Option, Some, None, refl, sym, ap, ◌∙◌, subst, arith, append-nil}
+use Rattle.std.proofs.Common.{◌≡◌, ℕ, zero, suc, ◌+◌, ◌<◌, ◌&&◌, Bool, true, false, if◌then◌else◌, List, [], ◌∷◌, ◌++◌, length, replicate, slice_get, Option, Some, None, refl, sym, ap, ◌∙◌, subst, arith, append-nil}
 use Rattle.std.proofs.lemmas.Bool.{and_parts}
 use Rattle.std.proofs.lemmas.List.{get_or-set_same}
 use Rattle.std.proofs.lemmas.Option.{slice_get_within}
 use Rattle.apdu_core.specs.Command.{command_of}
 use Rattle.apdu_core.specs.Response.{response_of}
+use Rattle.capture_store.specs.StoreRow.{StoreRow, opened_to_add}
 use Rattle.card_app.specs.Answering.{card_answer}
 use Rattle.card_app.specs.Session.{phase_of}
 use Rattle.card_cryptogram.specs.Phases.{current}
 use Rattle.card_pages.specs.Pages.{found_of}
 use Rattle.card_pages.specs.Replies.{CardAnswer}
+use Rattle.issuer_host.specs.History.{host_reply}
 use Rattle.kernel.specs.Ended.{EndData}
 use Rattle.kernel.specs.Reply.{Reply}
 use Rattle.report_text.specs.declared.line.Line.{Line}
+use Rattle.report_text.specs.declared.line.Line.TheVariants.{EndLost}
 use Rattle.txn_replay.specs.Changes.{is_generate, is_good, given_for, given_by, powered, exchanged, told_once, freed}
-use Rattle.txn_replay.specs.Lines.{answer_lines, host_lines, end_line}
-use Rattle.txn_replay.specs.Part.{Part, piece}
+use Rattle.txn_replay.specs.Lines.{answer_lines, host_lines, outcome_line, settle_lines}
+use Rattle.txn_replay.specs.Part.{Part, Moved, loses}
 use Rattle.txn_replay.specs.Payment.{Payment}
 use Rattle.txn_replay.specs.Sound.{holder_in}
-use Rattle.txn_replay.specs.Steps.{After, Check, PowersUp, Asks, Settlement, part_of, moved, choice_in, turned_by, settlements, settles, checks, audits, with_card, happens}
+use Rattle.txn_replay.specs.Steps.{After, Check, PowersUp, Asks, Settlement, Opens, Sends, part_of, moved, choice_in, turned_by, settlements, settles, checks, audits, with_card, happens}
+use Rattle.txn_replay.specs.Storing.{part_with, copy_lines, lane_piece}
 use Rattle.txn_replay.specs.Telling.{command_told, cryptogram_told, cryptograms_behind, cryptograms_told, AreRows, given_in, Gives, GivenIsTold, GivenIsLeft}
 use Rattle.txn_replay.specs.World.{Holder, Given, CardRow, LaneRow, new_card, card_at, lane_at}
 use Rattle.txn_replay.specs.declared.event.Event.TheVariants.{Turn}
 use Rattle.txn_replay.proofs.Auditing.{IsChecked, check_facts}
-use Rattle.txn_replay.proofs.Exchanging.{Tells, piece_tells}
+use Rattle.txn_replay.proofs.Exchanging.{Tells, StoreTells, lane_tells}
 use Rattle.txn_replay.proofs.Lists.{at_set}
 use Rattle.txn_replay.proofs.Moves.{this_one}
 use Rattle.txn_replay.proofs.Payments.{payment_facts}
@@ -31,13 +35,53 @@ use Rattle.txn_replay.proofs.Rows.{OneRow, one_row}
 use Rattle.txn_replay.proofs.Sounding.{has_card}
 
 -- an end line tells none
-end_untold : (command : Option (List ℕ)) (lines : List Line) (lane number : ℕ) (end : EndData)
-    → cryptograms_behind command (lines ++ end_line lane number end ∷ []) ≡ cryptograms_behind command lines
+end_untold : (command : Option (List ℕ)) (lines : List Line) (lost : Bool) (lane number : ℕ) (end : EndData)
+    → cryptograms_behind command (lines ++ outcome_line lost lane number end ∷ []) ≡ cryptograms_behind command lines
 unfolding cryptograms_behind
-end_untold None [] lane number end = refl
-end_untold (Some command) [] lane number end = refl
-end_untold command (line ∷ lines) lane number end =
-    ap (λ (xs : List (List ℕ)). cryptogram_told command line ++ xs) (end_untold (command_told line) lines lane number end)
+end_untold None [] true lane number end = refl
+end_untold None [] false lane number end = refl
+end_untold (Some command) [] true lane number end = refl
+end_untold (Some command) [] false lane number end = refl
+end_untold command (line ∷ lines) lost lane number end =
+    ap (λ (xs : List (List ℕ)). cryptogram_told command line ++ xs) (end_untold (command_told line) lines lost lane number end)
+
+-- lines that tell none, whatever the command before them is
+abbrev AreUntold : List Line → Type 0
+AreUntold lines = (command : Option (List ℕ)) → cryptograms_behind command lines ≡ []
+
+join : (a b c : List (List ℕ)) → a ++ b ≡ [] → (b ≡ [] → c ≡ []) → a ++ c ≡ []
+join [] b c none rest = rest none
+join (x ∷ a) b c none rest = cc
+
+untold_behind : (command : Option (List ℕ)) (xs ys : List Line) → cryptograms_behind command xs ≡ [] → AreUntold ys → cryptograms_behind command (xs ++ ys) ≡ []
+unfolding cryptograms_behind
+untold_behind command [] ys none second = second command
+untold_behind command (x ∷ xs) ys none second =
+    join (cryptogram_told command x) (cryptograms_behind (command_told x) xs) (cryptograms_behind (command_told x) (xs ++ ys)) none
+    (λ rest. untold_behind (command_told x) xs ys rest second)
+
+untold_both : (xs ys : List Line) → AreUntold xs → AreUntold ys → AreUntold (xs ++ ys)
+untold_both xs ys first second = λ command. untold_behind command xs ys (first command) second
+
+settle_untold : (iso : Bool) (lane : ℕ) (message reply : List ℕ) → AreUntold (settle_lines iso lane message reply)
+unfolding cryptograms_behind
+settle_untold iso lane message reply None = refl
+settle_untold iso lane message reply (Some command) = refl
+
+lost_untold : (lane number : ℕ) → AreUntold (EndLost lane number ∷ [])
+unfolding cryptograms_behind
+lost_untold lane number None = refl
+lost_untold lane number (Some command) = refl
+
+none_untold : AreUntold []
+unfolding cryptograms_behind
+none_untold command = refl
+
+copies_untold : (p : Payment) (message : List ℕ) (messages : List (List ℕ)) (n : ℕ) → AreUntold (copy_lines p message messages n)
+copies_untold p message messages zero = none_untold
+copies_untold p message messages (suc n) =
+    untold_both (copy_lines p message messages n) _ (copies_untold p message messages n)
+    (settle_untold p.iso p.lane message (host_reply p.issuer p.accounts (messages ++ replicate n message) message))
 
 module _ (p : Payment) (part : Part) (h : Holder) where
   abbrev Came : LaneRow → List Reply → CardRow → List (List ℕ) → List Line → Type 0
@@ -57,16 +101,16 @@ module _ (p : Payment) (part : Part) (h : Holder) where
       by_kind None = untold
       by_kind (Some answers) = refl
 
-  ended : (card : CardRow) (lines : List Line) (number : ℕ) (end : EndData) → Gives p h part.card card lines
-      → Gives p h part.card (freed card) (lines ++ end_line p.lane number end ∷ [])
-  ended card lines number end gives = record {
+  ended : (card : CardRow) (lines : List Line) (lost : Bool) (number : ℕ) (end : EndData) → Gives p h part.card card lines
+      → Gives p h part.card (freed card) (lines ++ outcome_line lost p.lane number end ∷ [])
+  ended card lines lost number end gives = record {
     rows = gives.rows;
     grown = gives.grown;
     are = subst (λ (xs : List (List ℕ)). AreRows p.card.image h gives.rows xs) (sym (by_kind p.card.canned)) gives.are;
   }
     where
-      by_kind : (o : Option (List (List ℕ))) → given_in o (lines ++ end_line p.lane number end ∷ []) ≡ given_in o lines
-      by_kind None = end_untold None lines p.lane number end
+      by_kind : (o : Option (List (List ℕ))) → given_in o (lines ++ outcome_line lost p.lane number end ∷ []) ≡ given_in o lines
+      by_kind None = end_untold None lines lost p.lane number end
       by_kind (Some answers) = refl
 
   -- the rows of an answer
@@ -131,7 +175,7 @@ module _ (p : Payment) (part : Part) (h : Holder) where
   gives_told has = record {
     still = none part.card [] refl refl;
     goes = λ lane later replies card messages lines came. came;
-    ends = λ lane later replies card messages lines came end is. ended card lines (length lane.ended + 1) end came;
+    ends = λ lane later replies card messages lines came end is. ended card lines (loses p lane.store end.capture) (length lane.ended + 1) end came;
     powers = λ rests free apps choice. none _ _ refl refl;
     power_cut = λ rests free apps is. none _ _ refl refl;
     powers_canned = λ rests free answers canned. none _ _ refl refl;
@@ -142,22 +186,41 @@ module _ (p : Payment) (part : Part) (h : Holder) where
     hosts = λ replies runs message asks reply is. none _ _ refl (host_untold message reply);
   }
 
+module _ (p : Payment) (part : Part) (h : Holder) where
+  -- with another store it is the same
+  again_told : (store : StoreRow) → ((replies : List Reply) → part.lane.running ≡ Some replies → part.card.holder ≡ Some h)
+      → Tells p (part_with store part) (Came p part h) (Behind p part h)
+  again_told store has = gives_told p (part_with store part) h has
+
+  store_told : ((replies : List Reply) → part.lane.running ≡ Some replies → part.card.holder ≡ Some h) → StoreTells p part (Came p part h) (Behind p part h)
+  store_told has = record {
+    own = gives_told p part h has;
+    again = λ one at off. again_told (opened_to_add part.lane.store one) has;
+    opened = λ one at off. none p part h part.card [] refl (none_untold None);
+    lost = λ at cut. none p part h part.card _ refl (lost_untold p.lane (length part.lane.ended + 1) None);
+    sent = λ at message. none p part h part.card _ refl (copies_untold p message part.messages p.copies None);
+    sent_lost = λ at message cut.
+        none p part h part.card _ refl
+        (untold_both (copy_lines p message part.messages p.copies) (EndLost p.lane (length part.lane.ended + 1) ∷ [])
+        (copies_untold p message part.messages p.copies) (lost_untold p.lane (length part.lane.ended + 1)) None);
+  }
+
 pub given_told : GivenIsTold
 given_told s w l choices p sound is =
-    let choice : Bool = choice_in choices 0 in
     let within : p.planned.card < length w.cards =
     (let card : p.planned.card < length s.cards = slice_get_within s.cards p.planned.card p.card (payment_facts s l _ p is).card in
     let count : length w.cards ≡ length s.cards = sound.card_count in omega arith) in
     let part : Part = part_of w l p.planned.card in
-    let is_so : happens s w (Turn l) choices ≡ moved w l p.planned.card (piece p part choice) = ap (λ (o : Option Payment). turned_by w l choices o) is in
-    let here : card_at (moved w l p.planned.card (piece p part choice)).world p.planned.card ≡ (piece p part choice).part.card =
-    get_or-set_same w.cards p.planned.card (piece p part choice).part.card new_card within in
-    let one : Gives p (this_one p part) (card_at w p.planned.card) (piece p part choice).part.card (piece p part choice).lines =
-    piece_tells p part (Came p part (this_one p part)) (Behind p part (this_one p part)) (gives_told p part (this_one p part) (has_card s w l p sound is)) choice in
+    let m : Moved = lane_piece p part (choice_in choices 0) (choice_in choices 1) in
+    let is_so : happens s w (Turn l) choices ≡ moved w l p.planned.card m = ap (λ (o : Option Payment). turned_by w l choices o) is in
+    let here : card_at (moved w l p.planned.card m).world p.planned.card ≡ m.part.card = get_or-set_same w.cards p.planned.card m.part.card new_card within in
+    let one : Gives p (this_one p part) (card_at w p.planned.card) m.part.card m.lines =
+    lane_tells p part (Came p part (this_one p part)) (Behind p part (this_one p part)) (store_told p part (this_one p part) (has_card s w l p sound is))
+    (choice_in choices 0) (choice_in choices 1) in
     let lane : p.lane ≡ l = (payment_facts s l (length (lane_at w l).ended) p is).lane in
     subst (λ (x : After). Gives p (holder_in w l) (card_at w p.planned.card) (card_at x.world p.planned.card) x.lines) (sym is_so)
-    (subst (λ (card : CardRow). Gives p (holder_in w l) (card_at w p.planned.card) card (piece p part choice).lines) (sym here)
-    (subst (λ k. Gives p (record { lane = k; number = length (lane_at w l).ended }) (card_at w p.planned.card) (piece p part choice).part.card (piece p part choice).lines) lane one))
+    (subst (λ (card : CardRow). Gives p (holder_in w l) (card_at w p.planned.card) card m.lines) (sym here)
+    (subst (λ k. Gives p (record { lane = k; number = length (lane_at w l).ended }) (card_at w p.planned.card) m.part.card m.lines) lane one))
 
 pub given_left : GivenIsLeft
 given_left s w k choices = record {
@@ -165,9 +228,10 @@ given_left s w k choices = record {
   audit = λ i. audit_left i (slice_get (checks s) k) (check_facts s k);
 }
   where
-    settle_left : (i : ℕ) (o : Option Settlement) → (card_at (settles s w o).world i).given ≡ (card_at w i).given
+    settle_left : (i : ℕ) (o : Option Settlement) → (card_at (settles s w choices o).world i).given ≡ (card_at w i).given
     settle_left i None = refl
-    settle_left i (Some at) = refl
+    settle_left i (Some (Opens l)) = refl
+    settle_left i (Some (Sends l message drops)) = refl
 
     with_left : (i j : ℕ) (card : CardRow) → card.given ≡ (card_at w j).given → (card_at (with_card w j card) i).given ≡ (card_at w i).given
     with_left i j card same = at_set (λ (n : ℕ) (x : CardRow). x.given ≡ (card_at w n).given) w.cards j card new_card same (λ n. refl) i

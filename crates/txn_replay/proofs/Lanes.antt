@@ -1,5 +1,6 @@
 -- What one exchange makes of its lane: it stays, runs, or has one purchase more that has ended.
-use Rattle.std.proofs.Common.{ℕ, Bool, true, false, List, [], ◌∷◌, ◌++◌, slice_get, Option, Some, None}
+use Rattle.std.proofs.Common.{◌≡◌, ℕ, Bool, true, false, List, [], ◌∷◌, ◌++◌, slice_get, Option, Some, None, refl}
+use Rattle.capture_store.specs.StoreRow.{opened_to_add, is_cut}
 use Rattle.card_app.specs.Answering.{card_answer}
 use Rattle.card_pages.specs.Cuts.{Cut, cut_of}
 use Rattle.card_pages.specs.Pages.{found_of}
@@ -13,9 +14,11 @@ use Rattle.txn_replay.specs.Changes.{powered, exchanged, told_once, torn, lost}
 use Rattle.txn_replay.specs.Lines.{answer_lines, torn_lines, gone_lines, power_torn_line}
 use Rattle.txn_replay.specs.Part.{Part, lane_ended, settled_by, cut_ends, answered, canned_by, asked_by, asked, begun, begun_by, begun_with, piece_by, piece}
 use Rattle.txn_replay.specs.Payment.{Payment, deal_for, end_at}
-use Rattle.txn_replay.specs.World.{Holder, CardRow, LaneRow, with_sent}
+use Rattle.txn_replay.specs.Storing.{part_with, lane_lost, lane_copied, copied, copy_lines, dropped_by, delivers_first, lane_piece}
+use Rattle.txn_replay.specs.World.{Holder, CardRow, LaneRow, with_sent, with_store}
 use Rattle.txn_replay.proofs.Moves.{this_one}
 use Rattle.txn_replay.proofs.Sending.{Later, as_is, beginning, messaging}
+use Rattle.txn_replay.proofs.Ways.{AtRest, IsOn, lane_ways}
 
 module _ (B : LaneRow → Type 0) (p : Payment) (part : Part) (stays : B part.lane)
     (runs : (lane : LaneRow) (replies : List Reply) → Later part.lane lane → B (record lane { running = Some replies }))
@@ -78,3 +81,34 @@ module _ (B : LaneRow → Type 0) (p : Payment) (part : Part) (stays : B part.la
       by_lane : (o : Option (List Reply)) → B (piece_by p part choice o).part.lane
       by_lane None = by_holder part.card.holder
       by_lane (Some replies) = ask_lane replies (dialogue (deal_for p) replies).deed
+
+-- So with its store: what opening it, losing the purchase, or delivering the first message makes of the lane has this too.
+module _ (B : LaneRow → Type 0) (p : Payment) (part : Part) (stays : B part.lane)
+    (runs : (before lane : LaneRow) (replies : List Reply) → B before → before.ended ≡ part.lane.ended → Later before lane → B (record lane { running = Some replies }))
+    (ends : (before lane : LaneRow) (replies : List Reply) (end : EndData) → B before → before.ended ≡ part.lane.ended → Later before lane → B (lane_ended p replies end lane))
+    (opened : (one : Bool) → AtRest p part → part.lane.store.commits ≡ None → B (with_store (opened_to_add part.lane.store one) part.lane))
+    (lost : AtRest p part → B (lane_lost part.lane))
+    (sent : (message : List ℕ) → AtRest p part → IsOn part true → B (lane_copied p message part.lane))
+    (sent_lost : (message : List ℕ) → AtRest p part → IsOn part true → B (lane_lost (lane_copied p message part.lane))) where
+  delivered_lane : AtRest p part → IsOn part true → (list : List (List ℕ)) → B (delivers_first p part list).part.lane
+  delivered_lane at on [] = stays
+  delivered_lane at on (message ∷ others) = by (is_cut p.planned.terminal_tear part.lane.store)
+    where
+      by : (cut : Bool) → B (dropped_by p (copied p message part) (copy_lines p message part.messages p.copies) cut).part.lane
+      by true = sent_lost message at on
+      by false = sent message at on
+
+  pub lane_lane : (one other : Bool) → B (lane_piece p part one other).part.lane
+  lane_lane one other =
+      lane_ways (λ m. B m.part.lane) p part
+      stays
+      (λ choice so. piece_lane B p part stays (λ lane replies later. runs part.lane lane replies stays refl later)
+      (λ lane replies end later. ends part.lane lane replies end stays refl later) choice)
+      (λ at off cut. lost at)
+      (λ first at off full. opened first at off)
+      (λ first second at off room.
+      piece_lane B p (part_with (opened_to_add part.lane.store first) part) (opened first at off)
+      (λ lane replies later. runs (with_store (opened_to_add part.lane.store first) part.lane) lane replies (opened first at off) refl later)
+      (λ lane replies end later. ends (with_store (opened_to_add part.lane.store first) part.lane) lane replies end (opened first at off) refl later) second)
+      (λ at on. delivered_lane at on part.lane.store.list)
+      one other

@@ -1,5 +1,7 @@
 -- What the events keep of a world with the lines so far holds of each world of a run with its lines.
-use Rattle.std.proofs.Common.{◌≡◌, ℕ, ◌<◌, ◌++◌, Bool, List, [], length, Some, sym, subst, arith}
+use Rattle.std.proofs.Common.{◌≡◌, ◌≢◌, ℕ, ◌<◌, ◌++◌, Bool, List, [], length, Some, false, sym, subst, arith}
+use Rattle.std.specs.Prelude.{◌==◌}
+use Rattle.std.proofs.lemmas.Bool.{ne_eqb}
 use Rattle.std.proofs.lemmas.List.{get_or-set_same}
 use Rattle.std.proofs.lemmas.Option.{slice_get_within}
 use Rattle.report_text.specs.declared.line.Line.{Line}
@@ -12,6 +14,10 @@ use Rattle.txn_replay.specs.Steps.{happens, moved, Step}
 use Rattle.txn_replay.specs.World.{World, new_card, new_lane, first_world, card_at, lane_at}
 use Rattle.txn_replay.specs.declared.event.Event.{Event}
 use Rattle.txn_replay.proofs.Payments.{payment_facts}
+
+-- the number of another lane
+pub apart : (k l : ℕ) → k ≢ l → (l == k) ≡ false
+apart k l other = ne_eqb l k (λ same. other (sym same))
 
 module _ (s : ScenarioData) (Q : World → List Line → Type 0) (first : Q (first_world s) [])
     (keeps : (w : World) (lines : List Line) (e : Event) (choices : List Bool) → Q w lines → Q (happens s w e choices).world (lines ++ (happens s w e choices).lines)) where

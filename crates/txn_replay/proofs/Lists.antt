@@ -1,6 +1,8 @@
 -- Lists that grow at their end, or that change at one place.
-use Rattle.std.proofs.Common.{◌≡◌, ◌≢◌, ℕ, zero, suc, ◌⊎◌, ◌+◌, ◌<◌, ◌≤◌, List, [], ◌∷◌, ◌++◌, length, take, drop, get_or, set, map, slice_get, Some, refl, sym, ap, ◌∙◌, true, false, nat_lt, arith, inl, inr}
+use Rattle.std.proofs.Common.{◌≡◌, ◌≢◌, ℕ, zero, suc, ◌⊎◌, ◌+◌, ◌<◌, ◌≤◌, List, [], ◌∷◌, ◌++◌, length, take, drop, replicate, get_or, set, map, slice_get, Some, refl, sym, ap, ◌∙◌, subst, true, false, nat_lt, arith, inl, inr}
+use Rattle.std.proofs.lemmas.Bool.{cases_eq}
 use Rattle.std.proofs.lemmas.Bool.Decides.{nat_tests}
+use Rattle.std.proofs.lemmas.List.{get_or-set_same, get_or-set_other}
 use Rattle.std.proofs.lemmas.Option.{same_Some, slice_get-get_or}
 
 -- an element of the longer list stands among the earlier ones, or is the new one
@@ -21,6 +23,17 @@ pub append_at : {A : Type 0} (xs ys : List A) (k : ℕ) (x : A) → slice_get (x
 append_at [] ys k x here = inr (k, here)
 append_at (a ∷ xs) ys zero x here = inl here
 append_at (a ∷ xs) ys (suc k) x here = append_at xs ys k x here
+
+-- and at which place
+pub append_place : {A : Type 0} (xs ys : List A) (k : ℕ) (x : A) → slice_get (xs ++ ys) k ≡ Some x
+    → ((k < length xs) × (slice_get xs k ≡ Some x)) ⊎ ((m : ℕ) × (k ≡ length xs + m) × (slice_get ys m ≡ Some x))
+append_place [] ys k x here = inr (k, omega arith, here)
+append_place (a ∷ xs) ys zero x here = inl (omega arith, here)
+append_place (a ∷ xs) ys (suc k) x here =
+    elim (append_place xs ys k x here) [
+      | inl first ↦ inl (omega (arith, first.0), first.1)
+      | inr second ↦ inr (second.0, omega (arith, second.1), second.2)
+    ]
 
 -- what holds of the new element and of each old one holds of each
 pub at_set : {A : Type 0} (P : ℕ → A → Type 0) (xs : List A) (i : ℕ) (a d : A) → P i a → ((j : ℕ) → P j (get_or xs j d))
@@ -95,3 +108,26 @@ pub found_first : {A : Type 0} (xs ys : List A) (k : ℕ) (x : A) → k < length
 found_first [] ys k x within here = absurd (omega arith)
 found_first (a ∷ xs) ys zero x within here = here
 found_first (a ∷ xs) ys (suc k) x within here = found_first xs ys k x (omega arith) here
+
+-- where two lists change at the same place
+pub set_both : {A B : Type 0} (P : ℕ → A → B → Type 0) (xs : List A) (ys : List B) (l : ℕ) (a : A) (b d : B) → l < length ys → P l a b
+    → ((j : ℕ) (x : A) → slice_get xs j ≡ Some x → P j x (get_or ys j d))
+    → (j : ℕ) (x : A) → slice_get (set xs l a) j ≡ Some x → P j x (get_or (set ys l b) j d)
+set_both {A} {B} P xs ys l a b d inside new old j x there =
+    elim (cases_eq j l) [
+      | inl same ↦
+          (let is : a ≡ x = set_here xs l a x (ap (λ i. slice_get (set xs l a) i) (sym same) ∙ there) in
+          subst (λ (i : ℕ). P i x (get_or (set ys l b) i d)) (sym same)
+          (subst (λ (y : B). P l x y) (sym (get_or-set_same ys l b d inside)) (subst (λ (y : A). P l y b) is new)))
+      | inr differs ↦
+          subst (λ (y : B). P j x y) (sym (get_or-set_other ys l j b d differs)) (old j x (sym (set_other xs l j a differs) ∙ there))
+    ]
+
+-- one more of the same
+pub replicate_push : {A : Type 0} (n : ℕ) (x : A) → replicate n x ++ x ∷ [] ≡ replicate (suc n) x
+replicate_push zero x = refl
+replicate_push {A} (suc n) x = ap (λ (xs : List A). x ∷ xs) (replicate_push n x)
+
+pub map_replicate : {A B : Type 0} (f : A → B) (n : ℕ) (x : A) → map f (replicate n x) ≡ replicate n (f x)
+map_replicate f zero x = refl
+map_replicate {A} {B} f (suc n) x = ap (λ (xs : List B). f x ∷ xs) (map_replicate f n x)

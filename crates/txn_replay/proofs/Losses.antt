@@ -1,9 +1,10 @@
 -- A loss of power is counted exactly where the lines of an exchange tell one.
-use Rattle.std.proofs.Common.{◌≡◌, ℕ, ◌+◌, ◌<◌, Bool, true, false, List, [], ◌∷◌, ◌++◌, length, cond, slice_get, Option, Some, None, refl, sym, ap, ◌∙◌, arith}
+use Rattle.std.proofs.Common.{◌≡◌, ℕ, zero, suc, ◌+◌, ◌<◌, Bool, true, false, List, [], ◌∷◌, ◌++◌, length, replicate, cond, slice_get, Option, Some, None, refl, sym, ap, ◌∙◌, arith}
 use Rattle.std.specs.List.{count_by}
 use Rattle.std.proofs.lemmas.List.{get_or-set_same}
 use Rattle.std.proofs.lemmas.List.Sums.{sum_by-append}
 use Rattle.std.proofs.lemmas.Option.{slice_get_within}
+use Rattle.capture_store.specs.StoreRow.{opened_to_add, is_cut}
 use Rattle.card_app.specs.Answering.{card_answer}
 use Rattle.card_pages.specs.Cuts.{Cut, cut_of}
 use Rattle.card_pages.specs.Pages.{found_of}
@@ -15,15 +16,18 @@ use Rattle.kernel.specs.Dialogue.{dialogue}
 use Rattle.kernel.specs.Ended.{EndData}
 use Rattle.kernel.specs.Reply.{Reply, CardSaid, CardGone, from_host, Deed, ToCard, ToHost, Over}
 use Rattle.report_text.specs.declared.line.Line.{Line}
+use Rattle.report_text.specs.declared.line.Line.TheVariants.{EndLost}
 use Rattle.txn_replay.specs.Changes.{powered, exchanged, told_once, torn, lost}
 use Rattle.txn_replay.specs.Laws.{is_torn, LossesAreTold}
-use Rattle.txn_replay.specs.Lines.{power_line, power_canned_line, power_torn_line, answer_lines, torn_lines, gone_lines, host_lines, end_line}
-use Rattle.txn_replay.specs.Part.{Part, Moved, still, settled_by, cut_ends, answered, canned_by, asked_by, asked, begun, begun_by, begun_with, piece_by, piece}
+use Rattle.txn_replay.specs.Lines.{power_line, power_canned_line, power_torn_line, answer_lines, torn_lines, gone_lines, host_lines, settle_lines, outcome_line}
+use Rattle.txn_replay.specs.Part.{Part, Moved, still, loses, settled_by, cut_ends, answered, canned_by, asked_by, asked, begun, begun_by, begun_with, piece_by, piece}
 use Rattle.txn_replay.specs.Payment.{Payment, deal_for, end_at}
 use Rattle.txn_replay.specs.Steps.{After, part_of, moved, choice_in, turned_by, happens}
+use Rattle.txn_replay.specs.Storing.{part_with, copied, copy_lines, dropped_by, delivers_first, lane_piece}
 use Rattle.txn_replay.specs.World.{Holder, CardRow, LaneRow, new_card, card_at, with_sent}
 use Rattle.txn_replay.specs.declared.event.Event.TheVariants.{Turn}
 use Rattle.txn_replay.proofs.Payments.{payment_facts}
+use Rattle.txn_replay.proofs.Ways.{lane_ways}
 
 abbrev count : List Line → ℕ
 count lines = count_by is_torn lines
@@ -32,11 +36,15 @@ count lines = count_by is_torn lines
 abbrev Told : Part → Moved → Type 0
 Told part m = m.part.card.losses ≡ part.card.losses + count m.lines
 
-with_end : (lines : List Line) (lane number : ℕ) (end : EndData) → count (lines ++ end_line lane number end ∷ []) ≡ count lines
-with_end lines lane number end =
-    let both : count (lines ++ end_line lane number end ∷ []) ≡ count lines + count (end_line lane number end ∷ []) =
-    sum_by-append (λ (x : Line). cond (is_torn x) 1 0) lines (end_line lane number end ∷ []) in
-    let none : count (end_line lane number end ∷ []) ≡ 0 = refl in
+none_at_end : (lost : Bool) (lane number : ℕ) (end : EndData) → count (outcome_line lost lane number end ∷ []) ≡ 0
+none_at_end true lane number end = refl
+none_at_end false lane number end = refl
+
+with_end : (lines : List Line) (lost : Bool) (lane number : ℕ) (end : EndData) → count (lines ++ outcome_line lost lane number end ∷ []) ≡ count lines
+with_end lines lost lane number end =
+    let both : count (lines ++ outcome_line lost lane number end ∷ []) ≡ count lines + count (outcome_line lost lane number end ∷ []) =
+    sum_by-append (λ (x : Line). cond (is_torn x) 1 0) lines (outcome_line lost lane number end ∷ []) in
+    let none : count (outcome_line lost lane number end ∷ []) ≡ 0 = none_at_end lost lane number end in
     omega arith
 
 settled_told : (p : Payment) (part : Part) (replies : List Reply) (lane : LaneRow) (card : CardRow) (messages : List (List ℕ)) (lines : List Line)
@@ -44,14 +52,16 @@ settled_told : (p : Payment) (part : Part) (replies : List Reply) (lane : LaneRo
     → Told part (settled_by p replies (record { lane = lane; card = card; messages = messages }) lines e)
 settled_told p part replies lane card messages lines None same none = omega (arith, same, none)
 settled_told p part replies lane card messages lines (Some end) same none =
-    let ended : count (lines ++ end_line p.lane (length lane.ended + 1) end ∷ []) ≡ count lines = with_end lines p.lane (length lane.ended + 1) end in
+    let ended : count (lines ++ outcome_line (loses p lane.store end.capture) p.lane (length lane.ended + 1) end ∷ []) ≡ count lines =
+    with_end lines (loses p lane.store end.capture) p.lane (length lane.ended + 1) end in
     omega (arith, same, none, ended)
 
 cut_told : (p : Payment) (part : Part) (replies : List Reply) (card : CardRow) (lines : List Line) (n : ℕ) (e : Option EndData)
     → card.losses ≡ part.card.losses + n → count lines ≡ n → Told part (cut_ends p replies part (record part { card = card }) lines e)
 cut_told p part replies card lines n None same told = let none : count [] ≡ 0 = refl in omega (arith, none)
 cut_told p part replies card lines n (Some end) same told =
-    let ended : count (lines ++ end_line p.lane (length part.lane.ended + 1) end ∷ []) ≡ count lines = with_end lines p.lane (length part.lane.ended + 1) end in
+    let ended : count (lines ++ outcome_line (loses p part.lane.store end.capture) p.lane (length part.lane.ended + 1) end ∷ []) ≡ count lines =
+    with_end lines (loses p part.lane.store end.capture) p.lane (length part.lane.ended + 1) end in
     omega (arith, same, told, ended)
 
 answered_told : (p : Payment) (part : Part) (replies : List Reply) (command : List ℕ) (said : CardAnswer) (cut : Option Cut)
@@ -119,14 +129,53 @@ piece_told p part choice = by_lane part.lane.running
     by_lane None = by_holder part.card.holder
     by_lane (Some replies) = asked_told p part replies (dialogue (deal_for p) replies).deed
 
+none_settled : (iso : Bool) (lane : ℕ) (message reply : List ℕ) → count (settle_lines iso lane message reply) ≡ 0
+none_settled iso lane message reply = refl
+
+none_copied : (p : Payment) (message : List ℕ) (messages : List (List ℕ)) (n : ℕ) → count (copy_lines p message messages n) ≡ 0
+none_copied p message messages zero = refl
+none_copied p message messages (suc n) =
+    let reply : List ℕ = host_reply p.issuer p.accounts (messages ++ replicate n message) message in
+    let both : count (copy_lines p message messages n ++ settle_lines p.iso p.lane message reply)
+    ≡ count (copy_lines p message messages n) + count (settle_lines p.iso p.lane message reply) =
+    sum_by-append (λ (x : Line). cond (is_torn x) 1 0) (copy_lines p message messages n) (settle_lines p.iso p.lane message reply) in
+    let last : count (settle_lines p.iso p.lane message reply) ≡ 0 = none_settled p.iso p.lane message reply in
+    let earlier : count (copy_lines p message messages n) ≡ 0 = none_copied p message messages n in
+    omega arith
+
+delivery_told : (p : Payment) (part : Part) (list : List (List ℕ)) → Told part (delivers_first p part list)
+delivery_told p part [] = let none : count [] ≡ 0 = refl in omega (arith, none)
+delivery_told p part (message ∷ others) = by (is_cut p.planned.terminal_tear part.lane.store)
+  where
+    by : (cut : Bool) → Told part (dropped_by p (copied p message part) (copy_lines p message part.messages p.copies) cut)
+    by true =
+        let number : ℕ = length part.lane.ended + 1 in
+        let both : count (copy_lines p message part.messages p.copies ++ EndLost p.lane number ∷ [])
+        ≡ count (copy_lines p message part.messages p.copies) + count (EndLost p.lane number ∷ []) =
+        sum_by-append (λ (x : Line). cond (is_torn x) 1 0) (copy_lines p message part.messages p.copies) (EndLost p.lane number ∷ []) in
+        let none : count (EndLost p.lane number ∷ []) ≡ 0 = refl in
+        omega (arith, both, none, none_copied p message part.messages p.copies)
+    by false = omega (arith, none_copied p message part.messages p.copies)
+
+pub lane_told : (p : Payment) (part : Part) (one other : Bool) → Told part (lane_piece p part one other)
+lane_told p part one other =
+    lane_ways (Told part) p part
+    (let none : count [] ≡ 0 = refl in omega (arith, none))
+    (λ choice so. piece_told p part choice)
+    (λ at off cut. (let none : count (EndLost p.lane (length part.lane.ended + 1) ∷ []) ≡ 0 = refl in omega (arith, none)))
+    (λ first at off full. (let none : count [] ≡ 0 = refl in omega (arith, none)))
+    (λ first second at off room. piece_told p (part_with (opened_to_add part.lane.store first) part) second)
+    (λ at on. delivery_told p part part.lane.store.list)
+    one other
+
 pub losses_told : LossesAreTold
 losses_told s w l choices p sound is =
     let within : p.planned.card < length w.cards =
     (let card : p.planned.card < length s.cards = slice_get_within s.cards p.planned.card p.card (payment_facts s l _ p is).card in
     let count : length w.cards ≡ length s.cards = sound.card_count in omega arith) in
-    let m : Moved = piece p (part_of w l p.planned.card) (choice_in choices 0) in
+    let m : Moved = lane_piece p (part_of w l p.planned.card) (choice_in choices 0) (choice_in choices 1) in
     let is_so : happens s w (Turn l) choices ≡ moved w l p.planned.card m = ap (λ (o : Option Payment). turned_by w l choices o) is in
     ap (λ (x : After). (card_at x.world p.planned.card).losses) is_so
     ∙ ap (λ (row : CardRow). row.losses) (get_or-set_same w.cards p.planned.card m.part.card new_card within)
-    ∙ piece_told p (part_of w l p.planned.card) (choice_in choices 0)
+    ∙ lane_told p (part_of w l p.planned.card) (choice_in choices 0) (choice_in choices 1)
     ∙ ap (λ (x : After). (card_at w p.planned.card).losses + count x.lines) (sym is_so)

@@ -1,38 +1,40 @@
 -- A card has lost its power as often as the lines of a run tell.
-use Rattle.std.proofs.Common.{◌≡◌, ◌≢◌, ℕ, ◌⊎◌, ◌+◌, ◌≤◌, ◌<◌, cond, Bool, true, false, if◌then◌else◌, List, [], ◌∷◌, ◌++◌, length, slice_get, Option, Some, None, refl, sym, ap, ◌∙◌, inl, inr, arith, append-nil}
+use Rattle.std.proofs.Common.{◌≡◌, ◌≢◌, ℕ, zero, suc, ◌⊎◌, ◌+◌, ◌≤◌, ◌<◌, cond, Bool, true, false, if◌then◌else◌, List, [], ◌∷◌, ◌++◌, length, slice_get, Option, Some, None, refl, sym, ap, ◌∙◌, inl, inr, arith, append-nil}
 use Rattle.std.specs.Prelude.{◌==◌, ◌||◌, ℤ}
 use Rattle.std.specs.List.{AllPairs, count_by, flat_map, list_any}
 use Rattle.std.specs.Str.{bytes_eq}
-use Rattle.std.proofs.lemmas.Bool.{eqb-true, eq-eqb, cases_eq, cases_lt}
+use Rattle.std.proofs.lemmas.Bool.{eq-eqb, cases_eq, cases_lt}
 use Rattle.std.proofs.lemmas.List.{append_assoc, get_or-set_other}
 use Rattle.std.proofs.lemmas.List.Sums.{fold_push, sum_by-append}
 use Rattle.std.proofs.lemmas.Option.{same_Some, slice_get_within, get_or_from_slice_get}
 use Rattle.std.proofs.lemmas.Slice.Eq.{bytes_eq-Decides}
+use Rattle.capture_store.specs.StoreRow.{opened_to_add}
 use Rattle.issuer_host.specs.Account.{AccountData}
 use Rattle.issuer_host.specs.History.{balance_after}
 use Rattle.kernel.specs.Ended.{EndData}
 use Rattle.kernel.specs.Reply.{Reply}
 use Rattle.report_text.specs.declared.line.Line.{Line}
-use Rattle.report_text.specs.declared.line.Line.TheVariants.{Power, PowerCanned, PowerTorn, ToCard, Torn, Done}
+use Rattle.report_text.specs.declared.line.Line.TheVariants.{Power, PowerCanned, PowerTorn, ToCard, Torn, EndLost, Done}
 use Rattle.scenario.specs.Cards.{CardData}
 use Rattle.scenario.specs.Plan.{ScenarioData, IsScenario}
 use Rattle.txn_replay.specs.Changes.{lost}
 use Rattle.txn_replay.specs.Laws.{is_torn}
-use Rattle.txn_replay.specs.Lines.{torn_lines, host_lines, end_line}
-use Rattle.txn_replay.specs.Part.{Part, Moved, piece}
+use Rattle.txn_replay.specs.Lines.{torn_lines, host_lines, outcome_line}
+use Rattle.txn_replay.specs.Part.{Part, Moved, loses}
 use Rattle.txn_replay.specs.Payment.{Payment, payment_in, next_of}
 use Rattle.txn_replay.specs.Sound.{IsSound}
-use Rattle.txn_replay.specs.Steps.{Check, PowersUp, Asks, Settlement, settlements, settles, checks, audits, with_card, part_of, choice_in, turned_by, happens}
+use Rattle.txn_replay.specs.Steps.{Check, PowersUp, Asks, Settlement, Opens, Sends, settlements, settles, checks, audits, with_card, part_of, choice_in, turned_by, happens}
 use Rattle.txn_replay.specs.Run.{Finished, balance_line, account_lines, ended_count, closing}
+use Rattle.txn_replay.specs.Storing.{part_with, lane_lost, lane_copied, copied, copy_lines, lane_piece}
 use Rattle.txn_replay.specs.Told.{card_next, card_told, is_loss_of, losses_behind, losses_told, HasLosses, RunsTellLosses, WholeRunsTellLosses}
 use Rattle.txn_replay.specs.World.{Past, CardRow, LaneRow, World, new_card, new_lane, first_world, card_at, lane_at}
 use Rattle.txn_replay.specs.declared.event.Event.{Event}
 use Rattle.txn_replay.specs.declared.event.Event.TheVariants.{Turn, Settle, Audit}
-use Rattle.txn_replay.proofs.Exchanging.{Tells, piece_tells}
+use Rattle.txn_replay.proofs.Exchanging.{Tells, StoreTells, lane_tells}
 use Rattle.txn_replay.proofs.Folding.{event_sound}
-use Rattle.txn_replay.proofs.Lining.{reached_lines, lane_behind, card_behind}
+use Rattle.txn_replay.proofs.Lining.{apart, reached_lines, lane_behind, card_behind}
 use Rattle.txn_replay.proofs.Lists.{at_set, get_or-map_const}
-use Rattle.txn_replay.proofs.Losses.{piece_told}
+use Rattle.txn_replay.proofs.Losses.{lane_told}
 use Rattle.txn_replay.proofs.Payments.{payment_facts}
 use Rattle.txn_replay.proofs.Sending.{later_ended, LanesLike, settle_like, audit_like}
 use Rattle.txn_replay.proofs.Sounding.{first_sound}
@@ -105,14 +107,26 @@ quiet_torn : (lines : List Line) → AreQuiet lines → count_by is_torn lines �
 quiet_torn [] quiet = refl
 quiet_torn (line ∷ lines) quiet = let parts = quiet_parts line lines quiet in rw parts.0.torn (quiet_torn lines parts.1)
 
-apart : (k l : ℕ) → k ≢ l → (l == k) ≡ false
-apart k l other = by (l == k) refl
+-- of two lists
+quiet-append : (xs ys : List Line) → AreQuiet xs → AreQuiet ys → AreQuiet (xs ++ ys)
+quiet-append [] ys first second = second
+quiet-append (x ∷ xs) ys first second = by (tells_power x) first (λ none. quiet-append xs ys none second)
   where
-    by : (b : Bool) → (l == k) ≡ b → b ≡ false
-    by true is = absurd (other (sym (eqb-true l k is)))
-    by false is = refl
+    by : (b : Bool) → (b || list_any tells_power xs) ≡ false → (list_any tells_power xs ≡ false → list_any tells_power (xs ++ ys) ≡ false)
+        → (b || list_any tells_power (xs ++ ys)) ≡ false
+    by true none more = none
+    by false none more = more none
 
-module _ (p : Payment) (part : Part) (before : List Line) (known : (replies : List Reply) → part.lane.running ≡ Some replies → card_told p.lane before ≡ p.card.name) where
+-- settlement lines, and an end line of either kind
+quiet_copies : (p : Payment) (message : List ℕ) (messages : List (List ℕ)) (n : ℕ) → AreQuiet (copy_lines p message messages n)
+quiet_copies p message messages zero = refl
+quiet_copies p message messages (suc n) = quiet-append (copy_lines p message messages n) _ (quiet_copies p message messages n) refl
+
+quiet_end : (lost_so : Bool) (lane number : ℕ) (end : EndData) → AreQuiet (outcome_line lost_so lane number end ∷ [])
+quiet_end true lane number end = refl
+quiet_end false lane number end = refl
+
+module _ (p : Payment) (before : List Line) where
   -- these are losses of the purchase's card alone
   abbrev Own : List Line → Type 0
   Own lines = (name : List ℕ) → losses_behind name before lines ≡ (if bytes_eq p.card.name name then count_by is_torn lines else 0)
@@ -125,11 +139,12 @@ module _ (p : Payment) (part : Part) (before : List Line) (known : (replies : Li
     pub others : Others lines
     pub card_is : card_told p.lane (before ++ lines) ≡ p.card.name
 
-  pub record Behind (after : Part) (lines : List Line) : Type 0 where
+  -- where so many purchases had ended
+  pub record Behind (ended : ℕ) (after : Part) (lines : List Line) : Type 0 where
     pub own : Own lines
     pub others : Others lines
     pub card_is : (replies : List Reply) → after.lane.running ≡ Some replies
-        → (card_told p.lane (before ++ lines) ≡ p.card.name) × (length after.lane.ended ≡ length part.lane.ended)
+        → (card_told p.lane (before ++ lines) ≡ p.card.name) × (length after.lane.ended ≡ ended)
 
   none_own : (lines : List Line) → AreQuiet lines → Own lines
   none_own lines quiet name = quiet_losses name before lines quiet ∙ sym (by (bytes_eq p.card.name name))
@@ -137,14 +152,6 @@ module _ (p : Payment) (part : Part) (before : List Line) (known : (replies : Li
       by : (b : Bool) → (if b then count_by is_torn lines else 0) ≡ 0
       by true = quiet_torn lines quiet
       by false = refl
-
-  quiet_came : (lane : LaneRow) (replies others : List Reply) → part.lane.running ≡ Some others → (card : CardRow) (messages : List (List ℕ)) (lines : List Line)
-      → AreQuiet lines → Came lane replies card messages lines
-  quiet_came lane replies others runs card messages lines quiet = record {
-    own = none_own lines quiet;
-    others = λ k other. quiet_card k before lines quiet;
-    card_is = quiet_card p.lane before lines quiet ∙ known others runs;
-  }
 
   -- a power line of the purchase's card
   pub record Powers (line : Line) : Type 0 where
@@ -164,17 +171,6 @@ module _ (p : Payment) (part : Part) (before : List Line) (known : (replies : Li
   no_loss true = refl
   no_loss false = refl
 
-  cut_own : (command : List ℕ) → (others : List Reply) → part.lane.running ≡ Some others → Own (torn_lines p.lane command)
-  unfolding losses_behind
-  cut_own command others runs name =
-      let asks : Line = ToCard p.lane (record { items = command }) in
-      let here : card_told p.lane (before ++ asks ∷ []) ≡ p.card.name = card-push p.lane before asks ∙ known others runs in
-      ap (λ (card : List ℕ). 0 + ((if bytes_eq card name then 1 else 0) + 0)) here ∙ by (bytes_eq p.card.name name)
-    where
-      by : (b : Bool) → 0 + ((if b then 1 else 0) + 0) ≡ (if b then 1 else 0)
-      by true = refl
-      by false = refl
-
   cut_card : (k : ℕ) (command : List ℕ) → card_told k (before ++ torn_lines p.lane command) ≡ card_told k before
   cut_card k command =
       let asks : Line = ToCard p.lane (record { items = command }) in
@@ -182,19 +178,20 @@ module _ (p : Payment) (part : Part) (before : List Line) (known : (replies : Li
       ∙ card-push k (before ++ asks ∷ []) (Torn p.lane)
       ∙ card-push k before asks
 
-  ends_so : (lane : LaneRow) (card : CardRow) (messages : List (List ℕ)) (replies : List Reply) (lines : List Line) → Came lane replies card messages lines
-      → (number : ℕ) (end : EndData) → (after : Part) → after.lane.running ≡ None → Behind after (lines ++ end_line p.lane number end ∷ [])
-  ends_so lane card messages replies lines came number end after rests = record {
+  ends_so : (ended : ℕ) (lane : LaneRow) (card : CardRow) (messages : List (List ℕ)) (replies : List Reply) (lines : List Line) → Came lane replies card messages lines
+      → (lost_so : Bool) (number : ℕ) (end : EndData) → (after : Part) → after.lane.running ≡ None
+      → Behind ended after (lines ++ outcome_line lost_so p.lane number end ∷ [])
+  ends_so ended lane card messages replies lines came lost_so number end after rests = record {
     own = λ name. losses-append name before lines line ∙ same name (bytes_eq p.card.name name) (came.own name);
     others = λ k other. joined k ∙ came.others k other;
     card_is = λ others runs. cc;
   }
     where
       line : List Line
-      line = end_line p.lane number end ∷ []
+      line = outcome_line lost_so p.lane number end ∷ []
 
       quiet : AreQuiet line
-      quiet = refl
+      quiet = quiet_end lost_so p.lane number end
 
       joined : (k : ℕ) → card_told k (before ++ (lines ++ line)) ≡ card_told k (before ++ lines)
       joined k = ap (card_told k) (sym (append_assoc before lines line)) ∙ quiet_card k (before ++ lines) line quiet
@@ -209,33 +206,75 @@ module _ (p : Payment) (part : Part) (before : List Line) (known : (replies : Li
       same name false is =
           let none : losses_behind name (before ++ lines) line ≡ 0 = quiet_losses name (before ++ lines) line quiet in omega (arith, is, none)
 
+module _ (p : Payment) (part : Part) (before : List Line) (known : (replies : List Reply) → part.lane.running ≡ Some replies → card_told p.lane before ≡ p.card.name) where
+  quiet_came : (lane : LaneRow) (replies others : List Reply) → part.lane.running ≡ Some others → (card : CardRow) (messages : List (List ℕ)) (lines : List Line)
+      → AreQuiet lines → Came p before lane replies card messages lines
+  quiet_came lane replies others runs card messages lines quiet = record {
+    own = none_own p before lines quiet;
+    others = λ k other. quiet_card k before lines quiet;
+    card_is = quiet_card p.lane before lines quiet ∙ known others runs;
+  }
+
+  cut_own : (command : List ℕ) → (others : List Reply) → part.lane.running ≡ Some others → Own p before (torn_lines p.lane command)
+  unfolding losses_behind
+  cut_own command others runs name =
+      let asks : Line = ToCard p.lane (record { items = command }) in
+      let here : card_told p.lane (before ++ asks ∷ []) ≡ p.card.name = card-push p.lane before asks ∙ known others runs in
+      ap (λ (card : List ℕ). 0 + ((if bytes_eq card name then 1 else 0) + 0)) here ∙ by (bytes_eq p.card.name name)
+    where
+      by : (b : Bool) → 0 + ((if b then 1 else 0) + 0) ≡ (if b then 1 else 0)
+      by true = refl
+      by false = refl
+
   host_quiet : (message : List ℕ) (reply : Option (List ℕ)) → AreQuiet (host_lines p.iso p.lane message reply)
   host_quiet message None = refl
   host_quiet message (Some reply) = refl
 
-  tells_lost : Tells p part Came Behind
+  tells_lost : Tells p part (Came p before) (Behind p before (length part.lane.ended))
   tells_lost = record {
     still = record {
-      own = none_own [] refl;
+      own = none_own p before [] refl;
       others = λ k other. quiet_card k before [] refl;
       card_is = λ replies runs. (quiet_card p.lane before [] refl ∙ known replies runs, refl);
     };
     goes = λ lane later replies card messages lines came.
         record { own = came.own; others = came.others; card_is = λ others runs. (came.card_is, ap (λ (pasts : List Past). length pasts) (later_ended part.lane lane later)) };
-    ends = λ lane later replies card messages lines came end is. ends_so lane card messages replies lines came (length lane.ended + 1) end _ refl;
-    powers = λ rests free apps choice. power_came _ [] _ part.messages _ (record { named = λ k name. refl; own = λ name ls. no_loss (bytes_eq p.card.name name) });
-    power_cut = λ rests free apps is. power_came part.lane _ (lost part.card) part.messages _ (record { named = λ k name. refl; own = λ name ls. refl });
+    ends = λ lane later replies card messages lines came end is. ends_so p before (length part.lane.ended) lane card messages replies lines came (loses p lane.store end.capture) (length lane.ended + 1) end _ refl;
+    powers = λ rests free apps choice. power_came p before _ [] _ part.messages _ (record { named = λ k name. refl; own = λ name ls. no_loss p before (bytes_eq p.card.name name) });
+    power_cut = λ rests free apps is. power_came p before part.lane _ (lost part.card) part.messages _ (record { named = λ k name. refl; own = λ name ls. refl });
     powers_canned = λ rests free answers canned.
-        power_came _ [] _ part.messages _ (record { named = λ k name. refl; own = λ name ls. no_loss (bytes_eq p.card.name name) });
+        power_came p before _ [] _ part.messages _ (record { named = λ k name. refl; own = λ name ls. no_loss p before (bytes_eq p.card.name name) });
     answers = λ replies runs apps command asks. quiet_came part.lane _ replies runs _ part.messages _ refl;
     cuts = λ replies runs command cut at. record {
       own = cut_own command replies runs;
-      others = λ k other. cut_card k command;
-      card_is = cut_card p.lane command ∙ known replies runs;
+      others = λ k other. cut_card p before k command;
+      card_is = cut_card p before p.lane command ∙ known replies runs;
     };
     tells = λ replies runs answers canned command answer. quiet_came part.lane _ replies runs _ part.messages _ refl;
     gone = λ replies runs answers canned command. quiet_came part.lane _ replies runs part.card part.messages _ refl;
     hosts = λ replies runs message asks reply is. quiet_came _ _ replies runs part.card _ _ (host_quiet message reply);
+  }
+
+module _ (p : Payment) (part : Part) (before : List Line) (known : (replies : List Reply) → part.lane.running ≡ Some replies → card_told p.lane before ≡ p.card.name) where
+  -- while no purchase runs, and none begins
+  rests_so : (after : Part) (lines : List Line) → after.lane.running ≡ None → AreQuiet lines → Behind p before (length part.lane.ended) after lines
+  rests_so after lines rests quiet = record {
+    own = none_own p before lines quiet;
+    others = λ k other. quiet_card k before lines quiet;
+    card_is = λ replies runs. (let none : None ≡ Some replies = sym rests ∙ runs in cc);
+  }
+
+  store_lost : StoreTells p part (Came p before) (Behind p before (length part.lane.ended))
+  store_lost = record {
+    own = tells_lost p part before known;
+    again = λ one at off. tells_lost p (part_with (opened_to_add part.lane.store one) part) before known;
+    opened = λ one at off. rests_so (part_with (opened_to_add part.lane.store one) part) [] at.rests refl;
+    lost = λ at cut. rests_so (record part { lane = lane_lost part.lane }) _ at.rests refl;
+    sent = λ at message. rests_so (copied p message part) _ at.rests (quiet_copies p message part.messages p.copies);
+    sent_lost = λ at message cut.
+        rests_so (record (copied p message part) { lane = lane_lost (lane_copied p message part.lane) }) _ at.rests
+        (quiet-append (copy_lines p message part.messages p.copies) (EndLost p.lane (length part.lane.ended + 1) ∷ [])
+        (quiet_copies p message part.messages p.copies) refl);
   }
 
 -- each card and each running lane as the lines tell
@@ -244,7 +283,7 @@ pub record IsLost (s : ScenarioData) (w : World) (lines : List Line) : Type 0 wh
   pub card : (l : ℕ) (replies : List Reply) (p : Payment) → (lane_at w l).running ≡ Some replies → next_of s w l ≡ Some p → card_told l lines ≡ p.card.name
   pub losses : HasLosses s lines w
 
-names_differ : (cards : List CardData) → AllPairs (λ a b. a.name ≢ b.name) cards → (i j : ℕ) (a b : CardData) → slice_get cards i ≡ Some a → slice_get cards j ≡ Some b → i ≢ j
+pub names_differ : (cards : List CardData) → AllPairs (λ a b. a.name ≢ b.name) cards → (i j : ℕ) (a b : CardData) → slice_get cards i ≡ Some a → slice_get cards j ≡ Some b → i ≢ j
     → bytes_eq a.name b.name ≡ false
 names_differ cards differ i j a b here there other = by_test (bytes_eq a.name b.name) refl
   where
@@ -282,7 +321,7 @@ module _ (s : ScenarioData) (fits : IsScenario s) where
 
     turn_lost : (l : ℕ) (o : Option Payment) → next_of s w l ≡ o → IsSound s (turned_by w l choices o).world
         → IsLost s (turned_by w l choices o).world (lines ++ (turned_by w l choices o).lines)
-    turn_lost l None is sound = calm w [] sound (settle_like s w None) (λ i. refl) refl
+    turn_lost l None is sound = calm w [] sound (settle_like s w choices None) (λ i. refl) refl
     turn_lost l (Some p) is sound = record {
       sound = sound;
       card = λ k replies q runs next. by_lane k replies q runs next (cases_eq k l);
@@ -293,7 +332,7 @@ module _ (s : ScenarioData) (fits : IsScenario s) where
         part = part_of w l p.planned.card
 
         m : Moved
-        m = piece p part (choice_in choices 0)
+        m = lane_piece p part (choice_in choices 0) (choice_in choices 1)
 
         lane : p.lane ≡ l
         lane = (payment_facts s l (length (lane_at w l).ended) p is).lane
@@ -301,8 +340,9 @@ module _ (s : ScenarioData) (fits : IsScenario s) where
         known : (replies : List Reply) → part.lane.running ≡ Some replies → card_told p.lane lines ≡ p.card.name
         known replies runs = ap (λ k. card_told k lines) lane ∙ is_lost.card l replies p runs is
 
-        behind : Behind p part lines known m.part m.lines
-        behind = piece_tells p part (Came p part lines known) (Behind p part lines known) (tells_lost p part lines known) (choice_in choices 0)
+        behind : Behind p lines (length part.lane.ended) m.part m.lines
+        behind =
+            lane_tells p part (Came p lines) (Behind p lines (length part.lane.ended)) (store_lost p part lines known) (choice_in choices 0) (choice_in choices 1)
 
         by_lane : (k : ℕ) (replies : List Reply) (q : Payment) → (lane_at (turned_by w l choices (Some p)).world k).running ≡ Some replies
             → next_of s (turned_by w l choices (Some p)).world k ≡ Some q → (k ≡ l) ⊎ (k ≢ l) → card_told k (lines ++ m.lines) ≡ q.card.name
@@ -327,7 +367,7 @@ module _ (s : ScenarioData) (fits : IsScenario s) where
         by_card i card there (inl this) =
             let same : card ≡ p.card = same_Some card p.card (sym there ∙ ap (λ j. slice_get s.cards j) this ∙ there_is) in
             let row : card_at (turned_by w l choices (Some p)).world i ≡ m.part.card = ap (λ j. card_at (turned_by w l choices (Some p)).world j) this ∙ card_behind s w l p is_lost.sound is m in
-            let grown : m.part.card.losses ≡ (card_at w p.planned.card).losses + count_by is_torn m.lines = piece_told p part (choice_in choices 0) in
+            let grown : m.part.card.losses ≡ (card_at w p.planned.card).losses + count_by is_torn m.lines = lane_told p part (choice_in choices 0) (choice_in choices 1) in
             let were : (card_at w p.planned.card).losses ≡ losses_told p.card.name lines = is_lost.losses p.planned.card p.card there_is in
             let own : losses_behind p.card.name lines m.lines ≡ count_by is_torn m.lines =
             behind.own p.card.name ∙ ap (λ b. if b then count_by is_torn m.lines else 0) ((bytes_eq-Decides p.card.name p.card.name).1 refl) in
@@ -343,9 +383,13 @@ module _ (s : ScenarioData) (fits : IsScenario s) where
             let joined : losses_told card.name (lines ++ m.lines) ≡ losses_told card.name lines + losses_behind card.name lines m.lines = losses-append card.name [] lines m.lines in
             ap (λ (x : CardRow). x.losses) row ∙ is_lost.losses i card there ∙ (omega (arith, none, joined))
 
-    settle_lost : (o : Option Settlement) → IsSound s (settles s w o).world → IsLost s (settles s w o).world (lines ++ (settles s w o).lines)
-    settle_lost None sound = calm w [] sound (settle_like s w None) (λ i. refl) refl
-    settle_lost (Some at) sound = calm (settles s w (Some at)).world (settles s w (Some at)).lines sound (settle_like s w (Some at)) (λ i. refl) refl
+    settle_lost : (o : Option Settlement) → IsSound s (settles s w choices o).world → IsLost s (settles s w choices o).world (lines ++ (settles s w choices o).lines)
+    settle_lost None sound = calm w [] sound (settle_like s w choices None) (λ i. refl) refl
+    settle_lost (Some (Opens l)) sound =
+        calm (settles s w choices (Some (Opens l))).world [] sound (settle_like s w choices (Some (Opens l))) (λ i. refl) refl
+    settle_lost (Some (Sends l message drops)) sound =
+        calm (settles s w choices (Some (Sends l message drops))).world (settles s w choices (Some (Sends l message drops))).lines sound
+        (settle_like s w choices (Some (Sends l message drops))) (λ i. refl) refl
 
     -- a card that is changed, but for its losses
     kept_losses : (j : ℕ) (card : CardRow) → card.losses ≡ (card_at w j).losses → (i : ℕ) → (card_at (with_card w j card) i).losses ≡ (card_at w i).losses
@@ -376,15 +420,6 @@ pub losses_are_told : RunsTellLosses
 losses_are_told s place n choices lines w fits reached = (reached_lines s (IsLost s) (lost_first s fits) (lost_next s fits) place n choices lines w reached).losses
 
 -- the lines at the end tell none
-quiet-append : (xs ys : List Line) → AreQuiet xs → AreQuiet ys → AreQuiet (xs ++ ys)
-quiet-append [] ys first second = second
-quiet-append (x ∷ xs) ys first second = by (tells_power x) first (λ none. quiet-append xs ys none second)
-  where
-    by : (b : Bool) → (b || list_any tells_power xs) ≡ false → (list_any tells_power xs ≡ false → list_any tells_power (xs ++ ys) ≡ false)
-        → (b || list_any tells_power (xs ++ ys)) ≡ false
-    by true none more = none
-    by false none more = more none
-
 quiet_balance : (pan : List ℕ) (o : Option ℤ) → AreQuiet (balance_line pan o)
 quiet_balance pan None = refl
 quiet_balance pan (Some amount) = refl

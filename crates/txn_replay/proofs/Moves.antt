@@ -1,6 +1,7 @@
 -- What one exchange of a lane makes of the lane and of its card: who runs, and who has the card.
-use Rattle.std.proofs.Common.{◌≡◌, ℕ, Bool, true, false, List, [], ◌∷◌, ◌++◌, length, slice_get, Option, Some, None, refl, sym, ◌∙◌}
+use Rattle.std.proofs.Common.{◌≡◌, ℕ, Bool, true, false, List, [], ◌∷◌, ◌++◌, length, slice_get, Option, Some, None, refl, sym, ap, ◌∙◌}
 use Rattle.std.proofs.lemmas.Option.{same_Some}
+use Rattle.capture_store.specs.StoreRow.{StoreRow, opened_to_add, is_cut}
 use Rattle.card_app.specs.Answering.{card_answer}
 use Rattle.card_pages.specs.Cuts.{Cut, cut_of}
 use Rattle.card_pages.specs.Pages.{found_of}
@@ -14,7 +15,9 @@ use Rattle.txn_replay.specs.Changes.{powered, exchanged, told_once, torn, lost}
 use Rattle.txn_replay.specs.Lines.{torn_lines, gone_lines, power_torn_line}
 use Rattle.txn_replay.specs.Part.{Part, settled_by, cut_ends, answered, canned_by, asked_by, asked, begun, begun_by, begun_with, piece_by, piece}
 use Rattle.txn_replay.specs.Payment.{Payment, deal_for, end_at}
+use Rattle.txn_replay.specs.Storing.{part_with, copied, copy_lines, dropped_by, delivers_first, lane_piece}
 use Rattle.txn_replay.specs.World.{Holder, CardRow, LaneRow, with_sent}
+use Rattle.txn_replay.proofs.Ways.{AtRest, IsOn, Goes, lane_ways}
 
 -- the purchase that goes on here
 abbrev pub this_one : Payment → Part → Holder
@@ -102,3 +105,41 @@ outcome p part choice has = by_lane part.lane.running refl
     by_lane (Some replies) is =
         after_ask p part (λ h other. same_Some h (this_one p part) (sym other ∙ has replies is)) replies (dialogue (deal_for p) replies).deed
         (has replies is)
+
+-- where no purchase runs and none has the card, and so it stays
+resting : (p : Payment) (part after : Part) → AtRest p part → after.lane.running ≡ part.lane.running → after.card ≡ part.card → Outcome p part after
+resting p part after at lane card = moves (record {
+  ran = λ replies is. (let no : None ≡ Some replies = sym at.rests ∙ sym lane ∙ is in cc);
+  held = λ h is. (let no : None ≡ Some h = sym at.free ∙ sym (ap (λ (row : CardRow). row.holder) card) ∙ is in cc);
+  was = λ h is. (let no : None ≡ Some h = sym at.free ∙ is in cc);
+})
+
+-- a store that is opened first makes no difference
+opened_first : (p : Payment) (part after : Part) (store : StoreRow) → AtRest p part → Outcome p (part_with store part) after → Outcome p part after
+opened_first p part after store at (kept same) =
+    resting p part after at (ap (λ (x : Part). x.lane.running) same) (ap (λ (x : Part). x.card) same)
+opened_first p part after store at (moves so) = moves (record { ran = so.ran; held = so.held; was = so.was })
+
+delivery_outcome : (p : Payment) (part : Part) → AtRest p part → (list : List (List ℕ)) → Outcome p part (delivers_first p part list).part
+delivery_outcome p part at [] = kept refl
+delivery_outcome p part at (message ∷ others) = by (is_cut p.planned.terminal_tear part.lane.store)
+  where
+    by : (cut : Bool) → Outcome p part (dropped_by p (copied p message part) (copy_lines p message part.messages p.copies) cut).part
+    by true = resting p part (dropped_by p (copied p message part) (copy_lines p message part.messages p.copies) true).part at refl refl
+    by false = resting p part (copied p message part) at refl refl
+
+-- so with its store
+pub lane_outcome : (p : Payment) (part : Part) (one other : Bool)
+    → ((replies : List Reply) → part.lane.running ≡ Some replies → part.card.holder ≡ Some (this_one p part))
+    → Outcome p part (lane_piece p part one other).part
+lane_outcome p part one other has =
+    lane_ways (λ m. Outcome p part m.part) p part
+    (kept refl)
+    (λ choice so. outcome p part choice has)
+    (λ at off cut. resting p part _ at refl refl)
+    (λ first at off full. resting p part (part_with (opened_to_add part.lane.store first) part) at refl refl)
+    (λ first second at off room.
+    opened_first p part (piece p (part_with (opened_to_add part.lane.store first) part) second).part (opened_to_add part.lane.store first) at
+    (outcome p (part_with (opened_to_add part.lane.store first) part) second has))
+    (λ at on. delivery_outcome p part at part.lane.store.list)
+    one other

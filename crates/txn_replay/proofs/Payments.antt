@@ -8,7 +8,7 @@ use Rattle.scenario.specs.Plan.{ScenarioData, IsScenario}
 use Rattle.scenario_lanes.specs.Plan.{LaneData, HasCards, purchase_count}
 use Rattle.scenario_lanes.specs.declared.plan.Planned.{Planned}
 use Rattle.txn_replay.specs.Bounds.{purchases_in}
-use Rattle.txn_replay.specs.Payment.{Payment, payment_with, payment_of, payment_on, payment_in, is_iso, dialect_of}
+use Rattle.txn_replay.specs.Payment.{Payment, payment_with, payment_of, payment_on, payment_in, is_iso, dialect_of, is_durable, durable_of}
 
 pub payment_is : (s : ScenarioData) (l n : ℕ) (lane : LaneData) (planned : Planned) (card : CardData) → slice_get s.lanes l ≡ Some lane
     → slice_get lane.purchases n ≡ Some planned → slice_get s.cards planned.card ≡ Some card → payment_in s l n ≡ Some (payment_with s l lane planned card)
@@ -29,6 +29,8 @@ pub record IsPayment (s : ScenarioData) (l : ℕ) (p : Payment) : Type 0 where
   pub card : slice_get s.cards p.planned.card ≡ Some p.card
   pub lane : p.lane ≡ l
   pub iso : p.iso ≡ dialect_of s l
+  pub durable : p.durable ≡ durable_of s l
+  pub copies : p.copies ≡ s.copies
 
 pub payment_facts : (s : ScenarioData) (l n : ℕ) (p : Payment) → payment_in s l n ≡ Some p → IsPayment s l p
 unfolding payment_in
@@ -39,7 +41,7 @@ payment_facts s l n p is = by_lane (slice_get s.lanes l) refl is
     by_card lane planned None there at is = cc
     by_card lane planned (Some card) there at is =
         subst (λ (q : Payment). IsPayment s l q) (same_Some (payment_with s l lane planned card) p is)
-        (record { inside = slice_get_within s.lanes l lane at; card = there; lane = refl; iso = ap is_iso (sym at) })
+        (record { inside = slice_get_within s.lanes l lane at; card = there; lane = refl; iso = ap is_iso (sym at); durable = ap is_durable (sym at); copies = refl })
 
     by_planned : (lane : LaneData) (o : Option Planned) → slice_get s.lanes l ≡ Some lane → option_and_then (payment_of s l lane) o ≡ Some p → IsPayment s l p
     by_planned lane None at is = cc

@@ -1,9 +1,10 @@
 -- Which part of an exchange a lane's turn is.
-use Rattle.std.proofs.Common.{◌≡◌, ℕ, Bool, true, false, ◌&&◌, List, [], ◌∷◌, ◌++◌, length, map, slice_get, Option, Some, None, refl, sym, ap, ◌∙◌, subst}
+use Rattle.std.proofs.Common.{◌≡◌, ℕ, Bool, true, false, ◌&&◌, List, [], ◌∷◌, ◌++◌, map, slice_get, Option, Some, None, refl, sym, ap, ◌∙◌, subst}
 use Rattle.std.specs.Global.{Box}
 use Rattle.std.specs.Bool.{⊤}
 use Rattle.std.specs.Prelude.{is_none, option_map}
 use Rattle.arrayvec.specs.declared.array_vec.ArrayVec.{ArrayVec}
+use Rattle.capture_store.specs.SeenShelf.{ShelfSeen}
 use Rattle.card_app.specs.Answering.{card_answer}
 use Rattle.card_pages.specs.Cuts.{Cut, cut_of}
 use Rattle.card_pages.specs.Pages.{found_of}
@@ -109,6 +110,8 @@ keeps_same lane later row same keeps = record {
   amounts = keeps.amounts;
   captures = ap (λ (ms : List (ArrayVec ℕ 2048 ⊤)). map (λ m. m.items) ms) same.captures ∙ keeps.captures;
   messages = keeps.messages;
+  stored = keeps.stored;
+  found = same.found ∙ keeps.found;
   card = λ none. same.card ∙ keeps.card (sym same.running ∙ none);
   ending = same.ending ∙ keeps.ending;
 }
@@ -143,10 +146,11 @@ runs_by None p replies kernel is stands = cc
 runs_by (Some other) p None kernel is stands = absurd stands
 runs_by (Some other) p (Some replies) kernel is stands = (replies, refl)
 
-module _ (p : Payment) (lane later : Lane) (slot : SlotSeen) (part : Part) (stands : PartStands p lane slot part) (same : SameLane lane later) where
-  pub rests_from : lane.running ≡ None → (is_on slot ≡ true → ⊥) → PartRests p later slot part
+module _ (p : Payment) (lane later : Lane) (shelf : ShelfSeen) (slot : SlotSeen) (part : Part) (stands : PartStands p lane shelf slot part) (same : SameLane lane later) where
+  pub rests_from : lane.running ≡ None → (is_on slot ≡ true → ⊥) → PartRests p later shelf slot part
   rests_from none off = record {
     keeps = keeps_same lane later part.lane same stands.lane_is.keeps;
+    shelf_is = stands.shelf_is;
     rests = rests;
     free = place.0;
     off = place.1;
@@ -169,7 +173,7 @@ module _ (p : Payment) (lane later : Lane) (slot : SlotSeen) (part : Part) (stan
     pub replies : List Reply
     pub ran : part.lane.running ≡ Some replies
     pub told : RunStands lane.running p (Some replies)
-    pub runs : PartRuns p later slot replies part
+    pub runs : PartRuns p later shelf slot replies part
 
   pub runs_from : (kernel : Box KernelData) → lane.running ≡ Some kernel → Running
   runs_from kernel is = by told.0 told.1
@@ -194,9 +198,10 @@ module _ (p : Payment) (lane later : Lane) (slot : SlotSeen) (part : Part) (stan
             told = now;
             runs = record {
               lane_is = record {
-                keeps = record { ended = keeps.ended; log = keeps.log; amounts = keeps.amounts; captures = keeps.captures; messages = keeps.messages; card = keeps.card; ending = keeps.ending };
+                keeps = record { ended = keeps.ended; log = keeps.log; amounts = keeps.amounts; captures = keeps.captures; messages = keeps.messages; stored = keeps.stored; found = keeps.found; card = keeps.card; ending = keeps.ending };
                 running = subst (λ (k : Option (Box KernelData)). RunStands k p (Some replies)) (sym same.running) now;
               };
+              shelf_is = stands.shelf_is;
               holder = at.0;
               has = at.1;
               on = at.2;

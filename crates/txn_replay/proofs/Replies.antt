@@ -1,7 +1,8 @@
 -- An exchange with the host: the terminal goes on with the reply that comes back, or with silence.
-use Rattle.std.proofs.Common.{◌≡◌, ℕ, Bool, true, false, List, Option, Some, None, refl, ap, ◌∙◌}
+use Rattle.std.proofs.Common.{◌≡◌, ℕ, Bool, true, false, List, [], ◌∷◌, ◌++◌, Option, Some, None, refl, ap, ◌∙◌}
 use Rattle.std.specs.Prelude.{option_map}
 use Rattle.std.proofs.lemmas.Option.{same_Some}
+use Rattle.capture_store.specs.SeenShelf.{ShelfSeen}
 use Rattle.host_link.specs.Delivery.{reply_if}
 use Rattle.kernel.specs.Ended.{EndData}
 use Rattle.kernel.specs.Reply.{Reply}
@@ -12,6 +13,7 @@ use Rattle.txn_replay.specs.Slot.{SlotSeen}
 use Rattle.txn_replay.specs.Standing.{LaneStands, PartRuns}
 use Rattle.txn_replay.specs.World.{LaneRow, with_sent}
 use Rattle.txn_replay.specs.declared.lane.Lane.{Lane}
+use Rattle.txn_replay.proofs.Preparing.{shelf_with}
 
 -- the messages that it made aren't kept
 pub stands_sent : (p : Payment) (lane : Lane) (row : LaneRow) (message : List ℕ) (running : Option (List Reply))
@@ -23,17 +25,20 @@ stands_sent p lane row message running stands = record {
     amounts = stands.keeps.amounts;
     captures = stands.keeps.captures;
     messages = stands.keeps.messages;
+    stored = stands.keeps.stored;
+    found = stands.keeps.found;
     card = stands.keeps.card;
     ending = stands.keeps.ending;
   };
   running = stands.running;
 }
 
-pub heard_on : (p : Payment) (lane later : Lane) (slot : SlotSeen) (replies more : List Reply) (part : Part) (message : List ℕ)
-    → PartRuns p lane slot replies part → LaneStands later p (record (with_sent message part.lane) { running = Some more })
-    → PartRuns p later slot more (sending p message part)
-heard_on p lane later slot replies more part message runs stands = record {
+pub heard_on : (p : Payment) (lane later : Lane) (shelf : ShelfSeen) (slot : SlotSeen) (replies more : List Reply) (part : Part) (message : List ℕ)
+    → PartRuns p lane shelf slot replies part → LaneStands later p (record (with_sent message part.lane) { running = Some more })
+    → PartRuns p later shelf slot more (sending p message part)
+heard_on p lane later shelf slot replies more part message runs stands = record {
   lane_is = stands;
+  shelf_is = shelf_with shelf p part.lane part.lane.running part.lane.began (part.lane.sent ++ message ∷ []) runs.shelf_is;
   holder = runs.holder;
   has = runs.has;
   on = runs.on;

@@ -1,7 +1,8 @@
 -- A run with lanes in other dialects, event by event: the same world, and the lines of host and settlement spelled anew.
-use Rattle.std.proofs.Common.{◌≡◌, ℕ, zero, suc, ◌+◌, ◌<◌, Bool, true, false, ◌&&◌, List, [], ◌∷◌, ◌++◌, length, map, slice_get, Option, Some, None, option_map, refl, sym, ap, ◌∙◌, subst, arith}
+use Rattle.std.proofs.Common.{◌≡◌, ℕ, zero, suc, ◌+◌, ◌<◌, Bool, true, false, ◌&&◌, List, [], ◌∷◌, ◌++◌, length, map, replicate, slice_get, Option, Some, None, option_map, refl, sym, ap, ◌∙◌, subst, arith}
 use Rattle.std.specs.List.{flat_map}
 use Rattle.std.specs.Prelude.{is_none, option_and_then, ℤ}
+use Rattle.capture_store.specs.StoreRow.{opened_to_add, is_cut}
 use Rattle.card_app.specs.Answering.{card_answer}
 use Rattle.card_pages.specs.Cuts.{Cut, cut_of}
 use Rattle.card_pages.specs.Pages.{found_of}
@@ -15,18 +16,19 @@ use Rattle.kernel.specs.Dialogue.{dialogue}
 use Rattle.kernel.specs.Ended.{EndData}
 use Rattle.kernel.specs.Reply.{Reply, CardSaid, CardGone, from_host, Deed, ToCard, ToHost, Over}
 use Rattle.report_text.specs.declared.line.Line.{Line}
-use Rattle.report_text.specs.declared.line.Line.TheVariants.{Done}
+use Rattle.report_text.specs.declared.line.Line.TheVariants.{EndLost, Done}
 use Rattle.scenario.specs.Cards.{CardData}
 use Rattle.scenario.specs.Plan.{ScenarioData}
 use Rattle.scenario_lanes.specs.Plan.{LaneData}
 use Rattle.scenario_lanes.specs.declared.plan.Planned.{Planned}
 use Rattle.txn_replay.specs.Changes.{exchanged, told_once, torn, lost}
-use Rattle.txn_replay.specs.Lines.{power_line, power_canned_line, power_torn_line, answer_lines, torn_lines, gone_lines, host_lines, end_line}
-use Rattle.txn_replay.specs.Part.{Part, Moved, settled_by, sending, on_for, cut_ends, answered, canned_by, asked_by, asked, begun, begun_by, begun_with, piece_by, piece}
-use Rattle.txn_replay.specs.Payment.{Payment, payment_with, payment_of, payment_on, payment_in, is_iso, dialect_of, next_of, deal_for, end_at}
-use Rattle.txn_replay.specs.Respelled.{lanes_in, in_dialects, same, call, reply, settle_call, settle_reply, AreRespelled, DialectsShow, WholeDialectsShow}
+use Rattle.txn_replay.specs.Lines.{power_line, power_canned_line, power_torn_line, answer_lines, torn_lines, gone_lines, host_lines, outcome_line}
+use Rattle.txn_replay.specs.Part.{Part, Moved, loses, settled_by, sending, on_for, cut_ends, answered, canned_by, asked_by, asked, begun, begun_by, begun_with, piece_by, piece}
+use Rattle.txn_replay.specs.Payment.{Payment, payment_with, payment_of, payment_on, payment_in, is_iso, dialect_of, is_durable, durable_of, next_of, deal_for, end_at}
+use Rattle.txn_replay.specs.Respelled.{lanes_in, in_dialects, Respelled, same, call, reply, settle_call, settle_reply, AreRespelled, DialectsShow, WholeDialectsShow}
 use Rattle.txn_replay.specs.Run.{Place, Scheduled, Round, Finished, Reached, start, scheduled, rounds, round, again, settlement, settling, audit, auditing, finished, lane_over, all_below, all_over, balance_line, account_lines, ended_count, closing}
-use Rattle.txn_replay.specs.Steps.{After, Settlement, Check, PowersUp, Asks, part_of, moved, choice_in, turned_by, settlements, settles, checks, audits, happens, Step}
+use Rattle.txn_replay.specs.Steps.{After, Settlement, Opens, Sends, lane_settlements, settlements_from, Check, PowersUp, Asks, part_of, moved, choice_in, turned_by, settlements, settles, checks, audits, happens, Step}
+use Rattle.txn_replay.specs.Storing.{part_with, copied, copy_lines, dropped_by, delivers_first, opened_for, opens_by, goes_through, stored_by, free_by, runs_by, before_by, behind, lane_piece}
 use Rattle.txn_replay.specs.World.{Holder, LaneRow, World, new_lane, first_world, lane_at}
 use Rattle.txn_replay.specs.declared.event.Event.{Event}
 use Rattle.txn_replay.specs.declared.event.Event.TheVariants.{Turn, Settle, Audit}
@@ -53,14 +55,21 @@ module _ (before after : ℕ → Bool) where
     abbrev two : Payment
     two = record p { iso = after p.lane }
 
+    -- an end line is no message
+    end_same : (lost_so : Bool) (number : ℕ) (end : EndData)
+        → Respelled before after (outcome_line lost_so p.lane number end) (outcome_line lost_so p.lane number end)
+    end_same true number end = same _ refl
+    end_same false number end = same _ refl
+
     settled_same : (replies : List Reply) (part : Part) (xs ys : List Line) (e : Option EndData) → AreRespelled before after xs ys
         → SameMoved (settled_by one replies part xs e) (settled_by two replies part ys e)
     settled_same replies part xs ys None lines = record { part = refl; choices = refl; lines = lines }
     settled_same replies part xs ys (Some end) lines = record {
       part = refl;
       choices = refl;
-      lines = respelled-append xs ys (end_line p.lane (length part.lane.ended + 1) end ∷ []) (end_line p.lane (length part.lane.ended + 1) end ∷ []) lines
-          (same (end_line p.lane (length part.lane.ended + 1) end) refl, tt);
+      lines = respelled-append xs ys (outcome_line (loses p part.lane.store end.capture) p.lane (length part.lane.ended + 1) end ∷ [])
+          (outcome_line (loses p part.lane.store end.capture) p.lane (length part.lane.ended + 1) end ∷ []) lines
+          (end_same (loses p part.lane.store end.capture) (length part.lane.ended + 1) end, tt);
     }
 
     cut_same : (replies : List Reply) (part cut : Part) (xs : List Line) (e : Option EndData) → AreRespelled before after xs xs
@@ -69,8 +78,9 @@ module _ (before after : ℕ → Bool) where
     cut_same replies part cut xs (Some end) lines = record {
       part = refl;
       choices = refl;
-      lines = respelled-append xs xs (end_line p.lane (length cut.lane.ended + 1) end ∷ []) (end_line p.lane (length cut.lane.ended + 1) end ∷ []) lines
-          (same (end_line p.lane (length cut.lane.ended + 1) end) refl, tt);
+      lines = respelled-append xs xs (outcome_line (loses p cut.lane.store end.capture) p.lane (length cut.lane.ended + 1) end ∷ [])
+          (outcome_line (loses p cut.lane.store end.capture) p.lane (length cut.lane.ended + 1) end ∷ []) lines
+          (end_same (loses p cut.lane.store end.capture) (length cut.lane.ended + 1) end, tt);
     }
 
     answered_same : (replies : List Reply) (command : List ℕ) (part : Part) (said : CardAnswer) (cut : Option Cut)
@@ -137,12 +147,71 @@ module _ (before after : ℕ → Bool) where
     holder_same part choice None = begun_same part choice p.card.canned
     holder_same part choice (Some holder) = record { part = refl; choices = refl; lines = tt }
 
-    lane_same : (part : Part) (choice : Bool) (o : Option (List Reply)) → SameMoved (piece_by one part choice o) (piece_by two part choice o)
-    lane_same part choice None = holder_same part choice part.card.holder
-    lane_same part choice (Some replies) = asked_same replies part (dialogue (deal_for p) replies).deed
+    running_same : (part : Part) (choice : Bool) (o : Option (List Reply)) → SameMoved (piece_by one part choice o) (piece_by two part choice o)
+    running_same part choice None = holder_same part choice part.card.holder
+    running_same part choice (Some replies) = asked_same replies part (dialogue (deal_for p) replies).deed
 
     piece_same : (part : Part) (choice : Bool) → SameMoved (piece one part choice) (piece two part choice)
-    piece_same part choice = lane_same part choice part.lane.running
+    piece_same part choice = running_same part choice part.lane.running
+
+    -- what comes before a purchase, and the exchange with it
+    copies_same : (message : List ℕ) (messages : List (List ℕ)) (n : ℕ)
+        → AreRespelled before after (copy_lines one message messages n) (copy_lines two message messages n)
+    copies_same message messages zero = tt
+    copies_same message messages (suc n) =
+        respelled-append (copy_lines one message messages n) (copy_lines two message messages n) _ _ (copies_same message messages n)
+        (settle_call p.lane message, (settle_reply p.lane message (host_reply p.issuer p.accounts (messages ++ replicate n message) message), tt))
+
+    dropped_same : (part : Part) (message : List ℕ) (cut : Bool)
+        → SameMoved (dropped_by one (copied one message part) (copy_lines one message part.messages p.copies) cut)
+        (dropped_by two (copied two message part) (copy_lines two message part.messages p.copies) cut)
+    dropped_same part message true = record {
+      part = refl;
+      choices = refl;
+      lines = respelled-append (copy_lines one message part.messages p.copies) (copy_lines two message part.messages p.copies)
+          (EndLost p.lane (length part.lane.ended + 1) ∷ []) (EndLost p.lane (length part.lane.ended + 1) ∷ []) (copies_same message part.messages p.copies)
+          (same _ refl, tt);
+    }
+    dropped_same part message false = record { part = refl; choices = refl; lines = copies_same message part.messages p.copies }
+
+    delivered_same : (part : Part) (list : List (List ℕ)) → SameMoved (delivers_first one part list) (delivers_first two part list)
+    delivered_same part [] = record { part = refl; choices = refl; lines = tt }
+    delivered_same part (message ∷ others) = dropped_same part message (is_cut p.planned.terminal_tear part.lane.store)
+
+    lane_same : (part : Part) (first second : Bool) → SameMoved (lane_piece one part first second) (lane_piece two part first second)
+    lane_same part first second = by_durable p.durable
+      where
+        by_due : (due : Bool) → SameMoved (behind one first second (goes_through one part due)) (behind two first second (goes_through two part due))
+        by_due true = delivered_same part part.lane.store.list
+        by_due false = piece_same part first
+
+        by_full : (full : Bool) → SameMoved (behind one first second (opened_for (part_with (opened_to_add part.lane.store first) part) full))
+            (behind two first second (opened_for (part_with (opened_to_add part.lane.store first) part) full))
+        by_full true = record { part = refl; choices = refl; lines = tt }
+        by_full false =
+            let both = piece_same (part_with (opened_to_add part.lane.store first) part) second in
+            record { part = both.part; choices = ap (λ n. n + 1) both.choices; lines = both.lines }
+
+        by_cut : (cut : Bool) → SameMoved (behind one first second (opens_by one part first cut)) (behind two first second (opens_by two part first cut))
+        by_cut true = record { part = refl; choices = refl; lines = (same _ refl, tt) }
+        by_cut false = by_full (opened_to_add part.lane.store first).due
+
+        by_store : (o : Option ℕ) → SameMoved (behind one first second (stored_by one part first o)) (behind two first second (stored_by two part first o))
+        by_store None = by_cut (is_named p.planned.terminal_tear 0)
+        by_store (Some made) = by_due part.lane.store.due
+
+        by_holder : (o : Option Holder) → SameMoved (behind one first second (free_by one part first o)) (behind two first second (free_by two part first o))
+        by_holder None = by_store part.lane.store.commits
+        by_holder (Some holder) = record { part = refl; choices = refl; lines = tt }
+
+        by_running : (o : Option (List Reply)) → SameMoved (behind one first second (runs_by one part first o)) (behind two first second (runs_by two part first o))
+        by_running None = by_holder part.card.holder
+        by_running (Some replies) = piece_same part first
+
+        by_durable : (durable : Bool)
+            → SameMoved (behind one first second (before_by one part first durable)) (behind two first second (before_by two part first durable))
+        by_durable false = piece_same part first
+        by_durable true = by_running part.lane.running
 
 module _ (s : ScenarioData) (iso : ℕ → Bool) where
   abbrev other : ScenarioData
@@ -228,26 +297,46 @@ module _ (s : ScenarioData) (iso : ℕ → Bool) where
       by None is = record { world = refl; choices = refl; lines = tt }
       by (Some p) is =
           let part : Part = part_of w l p.planned.card in
-          let m : Moved = piece p part (choice_in choices 0) in
-          let n : Moved = piece (with_iso (after l) p) part (choice_in choices 0) in
+          let m : Moved = lane_piece p part (choice_in choices 0) (choice_in choices 1) in
+          let n : Moved = lane_piece (with_iso (after l) p) part (choice_in choices 0) (choice_in choices 1) in
           let lane : p.lane ≡ l = (payment_facts s l _ p is).lane in
           let own : before p.lane ≡ p.iso = ap before lane ∙ sym (payment_facts s l _ p is).iso in
           let both : SameMoved before after m n =
-          subst (λ b. SameMoved before after m (piece (with_iso b p) part (choice_in choices 0))) (ap after lane)
-          (subst (λ b. SameMoved before after (piece (with_iso b p) part (choice_in choices 0)) (piece (with_iso (after p.lane) p) part (choice_in choices 0))) own
-          (piece_same before after p part (choice_in choices 0))) in
+          subst (λ b. SameMoved before after m (lane_piece (with_iso b p) part (choice_in choices 0) (choice_in choices 1))) (ap after lane)
+          (subst (λ b. SameMoved before after (lane_piece (with_iso b p) part (choice_in choices 0) (choice_in choices 1))
+          (lane_piece (with_iso (after p.lane) p) part (choice_in choices 0) (choice_in choices 1))) own
+          (lane_same before after p part (choice_in choices 0) (choice_in choices 1))) in
           record {
             world = ap (λ (x : Part). (moved w l p.planned.card (record { part = x; lines = []; choices = 0 })).world) both.part;
             choices = both.choices;
             lines = both.lines;
           }
 
-  settle_same : (w : World) (o : Option Settlement) → SameAfter (settles s w o) (settles other w o)
-  settle_same w None = record { world = refl; choices = refl; lines = tt }
-  settle_same w (Some at) = record {
+  -- the settlement
+  durable_same : (l : ℕ) → durable_of other l ≡ durable_of s l
+  durable_same l = ap is_durable (lane_there 0 s.lanes l) ∙ by (slice_get s.lanes l)
+    where
+      by : (o : Option LaneData) → is_durable (option_map (λ (lane : LaneData). record lane { iso = iso (0 + l) }) o) ≡ is_durable o
+      by None = refl
+      by (Some lane) = refl
+
+  steps_same : (l : ℕ) (rows : List LaneRow) → settlements_from other l rows ≡ settlements_from s l rows
+  unfolding settlements_from
+  steps_same l [] = refl
+  steps_same l (row ∷ rows) =
+      ap (λ b. lane_settlements s.copies l row b ++ settlements_from other (l + 1) rows) (durable_same l)
+      ∙ ap (λ xs. lane_settlements s.copies l row (durable_of s l) ++ xs) (steps_same (l + 1) rows)
+
+  settlements_same : (w : World) (k : ℕ) → slice_get (settlements other w) k ≡ slice_get (settlements s w) k
+  settlements_same w k = ap (λ (xs : List Settlement). slice_get xs k) (steps_same 0 w.lanes)
+
+  settle_same : (w : World) (choices : List Bool) (o : Option Settlement) → SameAfter (settles s w choices o) (settles other w choices o)
+  settle_same w choices None = record { world = refl; choices = refl; lines = tt }
+  settle_same w choices (Some (Opens l)) = record { world = refl; choices = refl; lines = tt }
+  settle_same w choices (Some (Sends l message drops)) = record {
     world = refl;
     choices = refl;
-    lines = (settle_call at.lane at.message, (settle_reply at.lane at.message (host_reply s.issuer s.accounts w.messages at.message), tt));
+    lines = (settle_call l message, (settle_reply l message (host_reply s.issuer s.accounts w.messages message), tt));
   }
 
   audit_same : (w : World) (choices : List Bool) (o : Option Check) → SameAfter (audits w choices o) (audits w choices o)
@@ -257,7 +346,9 @@ module _ (s : ScenarioData) (iso : ℕ → Bool) where
 
   event_same : (w : World) (e : Event) (choices : List Bool) → SameAfter (happens s w e choices) (happens other w e choices)
   event_same w (Turn l) choices = turn_same w l choices
-  event_same w (Settle k) choices = settle_same w (slice_get (settlements s w) k)
+  event_same w (Settle k) choices =
+      subst (λ (o : Option Settlement). SameAfter (settles s w choices (slice_get (settlements s w) k)) (settles other w choices o)) (sym (settlements_same w k))
+      (settle_same w choices (slice_get (settlements s w) k))
   event_same w (Audit k) choices = audit_same w choices (slice_get (checks s) k)
 
   -- and so each run
@@ -303,8 +394,8 @@ module _ (s : ScenarioData) (iso : ℕ → Bool) where
   other_run _ _ _ _ _ (settlement {n} {cs} {ls} {w = v} before_it over) =
       stands_at _ _ n cs ls v (other_run _ n cs ls v before_it) (λ others far. settlement far (all_same v ∙ over))
   other_run _ _ _ _ _ (settling {k} {n} {cs} {c} {ls} {new} {w = v} {w' = v'} before_it at step) =
-      goes _ _ n cs c ls new v v' (Settle k) (other_run _ n cs ls v before_it) step (λ others made far next. settling far at next)
-  other_run _ _ _ _ _ (audit {k} {n} {cs} {ls} {w = v} before_it past) = stands_at _ _ n cs ls v (other_run _ n cs ls v before_it) (λ others far. audit far past)
+      goes _ _ n cs c ls new v v' (Settle k) (other_run _ n cs ls v before_it) step (λ others made far next. settling far (settlements_same v k ∙ at) next)
+  other_run _ _ _ _ _ (audit {k} {n} {cs} {ls} {w = v} before_it past) = stands_at _ _ n cs ls v (other_run _ n cs ls v before_it) (λ others far. audit far (settlements_same v k ∙ past))
   other_run _ _ _ _ _ (auditing {k} {n} {cs} {c} {ls} {new} {w = v} {w' = v'} before_it at step) =
       goes _ _ n cs c ls new v v' (Audit k) (other_run _ n cs ls v before_it) step (λ others made far next. auditing far at next)
   other_run _ _ _ _ _ (finished {k} {n} {cs} {ls} {w = v} before_it past) =

@@ -71,8 +71,8 @@ settled memory card row apps closed are =
 
 pub pages_tell : PagesTellTotals
 pages_tell s w v bank stands other i card there apps closed shut =
-    let one = stands i card there in
-    let two = other i card there in
+    let one = stands.cards i card there in
+    let two = other.cards i card there in
     let same : two.0 ≡ one.0 = same_Some two.0 one.0 (sym two.1 ∙ one.1) in
     one_total one.0.cells card.image.version (opening_of card.image) (card_at w i).kept (card_at v i).kept
     (settled one.0 card (card_at w i) apps closed one.2)

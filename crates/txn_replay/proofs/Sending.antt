@@ -1,14 +1,15 @@
 -- What a purchase makes of its lane beside going on and ending: it begins, and makes messages for the host; and lanes that
--- differ at most in those messages, as settlement leaves them.
-use Rattle.std.proofs.Common.{◌≡◌, ℕ, zero, suc, Bool, ◌&&◌, List, [], length, Option, Some, None, refl, ap, ◌∙◌}
+-- differ at most in those messages and in their stores, as settlement leaves them.
+use Rattle.std.proofs.Common.{◌≡◌, ℕ, zero, suc, Bool, ◌&&◌, List, [], ◌∷◌, ◌++◌, length, set, Option, Some, None, refl, ap, ◌∙◌}
 use Rattle.std.specs.Prelude.{is_none}
 use Rattle.std.proofs.lemmas.List.{length-set}
+use Rattle.capture_store.specs.StoreRow.{new_store, opened_to_settle}
 use Rattle.card_state.specs.Decisions.{Decided}
 use Rattle.scenario.specs.Plan.{ScenarioData}
 use Rattle.txn_replay.specs.Payment.{payment_in}
 use Rattle.txn_replay.specs.Run.{lane_over, all_below, all_over}
-use Rattle.txn_replay.specs.Steps.{Settlement, Check, PowersUp, Asks, settles, audits}
-use Rattle.txn_replay.specs.World.{LaneRow, World, new_lane, lane_at, with_sent}
+use Rattle.txn_replay.specs.Steps.{Settlement, Opens, Sends, Check, PowersUp, Asks, lane_settled, choice_in, settles, audits}
+use Rattle.txn_replay.specs.World.{LaneRow, World, new_lane, lane_at, with_sent, with_store}
 use Rattle.txn_replay.proofs.Lists.{at_set}
 
 -- a lane as it is, whose purchase begins, or with a message made for the host
@@ -22,23 +23,29 @@ later_ended before _ as_is = refl
 later_ended before _ (beginning found) = refl
 later_ended before _ (messaging message) = refl
 
--- a lane but for the messages that it made for the host
+-- a lane but for the messages that it made for the host and for its store
 abbrev pub unsent : LaneRow → LaneRow
-unsent lane = record lane { sent = [] }
+unsent lane = record lane { sent = []; store = new_store }
 
 -- two worlds whose lanes are equal but for these
 pub record LanesLike (v w : World) : Type 0 where
   pub count : length v.lanes ≡ length w.lanes
   pub each : (l : ℕ) → unsent (lane_at v l) ≡ unsent (lane_at w l)
 
-pub settle_like : (s : ScenarioData) (w : World) (o : Option Settlement) → LanesLike (settles s w o).world w
-settle_like s w None = record { count = refl; each = λ l. refl }
-settle_like s w (Some at) = record {
-  count = length-set w.lanes at.lane (with_sent at.message (lane_at w at.lane));
-  each = λ l.
-      at_set (λ (k : ℕ) (row : LaneRow). unsent row ≡ unsent (lane_at w k)) w.lanes at.lane (with_sent at.message (lane_at w at.lane)) new_lane refl
-      (λ k. refl) l;
+-- where one lane is such a one
+set_like : (w : World) (l : ℕ) (row : LaneRow) (messages : List (List ℕ)) → unsent row ≡ unsent (lane_at w l)
+    → LanesLike (record { cards = w.cards; lanes = set w.lanes l row; messages = messages }) w
+set_like w l row messages like = record {
+  count = length-set w.lanes l row;
+  each = λ m. at_set (λ (k : ℕ) (other : LaneRow). unsent other ≡ unsent (lane_at w k)) w.lanes l row new_lane like (λ k. refl) m;
 }
+
+pub settle_like : (s : ScenarioData) (w : World) (choices : List Bool) (o : Option Settlement) → LanesLike (settles s w choices o).world w
+settle_like s w choices None = record { count = refl; each = λ l. refl }
+settle_like s w choices (Some (Opens l)) =
+    set_like w l (with_store (opened_to_settle (lane_at w l).store (choice_in choices 0)) (lane_at w l)) w.messages refl
+settle_like s w choices (Some (Sends l message drops)) =
+    set_like w l (lane_settled message drops (lane_at w l)) (w.messages ++ message ∷ []) refl
 
 pub audit_like : (w : World) (choices : List Bool) (o : Option Check) → LanesLike (audits w choices o).world w
 audit_like w choices None = record { count = refl; each = λ l. refl }

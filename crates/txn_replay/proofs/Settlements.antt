@@ -1,173 +1,461 @@
--- A value and its world behind a message of the settlement.
-use Rattle.std.proofs.Common.{◌≡◌, ℕ, suc, ◌+◌, ◌≤◌, ◌<◌, false, List, [], ◌∷◌, ◌++◌, length, map, replicate, get_or, slice_get, Option, Some, None, refl, sym, ap, ◌∙◌, subst, inl, inr, arith, append-nil}
-use Rattle.std.specs.List.{flat_map}
-use Rattle.std.specs.Prelude.{option_map}
-use Rattle.std.proofs.lemmas.List.{length-map}
+-- A value and its world behind a step of the settlement.
+use Rattle.std.proofs.Common.{◌≡◌, ℕ, zero, suc, ◌&&◌, ◌+◌, ◌-◌, ◌/◌, ◌≤◌, ◌<◌, Bool, true, false, List, [], ◌∷◌, ◌++◌, length, drop, get_or, set, slice_get, Option, Some, None, refl, sym, ap, ◌∙◌, subst, inl, inr, arith, append-nil}
+use Rattle.std.specs.Bool.{⊤}
 use Rattle.std.specs.List.{All}
-use Rattle.std.proofs.lemmas.Option.{same_Some, slice_get-map, slice_get_within, get_or_from_slice_get}
+use Rattle.std.specs.Prelude.{is_some, option_map, unwrap_or}
+use Rattle.std.specs.Vec.{vec_len}
+use Rattle.std.proofs.lemmas.Bool.{cases_eq}
+use Rattle.std.proofs.lemmas.List.{length-map}
+use Rattle.std.proofs.lemmas.List.Elements.{All-drop}
+use Rattle.std.proofs.lemmas.Option.{same_Some, slice_get_within, get_or_from_slice_get, slice_get-get_or}
+use Rattle.arrayvec.specs.declared.array_vec.ArrayVec.{ArrayVec}
 use Rattle.auth_message.specs.Whole.{IsMessage}
+use Rattle.capture_store.specs.Calls.{Call, found_by}
+use Rattle.capture_store.specs.SeenShelf.{ShelfSeen, ShelfOn, ShelfOff, losses_of}
+use Rattle.capture_store.specs.StoreRow.{StoreRow, opened_to_settle}
+use Rattle.emv_ports.specs.declared.tear.Tear.{Tear}
 use Rattle.issuer_host.specs.History.{HostData, HostStands, host_reply}
 use Rattle.report_text.specs.declared.line.Line.{Line}
 use Rattle.scenario.specs.Cards.{CardData}
 use Rattle.scenario.specs.Plan.{ScenarioData, IsScenario}
-use Rattle.txn_replay.specs.Lines.{settle_lines}
+use Rattle.scenario_lanes.specs.Plan.{LaneData}
 use Rattle.txn_replay.specs.Counting.{counts}
-use Rattle.txn_replay.specs.Payment.{Payment, payment_in, dialect_of}
-use Rattle.txn_replay.specs.Seen.{WorldSeen, SlotStands, RunFor, LaneAt, WorldStands, Goes, captured, settlement_by}
+use Rattle.txn_replay.specs.Lines.{settle_lines}
+use Rattle.txn_replay.specs.Payment.{Payment, payment_in, dialect_of, durable_of}
+use Rattle.txn_replay.specs.Run.{all_over}
+use Rattle.txn_replay.specs.Seen.{WorldSeen, SlotStands, terminal_plan, ShelfAt, RunFor, LaneAt, WorldStands, Goes, is_lane_done, done_below}
+use Rattle.txn_replay.specs.Settling.{AreRows}
 use Rattle.txn_replay.specs.Slot.{SlotSeen}
-use Rattle.txn_replay.specs.Steps.{After, Settlement, settlements_from, settlements, settles, nothing, happens}
-use Rattle.txn_replay.specs.World.{LaneRow, World, new_lane, card_at, lane_at, with_sent}
+use Rattle.txn_replay.specs.Standing.{LaneKeeps, LaneFits, StorePlace, StoreStands, ShelfFor}
+use Rattle.txn_replay.specs.Steps.{After, Settlement, Opens, Sends, choice_in, settlements, settled_store, lane_settled, settles, nothing, happens, Step}
+use Rattle.txn_replay.specs.Stored.{IsUnopened, IsThrough, IsSettledTo}
+use Rattle.txn_replay.specs.World.{LaneRow, World, new_lane, card_at, lane_at, with_store}
 use Rattle.txn_replay.specs.declared.event.Event.TheVariants.{Settle}
 use Rattle.txn_replay.specs.declared.lane.Lane.{Lane}
 use Rattle.txn_replay.proofs.Few.{like_few, few_of, settlements_few}
-use Rattle.txn_replay.proofs.Sending.{unsent, LanesLike, settle_like}
-use Rattle.txn_replay.proofs.Lists.{some_at}
-use Rattle.txn_replay.proofs.Settling.{settles_inside, settles_hold}
+use Rattle.txn_replay.proofs.Lists.{at_set, set_both, set_other, drop_at}
+use Rattle.txn_replay.proofs.OwnEvents.{step_apart}
+use Rattle.txn_replay.proofs.Payments.{some_of_all}
+use Rattle.txn_replay.proofs.Places.{OpensAt, StoreSends, SendsBy, before_lane, opens_at, sends_at}
+use Rattle.txn_replay.proofs.Sending.{LanesLike, settle_like}
+use Rattle.txn_replay.proofs.Settling.{IsOfStore, StepOf, durable_steps, lane_in, settles_inside, step_of}
 use Rattle.txn_replay.proofs.Sounding.{settled_sound}
+use Rattle.txn_replay.proofs.Storings.{keeps_with}
+use Rattle.txn_replay.proofs.Stores.{few_found, settle_stand}
 use Rattle.txn_replay.proofs.Tallies.{counts_with}
-use Rattle.txn_replay.proofs.Waiting.{stays_over}
+use Rattle.txn_replay.proofs.Waiting.{below_over, over_next, stays_over}
 
--- lanes that have captured the same
-same_from : (copies l : ℕ) (xs ys : List LaneRow) → length xs ≡ length ys
-    → ((k : ℕ) (x : LaneRow) → slice_get xs k ≡ Some x → x.captures ≡ (get_or ys k new_lane).captures)
-    → settlements_from copies l xs ≡ settlements_from copies l ys
-unfolding settlements_from
-same_from copies l [] [] count each = refl
-same_from copies l [] (y ∷ ys) count each = absurd (omega arith)
-same_from copies l (x ∷ xs) [] count each = absurd (omega arith)
-same_from copies l (x ∷ xs) (y ∷ ys) count each =
-    let one : x.captures ≡ y.captures = each 0 x refl in
-    let others : settlements_from copies (l + 1) xs ≡ settlements_from copies (l + 1) ys =
-    same_from copies (l + 1) xs ys (omega arith) (λ k other there. each (suc k) other there) in
-    (λ i. flat_map (λ message. replicate copies (record { lane = l; message = message })) (one i) ++ others i)
+-- a lane that keeps what it kept, with another store and other messages made for the host
+at_with : (s : ScenarioData) (l : ℕ) (lane : Lane) (row : LaneRow) (sent : List (List ℕ)) (store : StoreRow) → LaneAt s l lane row
+    → ((found : Bool) → All IsMessage (found_by store.list store.lost found)) → lane.found ≡ option_map length store.found
+    → LaneAt s l lane (record row { sent = sent; store = store })
+at_with s l lane row sent store at stored found = record {
+  keeps = keeps_with lane row sent store at.keeps stored found;
+  runs = runs_so (payment_in s l (length row.ended)) at.runs;
+}
+  where
+    runs_so : (o : Option Payment) → RunFor lane row o → RunFor lane (record row { sent = sent; store = store }) o
+    runs_so None run = run
+    runs_so (Some p) run = run
 
--- what a lane keeps tells nothing of the messages that it made
-at_sent : (s : ScenarioData) (l : ℕ) (lane : Lane) (row : LaneRow) (sent : List (List ℕ)) → LaneAt s l lane row → LaneAt s l lane (record row { sent = sent })
-at_sent s l lane row sent at = record {
+-- a lane that knows how many messages its opening has found
+at_found : (s : ScenarioData) (l : ℕ) (lane : Lane) (row : LaneRow) (found : Option ℕ) (store : StoreRow) → LaneAt s l lane row
+    → ((one : Bool) → All IsMessage (found_by store.list store.lost one)) → found ≡ option_map length store.found
+    → LaneAt s l (record lane { found = found }) (with_store store row)
+at_found s l lane row found store at stored is = record {
   keeps = record {
     ended = at.keeps.ended;
     log = at.keeps.log;
     amounts = at.keeps.amounts;
     captures = at.keeps.captures;
     messages = at.keeps.messages;
+    stored = stored;
+    found = is;
     card = at.keeps.card;
     ending = at.keeps.ending;
   };
   runs = runs_so (payment_in s l (length row.ended)) at.runs;
 }
   where
-    runs_so : (o : Option Payment) → RunFor lane row o → RunFor lane (record row { sent = sent }) o
+    runs_so : (o : Option Payment) → RunFor lane row o → RunFor (record lane { found = found }) (with_store store row) o
     runs_so None run = run
     runs_so (Some p) run = run
 
-at_like : (s : ScenarioData) (l : ℕ) (lane : Lane) (v w : LaneRow) → unsent v ≡ unsent w → LaneAt s l lane w → LaneAt s l lane v
-at_like s l lane v w like at =
-    at_sent s l lane (unsent v) v.sent (subst (λ (row : LaneRow). LaneAt s l lane row) (sym like) (at_sent s l lane w [] at))
-
-module _ (v : WorldSeen) (w : World) (stands : WorldStands v w) (count : length v.lanes ≡ length v.scenario.lanes) where
-  pub settlements_are : settlements_from v.scenario.copies 0 (map captured v.lanes) ≡ settlements v.scenario w
-  settlements_are =
-      same_from v.scenario.copies 0 (map captured v.lanes) w.lanes (length-map v.lanes captured ∙ count ∙ sym stands.sound.lane_count)
-      (λ k row there. by k row (slice_get v.lanes k) refl (sym (slice_get-map captured v.lanes k) ∙ there))
-    where
-      by : (k : ℕ) (row : LaneRow) (o : Option Lane) → slice_get v.lanes k ≡ o → option_map captured o ≡ Some row → row.captures ≡ (lane_at w k).captures
-      by k row None at is = cc
-      by k row (Some lane) at is =
-          ap (λ (r : LaneRow). r.captures) (sym (same_Some (captured lane) row is)) ∙ (stands.lanes k lane at).keeps.captures
+module _ (v : WorldSeen) (w : World) (stands : WorldStands v w) where
+  pub rows_are : length v.lanes ≡ length v.scenario.lanes → AreRows v.lanes w.lanes
+  rows_are count = record {
+    count = count ∙ sym stands.sound.lane_count;
+    keeps = λ l lane row there row_there.
+        subst (λ (r : LaneRow). LaneKeeps lane r) (get_or_from_slice_get w.lanes l row new_lane row_there) (stands.lanes l lane there).keeps;
+  }
 
   -- no event where none is left
   pub none_settles : (k : ℕ) → slice_get (settlements v.scenario w) k ≡ None → Goes v w (Settle k) []
   none_settles k none =
-      let is : happens v.scenario w (Settle k) [] ≡ nothing w = ap (λ (o : Option Settlement). settles v.scenario w o) none in
-      record {
-        choices = [];
-        after = w;
-        step = record { taken = ap (λ (x : After). x.choices) (sym is); made = ap (λ (x : After). x.lines) (sym is); leads = ap (λ (x : After). x.world) (sym is) };
-        stands = stands;
-      }
+      let is : happens v.scenario w (Settle k) [] ≡ nothing w = ap (λ (o : Option Settlement). settles v.scenario w [] o) none in
+      let step : Step v.scenario w (Settle k) [] [] w =
+      record { taken = ap (λ (x : After). x.choices) (sym is); made = ap (λ (x : After). x.lines) (sym is); leads = ap (λ (x : After). x.world) (sym is) } in
+      record { choices = []; after = w; step = step; apart = step_apart v.scenario w (Settle k) [] [] w step; stands = stands }
 
-  module _ (host : HostData) (lane : ℕ) (message : List ℕ) (messages : HostStands host (w.messages ++ message ∷ [])) (k : ℕ)
-      (here : slice_get (settlements v.scenario w) k ≡ Some (settlement_by lane message)) where
-    abbrev at : Settlement
-    at = settlement_by lane message
-
-    abbrev after : World
-    after = (settles v.scenario w (Some at)).world
-
-    abbrev value : WorldSeen
-    value = record v { host = host }
-
-    like : LanesLike after w
-    like = settle_like v.scenario w (Some at)
-
-    slots_stay : (i : ℕ) (slot : SlotSeen) (card : CardData) → slice_get v.slots i ≡ Some slot → slice_get v.scenario.cards i ≡ Some card
-        → SlotStands v.scenario after slot card (card_at after i)
-    slots_stay i slot card there is =
-        elim (stands.slots i slot card there is) [
-          | inl card_is ↦ inl card_is
-          | inr audited ↦ inr (record {
-            over = stays_over v.scenario w after like audited.over;
-            is = audited.is;
-            losses = audited.losses;
-            free = audited.free;
-            on = audited.on;
-          })
-        ]
-
-    lanes_stay : (l : ℕ) (own : Lane) → slice_get v.lanes l ≡ Some own → LaneAt v.scenario l own (lane_at after l)
-    lanes_stay l own there = at_like v.scenario l own (lane_at after l) (lane_at w l) (like.each l) (stands.lanes l own there)
-
-    inside : lane < length w.lanes
-    inside = let below : lane < 0 + length w.lanes = settles_inside v.scenario.copies 0 w.lanes k at here in omega arith
-
-    counted : v.tally ≡ counts after
-    counted =
-        stands.tally
-        ∙ sym (counts_with w after lane (with_sent message (lane_at w lane)) [] inside refl (sym (append-nil (lane_at w lane).ended)))
-
-    settled_stands : WorldStands value after
-    settled_stands = record {
-      sound = settled_sound v.scenario w (Some at) stands.sound;
-      few = like_few v.scenario w after like stands.few;
-      slots = slots_stay;
-      lanes = lanes_stay;
-      messages = messages;
-      tally = counted;
-    }
-
-    pub one_settles : (reply : List ℕ) (lines : List Line) → reply ≡ host_reply v.scenario.issuer v.scenario.accounts w.messages message
-        → lines ≡ settle_lines (dialect_of v.scenario lane) lane message reply → Goes value w (Settle k) lines
-    one_settles reply lines is made =
-        let happens_so : happens v.scenario w (Settle k) [] ≡ settles v.scenario w (Some at) =
-        ap (λ (o : Option Settlement). settles v.scenario w o) here in
-        record {
-          choices = [];
-          after = after;
-          step = record {
-            taken = ap (λ (x : After). x.choices) (sym happens_so);
-            made = made ∙ ap (λ r. settle_lines (dialect_of v.scenario lane) lane message r) is ∙ ap (λ (x : After). x.lines) (sym happens_so);
-            leads = ap (λ (x : After). x.world) (sym happens_so);
-          };
-          stands = settled_stands;
-        }
-
-  pub settled_few : IsScenario v.scenario → (k : ℕ) (at : Settlement) → slice_get (settlements v.scenario w) k ≡ Some at → k < 30000
+  pub settled_few : IsScenario v.scenario → (k : ℕ) (at : Settlement) → slice_get (settlements v.scenario w) k ≡ Some at → k < 30352
   settled_few fits k at here =
       let within : k < length (settlements v.scenario w) = slice_get_within (settlements v.scenario w) k at here in
-      let few : length (settlements v.scenario w) ≤ 30000 = settlements_few v.scenario w fits (few_of v.scenario w stands.sound stands.few) in
+      let few : length (settlements v.scenario w) ≤ 30352 =
+      settlements_few v.scenario w fits
+      (few_of v.scenario w stands.sound stands.few (λ l. few_found (durable_of v.scenario l) (lane_at w l) (stands.stored.lanes l))) in
       omega arith
 
-  -- what is settled is a message
-  pub settles_message : (k : ℕ) (at : Settlement) → slice_get (settlements v.scenario w) k ≡ Some at → IsMessage at.message
-  settles_message k at here = settles_hold IsMessage v.scenario.copies 0 w.lanes k at each here
-    where
-      each : (i : ℕ) (row : LaneRow) → slice_get w.lanes i ≡ Some row → (n : ℕ) (message : List ℕ) → slice_get row.captures n ≡ Some message → IsMessage message
-      each i row there n message captured_here =
-          let within : i < length v.lanes =
-          (let a : i < length w.lanes = slice_get_within w.lanes i row there in
-          let b : length w.lanes ≡ length v.scenario.lanes = stands.sound.lane_count in omega arith) in
-          let lane = some_at v.lanes i within in
-          let row_is : lane_at w i ≡ row = get_or_from_slice_get w.lanes i row new_lane there in
-          let all : All IsMessage row.captures = subst (λ (r : LaneRow). All IsMessage r.captures) row_is (stands.lanes i lane.0 lane.1).keeps.messages in
-          subst IsMessage (get_or_from_slice_get row.captures n message message captured_here)
-          (all n message (slice_get_within row.captures n message captured_here))
+  -- no lane has captured more messages than all of them have purchases
+  pub captured_few : IsScenario v.scenario → All (λ lane. vec_len lane.captures ≤ 10000) v.lanes
+  captured_few fits = λ l d within.
+      (let lane : Lane = get_or v.lanes l d in
+      let keeps : LaneKeeps lane (lane_at w l) = (stands.lanes l lane (slice_get-get_or v.lanes l d within)).keeps in
+      let count : vec_len lane.captures ≡ length (lane_at w l).captures =
+      lane.captures.ok.0 ∙ sym (length-map lane.captures.items (λ (m : ArrayVec ℕ 2048 ⊤). m.items)) ∙ ap (λ xs. length xs) keeps.captures in
+      let few = stands.few l in
+      omega (arith, count, few.captures, few.ended, some_of_all v.scenario.lanes l, fits.tables.few_purchases))
+
+  -- what a lane has captured are messages
+  pub settles_message : (k l : ℕ) (message : List ℕ) (drops : Bool) → slice_get (settlements v.scenario w) k ≡ Some (Sends l message drops)
+      → durable_of v.scenario l ≡ false → (lane : Lane) → slice_get v.lanes l ≡ Some lane → IsMessage message
+  settles_message k l message drops here off lane there =
+      let one : StepOf v.scenario 0 w.lanes (Sends l message drops) = step_of v.scenario 0 w.lanes k (Sends l message drops) here in
+      let same : l ≡ one.place = (let e : l ≡ 0 + one.place = one.of_it.lane_is in omega arith) in
+      let row_is : one.row ≡ lane_at w l = sym (ap (λ n. lane_at w n) same ∙ get_or_from_slice_get w.lanes one.place one.row new_lane one.there) in
+      let captured = one.of_it.captured (ap (λ n. durable_of v.scenario n) (sym one.of_it.lane_is) ∙ off) in
+      let here_too : slice_get (lane_at w l).captures captured.0 ≡ Some message = ap (λ (r : LaneRow). slice_get r.captures captured.0) (sym row_is) ∙ captured.1 in
+      subst IsMessage (get_or_from_slice_get (lane_at w l).captures captured.0 message message here_too)
+      ((stands.lanes l lane there).keeps.messages captured.0 message (slice_get_within (lane_at w l).captures captured.0 message here_too))
+
+  -- every purchase is over
+  module _ (over : all_over v.scenario w ≡ true) where
+    no_plan : (l : ℕ) → l < length v.scenario.lanes → terminal_plan (payment_in v.scenario l (length (lane_at w l).ended)) ≡ None
+    no_plan l inside = ap terminal_plan (over_next v.scenario w l (below_over v.scenario w (length v.scenario.lanes) l inside over))
+
+    module _ (choices : List Bool) (k : ℕ) (at : Settlement) (here : slice_get (settlements v.scenario w) k ≡ Some at) where
+      abbrev after : World
+      after = (settles v.scenario w choices (Some at)).world
+
+      like : LanesLike after w
+      like = settle_like v.scenario w choices (Some at)
+
+      slots_stay : (i : ℕ) (slot : SlotSeen) (card : CardData) → slice_get v.slots i ≡ Some slot → slice_get v.scenario.cards i ≡ Some card
+          → SlotStands v.scenario after slot card (card_at after i)
+      slots_stay i slot card there is = by at
+        where
+          by : (x : Settlement) → SlotStands v.scenario (settles v.scenario w choices (Some x)).world slot card (card_at (settles v.scenario w choices (Some x)).world i)
+          by (Opens l) =
+              elim (stands.slots i slot card there is) [
+                | inl card_is ↦ inl card_is
+                | inr audited ↦ inr (record {
+                  over = stays_over v.scenario w (settles v.scenario w choices (Some (Opens l))).world (settle_like v.scenario w choices (Some (Opens l))) audited.over;
+                  is = audited.is;
+                  losses = audited.losses;
+                  free = audited.free;
+                  on = audited.on;
+                })
+              ]
+          by (Sends l message drops) =
+              elim (stands.slots i slot card there is) [
+                | inl card_is ↦ inl card_is
+                | inr audited ↦ inr (record {
+                  over = stays_over v.scenario w (settles v.scenario w choices (Some (Sends l message drops))).world
+                      (settle_like v.scenario w choices (Some (Sends l message drops))) audited.over;
+                  is = audited.is;
+                  losses = audited.losses;
+                  free = audited.free;
+                  on = audited.on;
+                })
+              ]
+
+      inside : lane_in at < length w.lanes
+      inside = settles_inside v.scenario w.lanes k at here
+
+      tally_stays : counts after ≡ counts w
+      tally_stays = by at inside
+        where
+          by : (x : Settlement) → lane_in x < length w.lanes → counts (settles v.scenario w choices (Some x)).world ≡ counts w
+          by (Opens l) within =
+              counts_with w (settles v.scenario w choices (Some (Opens l))).world l (with_store (opened_to_settle (lane_at w l).store (choice_in choices 0)) (lane_at w l)) []
+              within refl (sym (append-nil (lane_at w l).ended)) tt
+          by (Sends l message drops) within =
+              counts_with w (settles v.scenario w choices (Some (Sends l message drops))).world l (lane_settled message drops (lane_at w l)) [] within refl
+              (sym (append-nil (lane_at w l).ended)) tt
+
+      -- lanes and stores that stand for what this step leaves
+      pub step_stands : (lanes : List Lane) (shelves : List ShelfSeen) (host : HostData)
+          → ((j : ℕ) (x : Lane) → slice_get lanes j ≡ Some x → LaneAt v.scenario j x (lane_at after j))
+          → ((j : ℕ) (x : ShelfSeen) → slice_get shelves j ≡ Some x → ShelfAt v.scenario j x (lane_at after j))
+          → HostStands host after.messages → WorldStands (record v { lanes = lanes; shelves = shelves; host = host }) after
+      step_stands lanes shelves host lanes_stand shelves_stand messages = record {
+        sound = settled_sound v.scenario w choices (Some at) stands.sound;
+        few = like_few v.scenario w after like stands.few;
+        slots = slots_stay;
+        lanes = lanes_stand;
+        shelves = shelves_stand;
+        stored = settle_stand v.scenario w choices (Some at)
+            (λ x is. subst (IsOfStore v.scenario w) (same_Some at x is) (durable_steps v.scenario w k at here)) over stands.stored;
+        messages = messages;
+        tally = stands.tally ∙ sym tally_stays;
+      }
+
+      -- the event itself
+      pub step_goes : (value : WorldSeen) (lines : List Line) → value.scenario ≡ v.scenario → WorldStands value after
+          → length choices ≡ (settles v.scenario w choices (Some at)).choices → lines ≡ (settles v.scenario w choices (Some at)).lines
+          → Goes value w (Settle k) lines
+      step_goes value lines same stand taken made =
+          let so : happens value.scenario w (Settle k) choices ≡ settles v.scenario w choices (Some at) =
+          ap (λ (s : ScenarioData). happens s w (Settle k) choices) same ∙ ap (λ (o : Option Settlement). settles v.scenario w choices o) here in
+          let step : Step value.scenario w (Settle k) choices lines after =
+          record {
+            taken = taken ∙ ap (λ (x : After). x.choices) (sym so);
+            made = made ∙ ap (λ (x : After). x.lines) (sym so);
+            leads = ap (λ (x : After). x.world) (sym so);
+          } in
+          record { choices = choices; after = after; step = step; apart = step_apart value.scenario w (Settle k) choices lines after step; stands = stand }
+
+    -- a lane's store is opened
+    module _ (k l : ℕ) (lane : Lane) (shelf : ShelfSeen) (here : slice_get (settlements v.scenario w) k ≡ Some (Opens l)) (some : 1 ≤ v.scenario.copies)
+        (through : IsSettledTo v.scenario w k) (lane_there : slice_get v.lanes l ≡ Some lane) (shelf_there : slice_get v.shelves l ≡ Some shelf) where
+      abbrev store : StoreRow
+      store = (lane_at w l).store
+
+      at : OpensAt v.scenario w k l
+      at = opens_at v.scenario w k l some here
+
+      unopened : IsUnopened store
+      unopened = through.before l at.on (omega (arith, at.is))
+
+      own : StoreStands shelf (lane_at w l) (terminal_plan (payment_in v.scenario l (length (lane_at w l).ended)))
+      own =
+          subst (λ (b : Bool). ShelfFor shelf (lane_at w l) (terminal_plan (payment_in v.scenario l (length (lane_at w l).ended))) b) at.on
+          (stands.shelves l shelf shelf_there)
+
+      pub off_to_settle : ShelfOff shelf store
+      off_to_settle =
+          subst (λ (o : Option ℕ). StorePlace shelf store (terminal_plan (payment_in v.scenario l (length (lane_at w l).ended))) o) unopened.off own.place
+
+      inside_lane : l < length v.scenario.lanes
+      inside_lane =
+          let a : l < length w.lanes = settles_inside v.scenario w.lanes k (Opens l) here in
+          let b : length w.lanes ≡ length v.scenario.lanes = stands.sound.lane_count in omega arith
+
+      pub opens_goes : (later : Lane) (behind : ShelfSeen) (found : Bool) → ShelfOn behind (opened_to_settle store found) None
+          → later.found ≡ Some (length (opened_to_settle store found).list) → losses_of behind ≡ losses_of shelf → later ≡ record lane { found = later.found }
+          → Goes (record v { lanes = set v.lanes l later; shelves = set v.shelves l behind }) w (Settle k) []
+      opens_goes later behind found on found_is losses same =
+          step_goes (found ∷ []) k (Opens l) here (record v { lanes = set v.lanes l later; shelves = set v.shelves l behind }) [] refl
+          (step_stands (found ∷ []) k (Opens l) here (set v.lanes l later) (set v.shelves l behind) v.host lanes_after shelves_after stands.messages) refl refl
+        where
+          row : LaneRow
+          row = with_store (opened_to_settle store found) (lane_at w l)
+
+          within : l < length w.lanes
+          within = settles_inside v.scenario w.lanes k (Opens l) here
+
+          lane_at_it : LaneAt v.scenario l later row
+          lane_at_it =
+              subst (λ (x : Lane). LaneAt v.scenario l x row) (sym same)
+              (at_found v.scenario l lane (lane_at w l) later.found (opened_to_settle store found) (stands.lanes l lane lane_there)
+              (λ one. (stands.lanes l lane lane_there).keeps.stored found) found_is)
+
+          lanes_after : (j : ℕ) (x : Lane) → slice_get (set v.lanes l later) j ≡ Some x
+              → LaneAt v.scenario j x (lane_at (settles v.scenario w (found ∷ []) (Some (Opens l))).world j)
+          lanes_after = set_both (λ j x r. LaneAt v.scenario j x r) v.lanes w.lanes l later row new_lane within lane_at_it stands.lanes
+
+          shelf_at_it : ShelfAt v.scenario l behind row
+          shelf_at_it =
+              subst (λ (b : Bool). ShelfFor behind row (terminal_plan (payment_in v.scenario l (length (lane_at w l).ended))) b) (sym at.on)
+              (record {
+                place = subst (λ (plan : Option Tear). ShelfOn behind (opened_to_settle store found) plan) (sym (no_plan l inside_lane)) on;
+                losses = losses ∙ own.losses;
+              })
+
+          shelves_after : (j : ℕ) (x : ShelfSeen) → slice_get (set v.shelves l behind) j ≡ Some x
+              → ShelfAt v.scenario j x (lane_at (settles v.scenario w (found ∷ []) (Some (Opens l))).world j)
+          shelves_after = set_both (λ j x r. ShelfAt v.scenario j x r) v.shelves w.lanes l behind row new_lane within shelf_at_it stands.shelves
+
+    -- a message is sent
+    module _ (k l : ℕ) (message : List ℕ) (drops : Bool) (here : slice_get (settlements v.scenario w) k ≡ Some (Sends l message drops))
+        (some : 1 ≤ v.scenario.copies) where
+      abbrev sent_row : LaneRow
+      sent_row = lane_settled message drops (lane_at w l)
+
+      abbrev sent_world : World
+      sent_world = (settles v.scenario w [] (Some (Sends l message drops))).world
+
+      within_lanes : l < length w.lanes
+      within_lanes = settles_inside v.scenario w.lanes k (Sends l message drops) here
+
+      -- by the lane's row, whose terminal is as it was
+      rows_after : ((x : Lane) → slice_get v.lanes l ≡ Some x → LaneAt v.scenario l x sent_row)
+          → (j : ℕ) (x : Lane) → slice_get v.lanes j ≡ Some x → LaneAt v.scenario j x (lane_at sent_world j)
+      rows_after own j =
+          at_set (λ (i : ℕ) (r : LaneRow). (x : Lane) → slice_get v.lanes i ≡ Some x → LaneAt v.scenario i x r) w.lanes l sent_row new_lane own stands.lanes j
+
+      -- one that a lane has captured
+      pub plain_goes : (host : HostData) → HostStands host (w.messages ++ message ∷ []) → durable_of v.scenario l ≡ false → (lines : List Line)
+          → lines ≡ settle_lines (dialect_of v.scenario l) l message (host_reply v.scenario.issuer v.scenario.accounts w.messages message)
+          → Goes (record v { host = host }) w (Settle k) lines
+      plain_goes host messages off lines made =
+          step_goes [] k (Sends l message drops) here (record v { host = host }) lines refl
+          (step_stands [] k (Sends l message drops) here v.lanes v.shelves host (rows_after lane_own) shelves_after messages) refl made
+        where
+          none_dropped : drops ≡ false
+          none_dropped = subst (λ (b : Bool). SendsBy v.scenario w k l message drops b) off (sends_at v.scenario w k l message drops some here)
+
+          store_is : (settled_store drops (lane_at w l).store) ≡ (lane_at w l).store
+          store_is = ap (λ (b : Bool). settled_store b (lane_at w l).store) none_dropped
+
+          lane_own : (x : Lane) → slice_get v.lanes l ≡ Some x → LaneAt v.scenario l x sent_row
+          lane_own x there =
+              subst (λ (store : StoreRow). LaneAt v.scenario l x (record (lane_at w l) { sent = (lane_at w l).sent ++ message ∷ []; store = store })) (sym store_is)
+              (at_with v.scenario l x (lane_at w l) ((lane_at w l).sent ++ message ∷ []) (lane_at w l).store (stands.lanes l x there)
+              (stands.lanes l x there).keeps.stored (stands.lanes l x there).keeps.found)
+
+          -- a lane without a store has none afterwards
+          shelf_own : (x : ShelfSeen) → slice_get v.shelves l ≡ Some x → ShelfAt v.scenario l x sent_row
+          shelf_own x there =
+              subst (λ (b : Bool). ShelfFor x sent_row (terminal_plan (payment_in v.scenario l (length (lane_at w l).ended))) b) (sym off)
+              (subst (λ (b : Bool). ShelfFor x (lane_at w l) (terminal_plan (payment_in v.scenario l (length (lane_at w l).ended))) b) off (stands.shelves l x there))
+
+          shelves_after : (j : ℕ) (x : ShelfSeen) → slice_get v.shelves j ≡ Some x → ShelfAt v.scenario j x (lane_at sent_world j)
+          shelves_after j =
+              at_set (λ (i : ℕ) (r : LaneRow). (x : ShelfSeen) → slice_get v.shelves i ≡ Some x → ShelfAt v.scenario i x r) w.lanes l sent_row new_lane
+              shelf_own stands.shelves j
+
+      -- one of a store
+      module _ (lane : Lane) (shelf : ShelfSeen) (on : durable_of v.scenario l ≡ true) (through : IsSettledTo v.scenario w k)
+          (lane_there : slice_get v.lanes l ≡ Some lane) (shelf_there : slice_get v.shelves l ≡ Some shelf) where
+        abbrev open_store : StoreRow
+        open_store = (lane_at w l).store
+
+        sends : StoreSends v.scenario w k l message drops
+        sends = subst (λ (b : Bool). SendsBy v.scenario w k l message drops b) on (sends_at v.scenario w k l message drops some here)
+
+        reached : IsThrough open_store v.scenario.copies (k - before_lane v.scenario w l - 1)
+        reached = through.behind l on (omega (arith, sends.is))
+
+        place_is : k - before_lane v.scenario w l - 1 ≡ sends.place
+        place_is = omega (arith, sends.is)
+
+        left : open_store.list ≡ drop (sends.place / v.scenario.copies) reached.found
+        left = reached.list ∙ ap (λ n. drop (n / v.scenario.copies) reached.found) place_is
+
+        found_there : slice_get reached.found (sends.place / v.scenario.copies) ≡ Some message
+        found_there =
+            ap (λ (o : Option (List (List ℕ))). slice_get (unwrap_or o []) (sends.place / v.scenario.copies)) (sym reached.is) ∙ sends.in_it.there
+
+        list_is : open_store.list ≡ message ∷ drop (sends.place / v.scenario.copies + 1) reached.found
+        list_is = left ∙ drop_at reached.found (sends.place / v.scenario.copies) message found_there
+
+        pub first_is : slice_get open_store.list 0 ≡ Some message
+        first_is = ap (λ xs. slice_get xs 0) list_is
+
+        pub some_left : 0 < length open_store.list
+        some_left = let e : length open_store.list ≡ length (message ∷ drop (sends.place / v.scenario.copies + 1) reached.found) = ap length list_is in omega arith
+
+        pub are_messages : All IsMessage open_store.list
+        are_messages =
+            subst (λ (o : Option Call). All IsMessage (found_by open_store.list o true)) reached.none ((stands.lanes l lane lane_there).keeps.stored true)
+
+        store_own : StoreStands shelf (lane_at w l) (terminal_plan (payment_in v.scenario l (length (lane_at w l).ended)))
+        store_own =
+            subst (λ (b : Bool). ShelfFor shelf (lane_at w l) (terminal_plan (payment_in v.scenario l (length (lane_at w l).ended))) b) on
+            (stands.shelves l shelf shelf_there)
+
+        in_scenario : l < length v.scenario.lanes
+        in_scenario = let b : length w.lanes ≡ length v.scenario.lanes = stands.sound.lane_count in omega (arith, within_lanes)
+
+        some_made : (o : Option ℕ) → is_some o ≡ true → (n : ℕ) × (o ≡ Some n)
+        some_made None none = cc
+        some_made (Some n) is = (n, refl)
+
+        pub on_to_settle : ShelfOn shelf open_store None
+        on_to_settle =
+            let made = some_made open_store.commits reached.on in
+            subst (λ (plan : Option Tear). ShelfOn shelf open_store plan) (no_plan l in_scenario)
+            (subst (λ (o : Option ℕ). StorePlace shelf open_store (terminal_plan (payment_in v.scenario l (length (lane_at w l).ended))) o) made.1 store_own.place)
+
+        stored_after : (b one : Bool) → All IsMessage (found_by (settled_store b open_store).list (settled_store b open_store).lost one)
+        stored_after false one = (stands.lanes l lane lane_there).keeps.stored one
+        stored_after true one =
+            subst (λ (o : Option Call). All IsMessage (found_by (drop 1 open_store.list) o one)) (sym reached.none) (All-drop IsMessage 1 open_store.list are_messages)
+
+        found_after : (b : Bool) → (settled_store b open_store).found ≡ open_store.found
+        found_after true = refl
+        found_after false = refl
+
+        on_after : (b : Bool) → is_some (settled_store b open_store).commits ≡ true
+        on_after false = reached.on
+        on_after true = still open_store.commits reached.on
+          where
+            still : (o : Option ℕ) → is_some o ≡ true → is_some (option_map (λ made. made + 1) o) ≡ true
+            still None none = none
+            still (Some n) is = refl
+
+        -- what is known of the store before it
+        pub drain_facts : ShelfOn shelf open_store None × (slice_get open_store.list 0 ≡ Some message) × (0 < length open_store.list) × All IsMessage open_store.list
+        drain_facts = (on_to_settle, first_is, some_left, are_messages)
+
+        pub drains_goes : (host : HostData) → HostStands host (w.messages ++ message ∷ []) → (behind : ShelfSeen) → ShelfOn behind (settled_store drops open_store) None → losses_of behind ≡ losses_of shelf → (lines : List Line)
+            → lines ≡ settle_lines (dialect_of v.scenario l) l message (host_reply v.scenario.issuer v.scenario.accounts w.messages message)
+            → Goes (record v { shelves = set v.shelves l behind; host = host }) w (Settle k) lines
+        drains_goes host messages behind is_on losses lines made =
+            step_goes [] k (Sends l message drops) here (record v { shelves = set v.shelves l behind; host = host }) lines refl
+            (step_stands [] k (Sends l message drops) here v.lanes (set v.shelves l behind) host (rows_after lane_own) shelves_after messages) refl made
+          where
+            lane_own : (x : Lane) → slice_get v.lanes l ≡ Some x → LaneAt v.scenario l x sent_row
+            lane_own x there =
+                let same : lane ≡ x = same_Some lane x (sym lane_there ∙ there) in
+                subst (λ (y : Lane). LaneAt v.scenario l y sent_row) same
+                (at_with v.scenario l lane (lane_at w l) ((lane_at w l).sent ++ message ∷ []) (settled_store drops open_store) (stands.lanes l lane lane_there)
+                (stored_after drops) ((stands.lanes l lane lane_there).keeps.found ∙ ap (λ o. option_map length o) (sym (found_after drops))))
+
+            placed : (o : Option ℕ) → is_some o ≡ true → (plan : Option Tear) → plan ≡ None → StorePlace behind (settled_store drops open_store) plan o
+            placed None none plan is = cc
+            placed (Some n) some_so plan is = subst (λ (t : Option Tear). ShelfOn behind (settled_store drops open_store) t) (sym is) is_on
+
+            shelf_at_it : ShelfAt v.scenario l behind sent_row
+            shelf_at_it =
+                subst (λ (b : Bool). ShelfFor behind sent_row (terminal_plan (payment_in v.scenario l (length (lane_at w l).ended))) b) (sym on)
+                (record {
+                  place = placed (settled_store drops open_store).commits (on_after drops) (terminal_plan (payment_in v.scenario l (length (lane_at w l).ended)))
+                      (no_plan l in_scenario);
+                  losses = losses ∙ store_own.losses;
+                })
+
+            shelves_after : (j : ℕ) (x : ShelfSeen) → slice_get (set v.shelves l behind) j ≡ Some x → ShelfAt v.scenario j x (lane_at sent_world j)
+            shelves_after = set_both (λ j x r. ShelfAt v.scenario j x r) v.shelves w.lanes l behind sent_row new_lane within_lanes shelf_at_it stands.shelves
+
+-- what is set at a place that a list has
+set_is : {A : Type 0} (xs : List A) (i : ℕ) (a x : A) → slice_get xs i ≡ Some x → slice_get (set xs i a) i ≡ Some a
+set_is [] i a x there = cc
+set_is (y ∷ ys) zero a x there = refl
+set_is (y ∷ ys) (suc i) a x there = set_is ys i a x there
+
+-- a lane that knows what its opening has found is done where it was
+same_done : (o : Option LaneData) (lane later : Lane) → later ≡ record lane { found = later.found } → is_lane_done o (Some later) ≡ is_lane_done o (Some lane)
+same_done None lane later same = refl
+same_done (Some terminal) lane later same = ap (λ (x : Lane). is_lane_done (Some terminal) (Some x)) same
+
+pub done_found : (terminals : List LaneData) (lanes : List Lane) (l : ℕ) (lane later : Lane) → slice_get lanes l ≡ Some lane
+    → later ≡ record lane { found = later.found } → (n : ℕ) → done_below terminals (set lanes l later) n ≡ done_below terminals lanes n
+done_found terminals lanes l lane later there same zero = refl
+done_found terminals lanes l lane later there same (suc m) =
+    (λ i. one i && done_found terminals lanes l lane later there same m i)
+  where
+    one : is_lane_done (slice_get terminals m) (slice_get (set lanes l later) m) ≡ is_lane_done (slice_get terminals m) (slice_get lanes m)
+    one = elim (cases_eq m l) [
+      | inl is ↦
+          ap (λ n. is_lane_done (slice_get terminals m) (slice_get (set lanes l later) n)) is
+          ∙ ap (λ (o : Option Lane). is_lane_done (slice_get terminals m) o) (set_is lanes l later lane there)
+          ∙ same_done (slice_get terminals m) lane later same
+          ∙ ap (λ (o : Option Lane). is_lane_done (slice_get terminals m) o) (sym there)
+          ∙ ap (λ n. is_lane_done (slice_get terminals m) (slice_get lanes n)) (sym is)
+      | inr other ↦ ap (λ (o : Option Lane). is_lane_done (slice_get terminals m) o) (set_other lanes l m later other)
+    ]
+
+-- and keeps to its rules
+pub fits_found : (lane later : Lane) → later ≡ record lane { found = later.found } → LaneFits lane → LaneFits later
+fits_found lane later same fits = subst LaneFits (sym same) (record { amounts = fits.amounts; waits = fits.waits })

@@ -1,142 +1,145 @@
--- The settlement message of a number.
-use Rattle.std.proofs.Common.{◌≡◌, ℕ, zero, suc, ◌+◌, ◌-◌, ◌*◌, ◌/◌, ◌≤◌, ◌<◌, ◌⊎◌, List, [], ◌∷◌, ◌++◌, length, drop, replicate, slice_get, Some, None, refl, sym, ap, ◌∙◌, subst, arith, inl, inr}
+-- The steps of the settlement: what each of them is of.
+use Rattle.std.proofs.Common.{◌≡◌, ℕ, zero, suc, ◌+◌, ◌-◌, ◌*◌, ◌/◌, ◌≤◌, ◌<◌, ◌⊎◌, Bool, true, false, List, [], ◌∷◌, ◌++◌, length, drop, replicate, slice_get, Option, Some, None, refl, sym, ap, ◌∙◌, subst, arith, inl, inr}
 use Rattle.std.specs.List.{flat_map}
-use Rattle.std.specs.Prelude.{option_map}
-use Rattle.std.proofs.Math.Nat.{div-eq-sub-div, le-div_iff_mul-le}
-use Rattle.std.proofs.lemmas.Bool.{cases_lt}
-use Rattle.std.proofs.lemmas.Nat.{div_below}
-use Rattle.std.proofs.lemmas.Option.{same_Some}
-use Rattle.txn_replay.specs.Seen.{settlement_by}
-use Rattle.txn_replay.specs.Steps.{Settlement, settlements_from}
-use Rattle.txn_replay.specs.World.{LaneRow}
-use Rattle.txn_replay.proofs.Few.{copies_length}
-use Rattle.txn_replay.proofs.Lists.{append_at, append_first, append_second, drop_at, drop_past}
+use Rattle.std.specs.Prelude.{unwrap_or}
+use Rattle.std.proofs.lemmas.Option.{same_Some, slice_get_within, get_or_from_slice_get}
+use Rattle.scenario.specs.Plan.{ScenarioData}
+use Rattle.txn_replay.specs.Payment.{durable_of}
+use Rattle.txn_replay.specs.Steps.{Settlement, Opens, Sends, copies_of, dropped_copies, lane_settlements, settlements_from, settlements}
+use Rattle.txn_replay.specs.World.{LaneRow, World, new_lane, lane_at}
+use Rattle.txn_replay.proofs.Lists.{append_at}
 
--- those of a lane
-abbrev sent : ℕ → ℕ → List (List ℕ) → List Settlement
-sent copies l captures = flat_map (λ message. replicate copies (record { lane = l; message = message })) captures
+-- a step of a lane: of its captures, or of its store, and then of a message that the opening found
+pub record IsSent (l : ℕ) (row : LaneRow) (durable : Bool) (lane : ℕ) (message : List ℕ) (drops : Bool) : Type 0 where
+  pub lane_is : lane ≡ l
+  pub stored : drops ≡ true → durable ≡ true
+  pub captured : durable ≡ false → (j : ℕ) × (slice_get row.captures j ≡ Some message)
+  pub found : durable ≡ true → (j : ℕ) × (slice_get (unwrap_or row.store.found []) j ≡ Some message)
 
-copy_at : (n k : ℕ) (x : Settlement) → k < n → slice_get (replicate n x) k ≡ Some x
-copy_at zero k x within = absurd (omega arith)
-copy_at (suc n) zero x within = refl
-copy_at (suc n) (suc k) x within = copy_at n k x (omega arith)
+abbrev pub IsOf : ℕ → LaneRow → Bool → Settlement → Type 0
+IsOf l row durable (Opens lane) = (lane ≡ l) × (durable ≡ true)
+IsOf l row durable (Sends lane message drops) = IsSent l row durable lane message drops
 
-copies_count : (n : ℕ) (x : Settlement) → length (replicate n x) ≡ n
-copies_count zero x = refl
-copies_count (suc n) x = let rest : length (replicate n x) ≡ n = copies_count n x in omega arith
+-- a copy of a message
+pub copy_is : (n : ℕ) (x : Settlement) (k : ℕ) (at : Settlement) → slice_get (replicate n x) k ≡ Some at → x ≡ at
+copy_is zero x k at is = cc
+copy_is (suc n) x zero at is = same_Some x at is
+copy_is (suc n) x (suc k) at is = copy_is n x k at is
 
-pub sent_at : (copies l : ℕ) (captures : List (List ℕ)) (k : ℕ) → 1 ≤ copies
-    → slice_get (sent copies l captures) k ≡ option_map (settlement_by l) (slice_get captures (k / copies))
-sent_at copies l [] k some = refl
-sent_at copies l (message ∷ captures) k some = by (cases_lt k copies) (λ n. sent_at copies l captures n some)
+-- what each copy of each message is, each step is
+pub plain_are : (P : Settlement → Type 0) (copies l : ℕ) (messages : List (List ℕ)) (k : ℕ) (at : Settlement)
+    → ((j : ℕ) (message : List ℕ) → slice_get messages j ≡ Some message → P (Sends l message false))
+    → slice_get (flat_map (copies_of copies l) messages) k ≡ Some at → P at
+plain_are P copies l [] k at each is = cc
+plain_are P copies l (message ∷ messages) k at each is =
+    elim (append_at (copies_of copies l message) (flat_map (copies_of copies l) messages) k at is) [
+      | inl here ↦ subst P (copy_is copies (Sends l message false) k at here) (each 0 message refl)
+      | inr later ↦ plain_are P copies l messages later.0 at (λ j other there. each (suc j) other there) later.1
+    ]
+
+last_is : (P : Settlement → Type 0) (x at : Settlement) (k : ℕ) → P x → slice_get (x ∷ []) k ≡ Some at → P at
+last_is P x at zero holds is = subst P (same_Some x at is) holds
+last_is P x at (suc k) holds is = cc
+
+dropped_are : (P : Settlement → Type 0) (copies l : ℕ) (messages : List (List ℕ)) (k : ℕ) (at : Settlement)
+    → ((j : ℕ) (message : List ℕ) (drops : Bool) → slice_get messages j ≡ Some message → P (Sends l message drops))
+    → slice_get (flat_map (dropped_copies copies l) messages) k ≡ Some at → P at
+dropped_are P copies l [] k at each is = cc
+dropped_are P copies l (message ∷ messages) k at each is =
+    elim (append_at (dropped_copies copies l message) (flat_map (dropped_copies copies l) messages) k at is) [
+      | inl here ↦ by_copy here
+      | inr later ↦ dropped_are P copies l messages later.0 at (λ j other drops there. each (suc j) other drops there) later.1
+    ]
   where
-    one : Settlement
-    one = record { lane = l; message = message }
+    by_copy : slice_get (replicate (copies - 1) (Sends l message false) ++ Sends l message true ∷ []) k ≡ Some at → P at
+    by_copy here =
+        elim (append_at (replicate (copies - 1) (Sends l message false)) (Sends l message true ∷ []) k at here) [
+          | inl earlier ↦ subst P (copy_is (copies - 1) (Sends l message false) k at earlier) (each 0 message false refl)
+          | inr last ↦ last_is P (Sends l message true) at last.0 (each 0 message true refl) last.1
+        ]
 
-    by : (k < copies) ⊎ (copies ≤ k)
-        → ((n : ℕ) → slice_get (sent copies l captures) n ≡ option_map (settlement_by l) (slice_get captures (n / copies)))
-        → slice_get (replicate copies one ++ sent copies l captures) k
-        ≡ option_map (settlement_by l) (slice_get (message ∷ captures) (k / copies))
-    by (inl within) others =
-        let first : k / copies ≡ 0 = (let below : k / copies < 1 = div_below k copies 1 (omega arith) (omega arith) in omega arith) in
-        append_first (replicate copies one) (sent copies l captures) k one (copy_at copies k one within)
-        ∙ ap (λ n. option_map (settlement_by l) (slice_get (message ∷ captures) n)) (sym first)
-    by (inr past) others =
-        let count : length (replicate copies one) ≡ copies = copies_count copies one in
-        let place : k ≡ length (replicate copies one) + (k - copies) = omega arith in
-        let next : k / copies ≡ suc ((k - copies) / copies) = (let e : k / copies ≡ (k - copies) / copies + 1 = div-eq-sub-div (omega arith) past in omega arith) in
-        ap (λ n. slice_get (replicate copies one ++ sent copies l captures) n) place
-        ∙ append_second (replicate copies one) (sent copies l captures) (k - copies)
-        ∙ others (k - copies)
-        ∙ ap (λ n. option_map (settlement_by l) (slice_get (message ∷ captures) n)) (sym next)
+lane_are : (copies l : ℕ) (row : LaneRow) (durable : Bool) (k : ℕ) (at : Settlement) → slice_get (lane_settlements copies l row durable) k ≡ Some at
+    → IsOf l row durable at
+lane_are copies l row false k at is =
+    plain_are (IsOf l row false) copies l row.captures k at
+    (λ j message there. record { lane_is = refl; stored = λ drops. cc; captured = λ none. (j, there); found = λ on. cc }) is
+lane_are copies l row true zero at is = subst (IsOf l row true) (same_Some (Opens l) at is) (refl, refl)
+lane_are copies l row true (suc k) at is =
+    dropped_are (IsOf l row true) copies l (unwrap_or row.store.found []) k at
+    (λ j message drops there. record { lane_is = refl; stored = λ last. refl; captured = λ none. cc; found = λ on. (j, there) }) is
 
--- the messages of a lane and of those behind it
-pub next_lane : (copies : ℕ) (rows : List LaneRow) (l : ℕ) (row : LaneRow) → slice_get rows l ≡ Some row
-    → settlements_from copies l (drop l rows) ≡ sent copies l row.captures ++ settlements_from copies (l + 1) (drop (l + 1) rows)
+-- each step is of one of the lanes
+pub record StepOf (s : ScenarioData) (l : ℕ) (rows : List LaneRow) (at : Settlement) : Type 0 where
+  pub place : ℕ
+  pub row : LaneRow
+  pub there : slice_get rows place ≡ Some row
+  pub of_it : IsOf (l + place) row (durable_of s (l + place)) at
+
+pub step_of : (s : ScenarioData) (l : ℕ) (rows : List LaneRow) (k : ℕ) (at : Settlement) → slice_get (settlements_from s l rows) k ≡ Some at → StepOf s l rows at
 unfolding settlements_from
-next_lane copies rows l row here = ap (λ (rs : List LaneRow). settlements_from copies l rs) (drop_at rows l row here)
+step_of s l [] k at is = cc
+step_of s l (row ∷ rows) k at is =
+    elim (append_at (lane_settlements s.copies l row (durable_of s l)) (settlements_from s (l + 1) rows) k at is) [
+      | inl here ↦
+          (let same : l ≡ l + 0 = omega arith in
+          record {
+            place = 0;
+            row = row;
+            there = refl;
+            of_it = subst (λ (n : ℕ). IsOf n row (durable_of s n) at) same (lane_are s.copies l row (durable_of s l) k at here);
+          })
+      | inr later ↦
+          (let one = step_of s (l + 1) rows later.0 at later.1 in
+          let same : l + 1 + one.place ≡ l + suc one.place = omega arith in
+          record {
+            place = suc one.place;
+            row = one.row;
+            there = one.there;
+            of_it = subst (λ (n : ℕ). IsOf n one.row (durable_of s n) at) same one.of_it;
+          })
+    ]
 
-pub own_message : (copies : ℕ) (rows : List LaneRow) (l : ℕ) (row : LaneRow) (k : ℕ) (message : List ℕ) → 1 ≤ copies → slice_get rows l ≡ Some row
-    → slice_get row.captures (k / copies) ≡ Some message → slice_get (settlements_from copies l (drop l rows)) k ≡ Some (settlement_by l message)
-own_message copies rows l row k message some here is =
-    ap (λ (xs : List Settlement). slice_get xs k) (next_lane copies rows l row here)
-    ∙ append_first (sent copies l row.captures) (settlements_from copies (l + 1) (drop (l + 1) rows)) k (settlement_by l message)
-    (sent_at copies l row.captures k some ∙ ap (option_map (settlement_by l)) is)
+-- a lane that keeps its captures durably, whose store the settlement has opened
+pub record IsOpened (s : ScenarioData) (w : World) (lane : ℕ) : Type 0 where
+  pub on : durable_of s lane ≡ true
+  pub opened : (lane_at w lane).store.found ≡ None → ⊥
 
-pub later_message : (copies : ℕ) (rows : List LaneRow) (l : ℕ) (row : LaneRow) (k : ℕ) → slice_get rows l ≡ Some row → copies * length row.captures ≤ k
-    → slice_get (settlements_from copies l (drop l rows)) k
-    ≡ slice_get (settlements_from copies (l + 1) (drop (l + 1) rows)) (k - copies * length row.captures)
-later_message copies rows l row k here past =
-    let count : length (sent copies l row.captures) ≡ copies * length row.captures = copies_length copies l row.captures in
-    let place : k ≡ length (sent copies l row.captures) + (k - copies * length row.captures) = omega arith in
-    ap (λ (xs : List Settlement). slice_get xs k) (next_lane copies rows l row here)
-    ∙ ap (λ n. slice_get (sent copies l row.captures ++ settlements_from copies (l + 1) (drop (l + 1) rows)) n) place
-    ∙ append_second (sent copies l row.captures) (settlements_from copies (l + 1) (drop (l + 1) rows)) (k - copies * length row.captures)
+-- an opening is of a lane that keeps its captures durably, and only an opened store drops a message
+abbrev pub IsOfStore : ScenarioData → World → Settlement → Type 0
+IsOfStore s w (Opens lane) = durable_of s lane ≡ true
+IsOfStore s w (Sends lane message drops) = drops ≡ true → IsOpened s w lane
 
-pub none_left : (copies : ℕ) (rows : List LaneRow) (l k : ℕ) → length rows ≤ l → slice_get (settlements_from copies l (drop l rows)) k ≡ None
-unfolding settlements_from
-none_left copies rows l k past = ap (λ (rs : List LaneRow). slice_get (settlements_from copies l rs) k) (drop_past rows l past)
+none_there : (o : Option (List (List ℕ))) (j : ℕ) (message : List ℕ) → slice_get (unwrap_or o []) j ≡ Some message → o ≡ None → ⊥
+none_there None j message is none = cc
+none_there (Some found) j message is none = cc
 
--- a product below a number, by the quotient
-pub times_below : (c n k : ℕ) → 1 ≤ c → n ≤ k / c → c * n ≤ k
-times_below c n k some within =
-    let product : n * c ≤ k = (le-div_iff_mul-le {k = c} {x = n} {y = k} (omega arith)).0 within in
+pub durable_steps : (s : ScenarioData) (w : World) (k : ℕ) (at : Settlement) → slice_get (settlements s w) k ≡ Some at → IsOfStore s w at
+durable_steps s w k (Opens lane) is =
+    let one = step_of s 0 w.lanes k (Opens lane) is in
+    ap (λ n. durable_of s n) one.of_it.0 ∙ one.of_it.1
+durable_steps s w k (Sends lane message drops) is = λ last.
+    (let one = step_of s 0 w.lanes k (Sends lane message drops) is in
+    let same : lane ≡ one.place = (let e : lane ≡ 0 + one.place = one.of_it.lane_is in omega arith) in
+    let row_is : lane_at w lane ≡ one.row = ap (λ n. lane_at w n) same ∙ get_or_from_slice_get w.lanes one.place one.row new_lane one.there in
+    let there = one.of_it.found (one.of_it.stored last) in
+    record {
+      on = ap (λ n. durable_of s n) one.of_it.lane_is ∙ one.of_it.stored last;
+      opened = λ none. none_there one.row.store.found there.0 message there.1 (ap (λ (row : LaneRow). row.store.found) (sym row_is) ∙ none);
+    })
+
+-- the lane of a step
+abbrev pub lane_in : Settlement → ℕ
+lane_in (Opens lane) = lane
+lane_in (Sends lane message drops) = lane
+
+pub settles_inside : (s : ScenarioData) (rows : List LaneRow) (k : ℕ) (at : Settlement) → slice_get (settlements_from s 0 rows) k ≡ Some at → lane_in at < length rows
+settles_inside s rows k (Opens lane) is =
+    let one = step_of s 0 rows k (Opens lane) is in
+    let within : one.place < length rows = slice_get_within rows one.place one.row one.there in
+    let same : lane ≡ 0 + one.place = one.of_it.0 in
     omega arith
-
--- the lane of a settlement message is there
-copy_lane : (n l : ℕ) (message : List ℕ) (k : ℕ) (at : Settlement) → slice_get (replicate n (record { lane = l; message = message })) k ≡ Some at → at.lane ≡ l
-copy_lane zero l message k at is = cc
-copy_lane (suc n) l message zero at is = ap (λ (x : Settlement). x.lane) (sym (same_Some (record { lane = l; message = message }) at is))
-copy_lane (suc n) l message (suc k) at is = copy_lane n l message k at is
-
-own_lane : (copies l : ℕ) (captures : List (List ℕ)) (k : ℕ) (at : Settlement)
-    → slice_get (flat_map (λ message. replicate copies (record { lane = l; message = message })) captures) k ≡ Some at → at.lane ≡ l
-own_lane copies l [] k at is = cc
-own_lane copies l (message ∷ captures) k at is =
-    elim (append_at (replicate copies (record { lane = l; message = message }))
-    (flat_map (λ m. replicate copies (record { lane = l; message = m })) captures) k at is) [
-      | inl here ↦ copy_lane copies l message k at here
-      | inr later ↦ own_lane copies l captures later.0 at later.1
-    ]
-
-pub settles_inside : (copies l : ℕ) (rows : List LaneRow) (k : ℕ) (at : Settlement) → slice_get (settlements_from copies l rows) k ≡ Some at
-    → at.lane < l + length rows
-unfolding settlements_from
-settles_inside copies l [] k at is = cc
-settles_inside copies l (row ∷ rows) k at is =
-    elim (append_at (flat_map (λ message. replicate copies (record { lane = l; message = message })) row.captures)
-    (settlements_from copies (l + 1) rows) k at is) [
-      | inl here ↦ (let own : at.lane ≡ l = own_lane copies l row.captures k at here in omega arith)
-      | inr later ↦ (let below : at.lane < l + 1 + length rows = settles_inside copies (l + 1) rows later.0 at later.1 in omega arith)
-    ]
-
--- what holds of each message that a lane captured holds of each that is settled
-copy_holds : (P : List ℕ → Type 0) (n l : ℕ) (message : List ℕ) (k : ℕ) (at : Settlement) → P message
-    → slice_get (replicate n (record { lane = l; message = message })) k ≡ Some at → P at.message
-copy_holds P zero l message k at holds is = cc
-copy_holds P (suc n) l message zero at holds is =
-    subst P (ap (λ (x : Settlement). x.message) (same_Some (record { lane = l; message = message }) at is)) holds
-copy_holds P (suc n) l message (suc k) at holds is = copy_holds P n l message k at holds is
-
-own_holds : (P : List ℕ → Type 0) (copies l : ℕ) (captures : List (List ℕ)) (k : ℕ) (at : Settlement)
-    → ((n : ℕ) (message : List ℕ) → slice_get captures n ≡ Some message → P message)
-    → slice_get (flat_map (λ message. replicate copies (record { lane = l; message = message })) captures) k ≡ Some at → P at.message
-own_holds P copies l [] k at each is = cc
-own_holds P copies l (message ∷ captures) k at each is =
-    elim (append_at (replicate copies (record { lane = l; message = message }))
-    (flat_map (λ m. replicate copies (record { lane = l; message = m })) captures) k at is) [
-      | inl here ↦ copy_holds P copies l message k at (each 0 message refl) here
-      | inr later ↦ own_holds P copies l captures later.0 at (λ n other there. each (suc n) other there) later.1
-    ]
-
-pub settles_hold : (P : List ℕ → Type 0) (copies l : ℕ) (rows : List LaneRow) (k : ℕ) (at : Settlement)
-    → ((i : ℕ) (row : LaneRow) → slice_get rows i ≡ Some row → (n : ℕ) (message : List ℕ) → slice_get row.captures n ≡ Some message → P message)
-    → slice_get (settlements_from copies l rows) k ≡ Some at → P at.message
-unfolding settlements_from
-settles_hold P copies l [] k at each is = cc
-settles_hold P copies l (row ∷ rows) k at each is =
-    elim (append_at (flat_map (λ message. replicate copies (record { lane = l; message = message })) row.captures)
-    (settlements_from copies (l + 1) rows) k at is) [
-      | inl here ↦ own_holds P copies l row.captures k at (each 0 row refl) here
-      | inr later ↦ settles_hold P copies (l + 1) rows later.0 at (λ i other there. each (suc i) other there) later.1
-    ]
+settles_inside s rows k (Sends lane message drops) is =
+    let one = step_of s 0 rows k (Sends lane message drops) is in
+    let within : one.place < length rows = slice_get_within rows one.place one.row one.there in
+    let same : lane ≡ 0 + one.place = one.of_it.lane_is in
+    omega arith

@@ -1,17 +1,18 @@
 -- Each event leads from a sound world to a sound one.
-use Rattle.std.proofs.Common.{◌≡◌, ◌≢◌, ℕ, ◌<◌, Bool, List, length, set, Option, Some, None, refl, sym, ap, ◌∙◌, subst, inl, inr, arith}
+use Rattle.std.proofs.Common.{◌≡◌, ◌≢◌, ℕ, ◌<◌, Bool, List, [], ◌∷◌, ◌++◌, length, set, Option, Some, None, refl, sym, ap, ◌∙◌, subst, inl, inr, arith}
 use Rattle.std.proofs.lemmas.Bool.{cases_eq}
 use Rattle.std.proofs.lemmas.List.{length-map, length-set, get_or-set_same, get_or-set_other, set-get_or}
 use Rattle.std.proofs.lemmas.Option.{same_Some, slice_get_within}
 use Rattle.kernel.specs.Reply.{Reply}
 use Rattle.scenario.specs.Plan.{ScenarioData}
-use Rattle.txn_replay.specs.Part.{Part, Moved, piece}
+use Rattle.txn_replay.specs.Part.{Part, Moved}
 use Rattle.txn_replay.specs.Payment.{Payment, payment_in, next_of}
 use Rattle.txn_replay.specs.Sound.{IsSound, RunsIn, HeldBy, holder_in}
-use Rattle.txn_replay.specs.Steps.{Settlement, part_of, moved, choice_in, turned, turned_by, settles, with_card}
+use Rattle.txn_replay.specs.Steps.{Settlement, Opens, Sends, part_of, moved, choice_in, turned, turned_by, opens_to_settle, lane_settled, settles, with_card}
+use Rattle.txn_replay.specs.Storing.{lane_piece}
 use Rattle.txn_replay.specs.World.{Holder, CardRow, LaneRow, World, new_card, new_lane, first_world, card_at, lane_at}
 use Rattle.txn_replay.proofs.Lists.{at_set, get_or-map_const}
-use Rattle.txn_replay.proofs.Moves.{Moves, Outcome, kept, moves, outcome, this_one}
+use Rattle.txn_replay.proofs.Moves.{Moves, Outcome, kept, moves, lane_outcome, this_one}
 use Rattle.txn_replay.proofs.Payments.{IsPayment, payment_facts}
 use Rattle.txn_replay.proofs.Sending.{LanesLike, settle_like}
 
@@ -163,8 +164,8 @@ turn_sound s w l choices sound = by_next (next_of s w l) refl
     by_next : (o : Option Payment) → next_of s w l ≡ o → IsSound s (turned_by w l choices o).world
     by_next None is = sound
     by_next (Some p) is =
-        by_outcome p is (piece p (part_of w l p.planned.card) (choice_in choices 0))
-        (outcome p (part_of w l p.planned.card) (choice_in choices 0) (has_card s w l p sound is))
+        by_outcome p is (lane_piece p (part_of w l p.planned.card) (choice_in choices 0) (choice_in choices 1))
+        (lane_outcome p (part_of w l p.planned.card) (choice_in choices 0) (choice_in choices 1) (has_card s w l p sound is))
 
 -- the messages don't count, neither those that came to the host nor those that lanes made for it
 pub like_sound : (s : ScenarioData) (w : World) (lanes : List LaneRow) (messages : List (List ℕ))
@@ -191,9 +192,13 @@ like_sound s w lanes messages like sound = record {
       });
 }
 
-pub settled_sound : (s : ScenarioData) (w : World) (o : Option Settlement) → IsSound s w → IsSound s (settles s w o).world
-settled_sound s w None sound = sound
-settled_sound s w (Some at) sound = like_sound s w _ _ (settle_like s w (Some at)) sound
+pub settled_sound : (s : ScenarioData) (w : World) (choices : List Bool) (o : Option Settlement) → IsSound s w → IsSound s (settles s w choices o).world
+settled_sound s w choices None sound = sound
+settled_sound s w choices (Some (Opens l)) sound =
+    like_sound s w (opens_to_settle w l (choice_in choices 0)).world.lanes w.messages (settle_like s w choices (Some (Opens l))) sound
+settled_sound s w choices (Some (Sends l message drops)) sound =
+    like_sound s w (set w.lanes l (lane_settled message drops (lane_at w l))) (w.messages ++ message ∷ [])
+    (settle_like s w choices (Some (Sends l message drops))) sound
 
 -- a card that no other purchase has afterwards
 pub card_sound : (s : ScenarioData) (w : World) (i : ℕ) (card : CardRow) → card.holder ≡ (card_at w i).holder → IsSound s w → IsSound s (with_card w i card)

@@ -1,12 +1,13 @@
 -- The purchases that end are counted once each, wherever their lane stands.
-use Rattle.std.proofs.Common.{◌≡◌, ℕ, zero, suc, ◌+◌, ◌-◌, ◌<◌, ◌^◌, Bool, cond, List, [], ◌∷◌, ◌++◌, length, get_or, set, sym, ap, ◌∙◌, arith}
-use Rattle.std.specs.Prelude.{min, not, ◌||◌, sum_by, flat_map}
+use Rattle.std.proofs.Common.{◌≡◌, ℕ, zero, suc, ◌+◌, ◌-◌, ◌<◌, ◌^◌, Bool, true, cond, List, [], ◌∷◌, ◌++◌, length, get_or, set, Option, Some, None, refl, sym, ap, ◌∙◌, arith}
+use Rattle.std.specs.Prelude.{min, is_none, sum_by, flat_map}
 use Rattle.std.proofs.lemmas.List.Sums.{sum_by-cons, sum_by-append}
 use Rattle.emv_dict.specs.declared.ending.Ending.{Ending}
 use Rattle.emv_dict.specs.declared.ending.Ending.TheVariants.{Approved, Declined, Terminated, CutOff}
+use Rattle.kernel.specs.Ended.{EndData}
 use Rattle.kernel.specs.Tally.{Counts, raised}
-use Rattle.txn_replay.specs.Counting.{is_approved, is_declined, capped, counts_of, all_ended, counts}
-use Rattle.txn_replay.specs.Standing.{counted}
+use Rattle.txn_replay.specs.Counting.{is_approved, is_declined, is_other, ended_so, capped, counts_of, all_ended, counts}
+use Rattle.txn_replay.specs.Standing.{count_end, counted, ArePasts}
 use Rattle.txn_replay.specs.World.{Past, LaneRow, World, new_lane}
 
 -- what one more adds to a sum over all lanes
@@ -36,9 +37,6 @@ stopped a d o r = record { approved = capped a; declined = capped d; other = cap
 
 plus_capped : (a b : ℕ) → min (capped a + b) (2 ^ 64 - 1) ≡ capped (a + b)
 plus_capped a b = omega arith
-
-abbrev is_other : Ending → Bool
-is_other ending = not (is_approved ending || is_declined ending)
 
 abbrev one_if : Bool → ℕ
 one_if b = cond b 1 0
@@ -73,28 +71,40 @@ count_one a d o r (CutOff step) n = λ i. record {
 
 -- how often each adds to the four sums
 abbrev approvals : Past → ℕ
-approvals past = one_if (is_approved past.end.ending)
+approvals past = one_if (ended_so is_approved past.end)
 
 abbrev declines : Past → ℕ
-declines past = one_if (is_declined past.end.ending)
+declines past = one_if (ended_so is_declined past.end)
 
 abbrev others : Past → ℕ
-others past = one_if (is_other past.end.ending)
+others past = one_if (ended_so is_other past.end)
 
 abbrev taken : Past → ℕ
 taken past = length past.replies
 
-count_all : (a d o r : ℕ) (ended : List Past)
+-- a purchase without an end record adds nothing
+count_end_one : (a d o r : ℕ) (end : Option EndData) (replies : ℕ) → (is_none end ≡ true → replies ≡ 0)
+    → count_end (stopped a d o r) replies end
+    ≡ stopped (a + one_if (ended_so is_approved end)) (d + one_if (ended_so is_declined end)) (o + one_if (ended_so is_other end)) (r + replies)
+count_end_one a d o r None replies none = λ i. record {
+  approved = (let e : capped a ≡ capped (a + 0) = omega arith in e) i;
+  declined = (let e : capped d ≡ capped (d + 0) = omega arith in e) i;
+  other = (let e : capped o ≡ capped (o + 0) = omega arith in e) i;
+  replies = (let zeros : replies ≡ 0 = none refl in let e : capped r ≡ capped (r + replies) = omega arith in e) i;
+}
+count_end_one a d o r (Some end) replies none = count_one a d o r end.ending replies
+
+count_all : (a d o r : ℕ) (ended : List Past) → ArePasts ended
     → counted (stopped a d o r) ended ≡ stopped (a + sum_by approvals ended) (d + sum_by declines ended) (o + sum_by others ended) (r + sum_by taken ended)
-count_all a d o r [] = λ i. record {
+count_all a d o r [] all = λ i. record {
   approved = (let e : capped a ≡ capped (a + 0) = omega arith in e) i;
   declined = (let e : capped d ≡ capped (d + 0) = omega arith in e) i;
   other = (let e : capped o ≡ capped (o + 0) = omega arith in e) i;
   replies = (let e : capped r ≡ capped (r + 0) = omega arith in e) i;
 }
-count_all a d o r (past ∷ ended) =
-    ap (λ (c : Counts). counted c ended) (count_one a d o r past.end.ending (length past.replies))
-    ∙ count_all (a + approvals past) (d + declines past) (o + others past) (r + taken past) ended
+count_all a d o r (past ∷ ended) all =
+    ap (λ (c : Counts). counted c ended) (count_end_one a d o r past.end (length past.replies) (λ none. ap length (all.0 none)))
+    ∙ count_all (a + approvals past) (d + declines past) (o + others past) (r + taken past) ended all.1
     ∙ (λ i. record {
       approved = ap capped (both a approvals) i;
       declined = ap capped (both d declines) i;
@@ -107,8 +117,8 @@ count_all a d o r (past ∷ ended) =
 
 -- the purchases that end in a lane are counted
 pub counts_with : (w v : World) (l : ℕ) (row : LaneRow) (more : List Past) → l < length w.lanes → v.lanes ≡ set w.lanes l row
-    → row.ended ≡ (get_or w.lanes l new_lane).ended ++ more → counts v ≡ counted (counts w) more
-counts_with w v l row more inside same is =
+    → row.ended ≡ (get_or w.lanes l new_lane).ended ++ more → ArePasts more → counts v ≡ counted (counts w) more
+counts_with w v l row more inside same is all =
     ap (λ (lanes : List LaneRow). counts_of (flat_map (λ r. r.ended) lanes)) same
     ∙ (λ i. record {
       approved = ap capped (more_in approvals w.lanes l row more inside is) i;
@@ -116,4 +126,4 @@ counts_with w v l row more inside same is =
       other = ap capped (more_in others w.lanes l row more inside is) i;
       replies = ap capped (more_in taken w.lanes l row more inside is) i;
     })
-    ∙ sym (count_all (sum_by approvals (all_ended w)) (sum_by declines (all_ended w)) (sum_by others (all_ended w)) (sum_by taken (all_ended w)) more)
+    ∙ sym (count_all (sum_by approvals (all_ended w)) (sum_by declines (all_ended w)) (sum_by others (all_ended w)) (sum_by taken (all_ended w)) more all)

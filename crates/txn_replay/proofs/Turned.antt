@@ -4,21 +4,23 @@ use Rattle.std.specs.Global.{Box}
 use Rattle.std.specs.Prelude.{is_none, OnErr}
 use Rattle.std.proofs.lemmas.Bool.{cases_eq, both_ways}
 use Rattle.std.proofs.lemmas.Option.{same_Some}
+use Rattle.capture_store.specs.SeenShelf.{ShelfSeen}
 use Rattle.card_state.specs.Decisions.{Decided}
 use Rattle.kernel.specs.Kernel.{KernelData}
 use Rattle.kernel.specs.Reply.{Reply}
 use Rattle.scenario.specs.Cards.{CardData}
 use Rattle.txn_replay.specs.Payment.{Payment, next_of}
-use Rattle.txn_replay.specs.Seen.{WorldSeen, SlotStands, RunFor, LaneAt, WorldStands, Goes, plan_for}
+use Rattle.txn_replay.specs.Seen.{WorldSeen, SlotStands, ShelfAt, RunFor, LaneAt, WorldStands, Goes, plan_for}
 use Rattle.txn_replay.specs.Slot.{SlotSeen, SlotOff, is_on}
 use Rattle.txn_replay.specs.Sound.{RunsIn, IsIdle}
 use Rattle.txn_replay.specs.Standing.{PlaceFor, PlaceStands, CardStands, PartStands, SameLane, RunStands}
-use Rattle.txn_replay.specs.Steps.{After, part_of, nothing, happens}
+use Rattle.txn_replay.specs.Steps.{After, part_of, nothing, happens, Step}
 use Rattle.txn_replay.specs.World.{Holder, World, card_at, lane_at}
 use Rattle.txn_replay.specs.declared.event.Event.TheVariants.{Turn}
 use Rattle.txn_replay.specs.declared.lane.Lane.{Lane}
 use Rattle.txn_replay.proofs.Lists.{set_other, set_here}
 use Rattle.txn_replay.proofs.Moves.{this_one}
+use Rattle.txn_replay.proofs.OwnEvents.{step_apart}
 use Rattle.txn_replay.proofs.Pieces.{keeps_same}
 use Rattle.txn_replay.proofs.Sounding.{has_card}
 use Rattle.txn_replay.proofs.Turning.{card_stands}
@@ -39,12 +41,9 @@ idle_without v w stands l none = record { rests = by (lane_at w l).running refl;
 pub idle_goes : (v : WorldSeen) (w : World) → WorldStands v w → (l : ℕ) → IsIdle v.scenario w l → Goes v w (Turn l) []
 idle_goes v w stands l idle =
     let is : happens v.scenario w (Turn l) [] ≡ nothing w = idle_stays v.scenario w l [] idle in
-    record {
-      choices = [];
-      after = w;
-      step = record { taken = ap (λ (x : After). x.choices) (sym is); made = ap (λ (x : After). x.lines) (sym is); leads = ap (λ (x : After). x.world) (sym is) };
-      stands = stands;
-    }
+    let step : Step v.scenario w (Turn l) [] [] w =
+    record { taken = ap (λ (x : After). x.choices) (sym is); made = ap (λ (x : After). x.lines) (sym is); leads = ap (λ (x : After). x.world) (sym is) } in
+    record { choices = []; after = w; step = step; apart = step_apart v.scenario w (Turn l) [] [] w step; stands = stands }
 
 both_true : (a b : Bool) → (a && b) ≡ true → (a ≡ true) × (b ≡ true)
 both_true true true is = (refl, refl)
@@ -55,15 +54,15 @@ none_is : (o : Option (Box KernelData)) → is_none o ≡ true → o ≡ None
 none_is None is = refl
 none_is (Some kernel) is = cc
 
-module _ (v : WorldSeen) (w : World) (stands : WorldStands v w) (l : ℕ) (p : Payment) (is : next_of v.scenario w l ≡ Some p) (lane : Lane) (slot : SlotSeen)
-    (lane_there : slice_get v.lanes l ≡ Some lane) (slot_there : slice_get v.slots p.planned.card ≡ Some slot) where
+module _ (v : WorldSeen) (w : World) (stands : WorldStands v w) (l : ℕ) (p : Payment) (is : next_of v.scenario w l ≡ Some p) (lane : Lane) (slot : SlotSeen) where
   -- a lane whose next purchase waits for its card
-  pub idle_held : (held : Bool) → held ≡ (is_none lane.running && is_on slot) → held ≡ true
+  pub idle_held : slice_get v.lanes l ≡ Some lane → slice_get v.slots p.planned.card ≡ Some slot
+      → (held : Bool) → held ≡ (is_none lane.running && is_on slot) → held ≡ true
       → ((kept : List Decided) (pending : Option Decided) → SlotOff slot kept pending → held ≡ false) → IsIdle v.scenario w l
-  idle_held held exact waits off =
+  idle_held lane_there slot_there held exact waits off =
       let both : (is_none lane.running ≡ true) × (is_on slot ≡ true) = both_true (is_none lane.running) (is_on slot) (sym exact ∙ waits) in
       let placed : CardStands slot p.card (plan_for v.scenario (card_at w p.planned.card).holder) (card_at w p.planned.card) =
-      card_stands v w stands l p is lane slot lane_there slot_there in
+      card_stands v w stands l p is slot slot_there in
       by (card_at w p.planned.card).holder refl placed.stands (lane_rests v w stands l lane lane_there (none_is lane.running both.0))
     where
       by : (holder : Option Holder) → (card_at w p.planned.card).holder ≡ holder → PlaceStands slot (plan_for v.scenario holder) (card_at w p.planned.card) holder
@@ -72,9 +71,9 @@ module _ (v : WorldSeen) (w : World) (stands : WorldStands v w) (l : ℕ) (p : P
       by (Some h) has place rests = record { rests = rests; waits = inr (record { payment = p; holder = h; is = is; held = has }) }
 
   -- no other purchase has the card where the lane doesn't wait
-  pub free_holder : PartStands p lane slot (part_of w l p.planned.card) → (is_none lane.running && is_on slot) ≡ false → (h : Holder)
+  pub free_holder : (shelf : ShelfSeen) → PartStands p lane shelf slot (part_of w l p.planned.card) → (is_none lane.running && is_on slot) ≡ false → (h : Holder)
       → (card_at w p.planned.card).holder ≡ Some h → h ≡ this_one p (part_of w l p.planned.card)
-  free_holder part free h has = by (lane_at w l).running refl
+  free_holder shelf part free h has = by (lane_at w l).running refl
     where
       waits : (running : Option (Box KernelData)) → lane.running ≡ running → (lane_at w l).running ≡ None → RunStands running p None → is_on slot ≡ true → ⊥
       waits None none rests run on =
@@ -91,13 +90,17 @@ module _ (v : WorldSeen) (w : World) (stands : WorldStands v w) (l : ℕ) (p : P
           absurd (waits lane.running refl ran run on)
 
 -- nothing has changed but the room of a lane's vectors
-pub same_stands : (v : WorldSeen) (w : World) → WorldStands v w → (l i : ℕ) (lane later : Lane) (slot next : SlotSeen) → slice_get v.lanes l ≡ Some lane
-    → slice_get v.slots i ≡ Some slot → SameLane lane later → next ≡ slot → WorldStands (record v { slots = set v.slots i next; lanes = set v.lanes l later }) w
-same_stands v w stands l i lane later slot next lane_there slot_there same unchanged = record {
+pub same_stands : (v : WorldSeen) (w : World) → WorldStands v w → (l i : ℕ) (lane later : Lane) (shelf behind : ShelfSeen) (slot next : SlotSeen)
+    → slice_get v.lanes l ≡ Some lane → slice_get v.shelves l ≡ Some shelf
+    → slice_get v.slots i ≡ Some slot → SameLane lane later → behind ≡ shelf → next ≡ slot
+    → WorldStands (record v { slots = set v.slots i next; lanes = set v.lanes l later; shelves = set v.shelves l behind }) w
+same_stands v w stands l i lane later shelf behind slot next lane_there shelf_there slot_there same unmoved unchanged = record {
   sound = stands.sound;
   few = stands.few;
   slots = slots;
   lanes = lanes;
+  shelves = shelves;
+  stored = stands.stored;
   messages = record { books = stands.messages.books };
   tally = stands.tally;
 }
@@ -110,6 +113,15 @@ same_stands v w stands l i lane later slot next lane_there slot_there same uncha
               let is : slot ≡ other = sym unchanged ∙ set_here v.slots i next other (ap (λ k. slice_get (set v.slots i next) k) (sym here) ∙ there) in
               stands.slots j other card (ap (λ k. slice_get v.slots k) here ∙ slot_there ∙ ap (λ (x : SlotSeen). Some x) is) its
           | inr differs ↦ stands.slots j other card (sym (set_other v.slots i j next differs) ∙ there) its
+        ]
+
+    shelves : (k : ℕ) (own : ShelfSeen) → slice_get (set v.shelves l behind) k ≡ Some own → ShelfAt v.scenario k own (lane_at w k)
+    shelves k own there =
+        elim (cases_eq k l) [
+          | inl here ↦
+              let is : shelf ≡ own = sym unmoved ∙ set_here v.shelves l behind own (ap (λ n. slice_get (set v.shelves l behind) n) (sym here) ∙ there) in
+              stands.shelves k own (ap (λ n. slice_get v.shelves n) here ∙ shelf_there ∙ ap (λ (x : ShelfSeen). Some x) is)
+          | inr differs ↦ stands.shelves k own (sym (set_other v.shelves l k behind differs) ∙ there)
         ]
 
     run_same : (o : Option Payment) → RunFor lane (lane_at w l) o → RunFor later (lane_at w l) o

@@ -1,10 +1,11 @@
 -- A value and its world before and after an exchange of a lane.
-use Rattle.std.proofs.Common.{◌≡◌, ◌⊎◌, ℕ, zero, suc, ◌<◌, Bool, true, false, ◌&&◌, List, length, set, slice_get, Option, Some, None, refl, sym, ap, ◌∙◌, subst, inl, inr, arith}
+use Rattle.std.proofs.Common.{◌≡◌, ℕ, ◌<◌, Bool, true, false, List, length, set, slice_get, Option, Some, None, refl, sym, ap, ◌∙◌, subst, inl, inr, arith}
 use Rattle.std.specs.Global.{Box}
 use Rattle.std.specs.Prelude.{is_none, is_some}
 use Rattle.std.proofs.lemmas.Bool.{cases_eq}
 use Rattle.std.proofs.lemmas.List.{get_or-set_same, get_or-set_other}
 use Rattle.std.proofs.lemmas.Option.{same_Some, slice_get_within}
+use Rattle.capture_store.specs.SeenShelf.{ShelfSeen}
 use Rattle.card_app.specs.SeenChip.{ChipSeen, ChipOn, is_on as chip_on}
 use Rattle.card_app.specs.Session.{Exchange}
 use Rattle.card_state.specs.Decisions.{Decided}
@@ -16,54 +17,29 @@ use Rattle.kernel.specs.Tally.{Counts}
 use Rattle.report_text.specs.declared.line.Line.{Line}
 use Rattle.scenario.specs.Cards.{CardData}
 use Rattle.scenario.specs.Plan.{ScenarioData}
-use Rattle.txn_replay.specs.Part.{Part, Moved, piece}
+use Rattle.txn_replay.specs.Part.{Part, Moved}
 use Rattle.txn_replay.specs.Payment.{Payment, payment_in, next_of}
-use Rattle.txn_replay.specs.Run.{lane_over, all_below, all_over}
-use Rattle.txn_replay.specs.Seen.{WorldSeen, plan_in, plan_for, SlotStands, RunFor, LaneAt, WorldStands, Goes}
+use Rattle.txn_replay.specs.Seen.{WorldSeen, plan_in, plan_for, SlotStands, terminal_plan, ShelfAt, RunFor, LaneAt, WorldStands, Goes}
 use Rattle.txn_replay.specs.Slot.{SlotSeen, OfApps, OfCanned, SlotOn, is_on}
 use Rattle.txn_replay.specs.Sound.{IsSound}
-use Rattle.txn_replay.specs.Standing.{RunStands, LaneStands, PlaceStands, CardStands, PlaceFor, PartStands, Led, counted}
-use Rattle.txn_replay.specs.Steps.{After, part_of, moved, turned_by, happens}
+use Rattle.txn_replay.specs.Standing.{RunStands, LaneStands, PlaceStands, CardStands, PlaceFor, ShelfFor, PartStands, Led, counted}
+use Rattle.txn_replay.specs.Steps.{After, part_of, moved, turned_by, happens, Step}
+use Rattle.txn_replay.specs.Stored.{StoredBy, StoresStand}
+use Rattle.txn_replay.specs.Storing.{lane_piece}
 use Rattle.txn_replay.specs.World.{Holder, CardRow, LaneRow, World, new_card, new_lane, card_at, lane_at}
 use Rattle.txn_replay.specs.declared.event.Event.TheVariants.{Turn}
 use Rattle.txn_replay.specs.declared.lane.Lane.{Lane}
-use Rattle.txn_replay.proofs.Choices.{Taken, choice_taken}
+use Rattle.txn_replay.proofs.Choices.{BothTaken, choices_taken}
 use Rattle.txn_replay.proofs.Few.{LanesFew, turn_few}
 use Rattle.txn_replay.proofs.Lists.{set_other, set_here}
-use Rattle.txn_replay.proofs.Moves.{Outcome, kept, moves, outcome, this_one}
+use Rattle.txn_replay.proofs.Moves.{Outcome, kept, moves, lane_outcome, this_one}
+use Rattle.txn_replay.proofs.OwnEvents.{step_apart}
 use Rattle.txn_replay.proofs.Payments.{payment_facts}
+use Rattle.txn_replay.proofs.Planning.{lane_planned, shelf_placed, shelf_stands}
 use Rattle.txn_replay.proofs.Sounding.{turn_sound, has_card}
+use Rattle.txn_replay.proofs.Stores.{turn_stand}
 use Rattle.txn_replay.proofs.Tallies.{counts_with}
-
--- a lane that has a purchase left isn't over, and so not all are
-pub below_over : (s : ScenarioData) (w : World) (n l : ℕ) → l < n → all_below s w n ≡ true → lane_over s w l ≡ true
-below_over s w zero l inside over = absurd (omega arith)
-below_over s w (suc n) l inside over = by_and (λ before others. below_over s w n l before others) (lane_over s w n) (all_below s w n) refl refl over
-  where
-    by_place : (l < n → all_below s w n ≡ true → lane_over s w l ≡ true) → lane_over s w n ≡ true → all_below s w n ≡ true → (l < n) ⊎ (l ≡ n)
-        → lane_over s w l ≡ true
-    by_place earlier this others (inl before) = earlier before others
-    by_place earlier this others (inr same) = ap (λ k. lane_over s w k) same ∙ this
-
-    place : (l < n) ⊎ (l ≡ n)
-    place = elim (cases_eq l n) [ inl same ↦ inr same | inr other ↦ inl (omega arith) ]
-
-    by_and : (l < n → all_below s w n ≡ true → lane_over s w l ≡ true) → (a b : Bool) → lane_over s w n ≡ a → all_below s w n ≡ b → (a && b) ≡ true → lane_over s w l ≡ true
-    by_and earlier true true this others both = by_place earlier this others place
-    by_and earlier true false this others both = cc
-    by_and earlier false b this others both = cc
-
-pub over_next : (s : ScenarioData) (w : World) (l : ℕ) → lane_over s w l ≡ true → next_of s w l ≡ None
-over_next s w l over = by (is_none (lane_at w l).running) (next_of s w l) refl over
-  where
-    by : (a : Bool) (o : Option Payment) → next_of s w l ≡ o → (a && is_none o) ≡ true → next_of s w l ≡ None
-    by true None is both = is
-    by true (Some p) is both = cc
-    by false o is both = cc
-
-pub not_over : (s : ScenarioData) (w : World) (l : ℕ) (p : Payment) → next_of s w l ≡ Some p → all_over s w ≡ true → ⊥
-not_over s w l p is over =
-    let none : None ≡ Some p = sym (over_next s w l (below_over s w (length s.lanes) l (payment_facts s l _ p is).inside over)) ∙ is in cc
+use Rattle.txn_replay.proofs.Waiting.{not_over}
 
 chip_is_on : (chip : ChipSeen) (session : List Exchange) (ds : List Decided) (plan : Option Tear) (made : ℕ) → ChipOn chip session ds plan made → chip_on chip ≡ true
 chip_is_on chip session ds plan made on = on.on
@@ -77,21 +53,25 @@ plan_is : (s : ScenarioData) (w : World) (l : ℕ) (p : Payment) → next_of s w
 plan_is s w l p is =
     ap (λ k. plan_in (payment_in s k (length (lane_at w l).ended))) (payment_facts s l _ p is).lane ∙ ap plan_in is
 
-module _ (v : WorldSeen) (w : World) (stands : WorldStands v w) (l : ℕ) (p : Payment) (is : next_of v.scenario w l ≡ Some p) (lane : Lane) (slot : SlotSeen)
-    (lane_there : slice_get v.lanes l ≡ Some lane) (slot_there : slice_get v.slots p.planned.card ≡ Some slot) where
+-- its card, which isn't an audited one
+pub card_stands : (v : WorldSeen) (w : World) → WorldStands v w → (l : ℕ) (p : Payment) → next_of v.scenario w l ≡ Some p → (slot : SlotSeen)
+    → slice_get v.slots p.planned.card ≡ Some slot → CardStands slot p.card (plan_for v.scenario (card_at w p.planned.card).holder) (card_at w p.planned.card)
+card_stands v w stands l p is slot slot_there =
+    elim (stands.slots p.planned.card slot p.card slot_there (payment_facts v.scenario l _ p is).card) [
+      | inl here ↦ here
+      | inr audited ↦ absurd (not_over v.scenario w l p is audited.over)
+    ]
+
+module _ (v : WorldSeen) (w : World) (stands : WorldStands v w) (l : ℕ) (p : Payment) (is : next_of v.scenario w l ≡ Some p) (lane : Lane) (shelf : ShelfSeen) (slot : SlotSeen)
+    (lane_there : slice_get v.lanes l ≡ Some lane) (shelf_there : slice_get v.shelves l ≡ Some shelf) (slot_there : slice_get v.slots p.planned.card ≡ Some slot) where
   abbrev part : Part
   part = part_of w l p.planned.card
 
   card_there : slice_get v.scenario.cards p.planned.card ≡ Some p.card
   card_there = (payment_facts v.scenario l _ p is).card
 
-  -- its card, which isn't an audited one
-  pub card_stands : CardStands slot p.card (plan_for v.scenario (card_at w p.planned.card).holder) (card_at w p.planned.card)
-  card_stands =
-      elim (stands.slots p.planned.card slot p.card slot_there card_there) [
-        | inl here ↦ here
-        | inr audited ↦ absurd (not_over v.scenario w l p is audited.over)
-      ]
+  placed_card : CardStands slot p.card (plan_for v.scenario (card_at w p.planned.card).holder) (card_at w p.planned.card)
+  placed_card = card_stands v w stands l p is slot slot_there
 
   lane_stands : LaneStands lane p (lane_at w l)
   lane_stands =
@@ -109,28 +89,35 @@ module _ (v : WorldSeen) (w : World) (stands : WorldStands v w) (l : ℕ) (p : P
       let plan : plan_for v.scenario (Some holder) ≡ p.planned.tear = ap (λ (h : Holder). plan_for v.scenario (Some h)) same ∙ plan_is v.scenario w l p is in
       subst (λ (tear : Option Tear). SlotOn slot (card_at w p.planned.card) tear) plan here
 
-  pub part_stands : PartStands p lane slot (part_of w l p.planned.card)
+  -- before every purchase is over no store is opened for settlement
+  first : (lane_at w l).store.found ≡ None
+  first = elim (stands.stored.before l) [ inl none ↦ none | inr over ↦ absurd (not_over v.scenario w l p is over) ]
+
+  pub part_stands : PartStands p lane shelf slot (part_of w l p.planned.card)
   part_stands = record {
     lane_is = lane_stands;
-    place = placed (card_at w p.planned.card).holder (lane_at w l).running refl refl card_stands.stands;
-    is = card_stands.is;
-    losses = card_stands.losses;
+    shelf_is = shelf_stands v.scenario l p (lane_at w l) is shelf (stands.shelves l shelf shelf_there);
+    stored = subst (λ (b : Bool). StoredBy b (lane_at w l)) (sym (payment_facts v.scenario l _ p is).durable) (stands.stored.lanes l);
+    before = first;
+    place = placed (card_at w p.planned.card).holder (lane_at w l).running refl refl placed_card.stands;
+    is = placed_card.is;
+    losses = placed_card.losses;
   }
 
-  module _ (later : Lane) (next : SlotSeen) (host : HostData) (tally : Counts) (lines : List Line) (choice : Bool)
-      (led : Led p later next v.tally tally lines part (piece p part choice)) (messages : HostStands host (piece p part choice).part.messages)
+  module _ (later : Lane) (behind : ShelfSeen) (next : SlotSeen) (host : HostData) (tally : Counts) (lines : List Line) (one other : Bool)
+      (led : Led p later behind next v.tally tally lines part (lane_piece p part one other)) (messages : HostStands host (lane_piece p part one other).part.messages)
       (free : (h : Holder) → (card_at w p.planned.card).holder ≡ Some h → h ≡ this_one p part) where
     abbrev m : Moved
-    m = piece p part choice
+    m = lane_piece p part one other
 
     abbrev after : World
     after = (moved w l p.planned.card m).world
 
     abbrev value : WorldSeen
-    value = record v { slots = set v.slots p.planned.card next; lanes = set v.lanes l later; host = host; tally = tally }
+    value = record v { slots = set v.slots p.planned.card next; lanes = set v.lanes l later; shelves = set v.shelves l behind; host = host; tally = tally }
 
     came : Outcome p part m.part
-    came = outcome p part choice (has_card v.scenario w l p stands.sound is)
+    came = lane_outcome p part one other (has_card v.scenario w l p stands.sound is)
 
     -- who has the card afterwards is this purchase
     holds : (h : Holder) → m.part.card.holder ≡ Some h → h ≡ this_one p part
@@ -240,8 +227,31 @@ module _ (v : WorldSeen) (w : World) (stands : WorldStands v w) (l : ℕ) (p : P
               (stands.lanes k other (sym (set_other v.lanes l k later differs) ∙ there))
         ]
 
-    taken : Taken (λ b. piece p part b) choice
-    taken = choice_taken p part choice
+    -- its store
+    planned_so : (durable : Bool) → p.durable ≡ durable → ShelfFor behind m.part.lane p.planned.terminal_tear durable → ShelfAt v.scenario l behind m.part.lane
+    planned_so true durable on =
+        shelf_placed v.scenario l p (length (lane_at w l).ended) is behind m.part.lane (lane_planned p part one other durable)
+        (subst (λ (b : Bool). ShelfFor behind m.part.lane p.planned.terminal_tear b) (sym durable) on)
+    planned_so false durable none =
+        subst (λ (b : Bool). ShelfFor behind m.part.lane (terminal_plan (payment_in v.scenario l (length m.part.lane.ended))) b)
+        (sym durable ∙ (payment_facts v.scenario l _ p is).durable) none
+
+    shelves_after : (k : ℕ) (own : ShelfSeen) → slice_get value.shelves k ≡ Some own → ShelfAt v.scenario k own (lane_at after k)
+    shelves_after k own there =
+        elim (cases_eq k l) [
+          | inl same ↦
+              let shelf_is : behind ≡ own = set_here v.shelves l behind own (ap (λ i. slice_get (set v.shelves l behind) i) (sym same) ∙ there) in
+              subst (λ i. ShelfAt v.scenario i own (lane_at after i)) (sym same)
+              (subst (λ (row : LaneRow). ShelfAt v.scenario l own row) (sym lane_here)
+              (subst (λ (x : ShelfSeen). ShelfAt v.scenario l x m.part.lane) shelf_is (planned_so p.durable refl led.moved.shelf_is)))
+          | inr differs ↦
+              let row : lane_at after k ≡ lane_at w k = get_or-set_other w.lanes l k m.part.lane new_lane differs in
+              subst (λ (r : LaneRow). ShelfAt v.scenario k own r) (sym row)
+              (stands.shelves k own (sym (set_other v.shelves l k behind differs) ∙ there))
+        ]
+
+    taken : BothTaken (λ a b. lane_piece p part a b) one other
+    taken = choices_taken p part one other
 
     next_is : happens v.scenario w (Turn l) taken.choices ≡ turned_by w l taken.choices (Some p)
     next_is = ap (λ (o : Option Payment). turned_by w l taken.choices o) is
@@ -249,23 +259,29 @@ module _ (v : WorldSeen) (w : World) (stands : WorldStands v w) (l : ℕ) (p : P
     turned_is : happens v.scenario w (Turn l) taken.choices ≡ moved w l p.planned.card m
     turned_is = next_is ∙ ap (λ (x : Moved). moved w l p.planned.card x) taken.same
 
+    step_is : Step v.scenario w (Turn l) taken.choices lines after
+    step_is = record {
+      taken = taken.count ∙ ap (λ (x : After). x.choices) (sym next_is);
+      made = led.moved.lines_are ∙ ap (λ (x : After). x.lines) (sym turned_is);
+      leads = ap (λ (x : After). x.world) (sym turned_is);
+    }
+
     pub turn_goes : Goes value w (Turn l) lines
     turn_goes = record {
       choices = taken.choices;
       after = after;
-      step = record {
-        taken = taken.count ∙ ap (λ (x : After). x.choices) (sym next_is);
-        made = led.moved.lines_are ∙ ap (λ (x : After). x.lines) (sym turned_is);
-        leads = ap (λ (x : After). x.world) (sym turned_is);
-      };
+      step = step_is;
+      apart = step_apart v.scenario w (Turn l) taken.choices lines after step_is;
       stands = record {
         sound = subst (λ (x : After). IsSound v.scenario x.world) turned_is (turn_sound v.scenario w l taken.choices stands.sound);
         few = subst (λ (x : Moved). LanesFew v.scenario (moved w l p.planned.card x).world) taken.same
             (turn_few v.scenario w l taken.choices (Some p) is stands.few);
         slots = slots_after;
         lanes = lanes_after;
+        shelves = shelves_after;
+        stored = subst (λ (x : After). StoresStand v.scenario x.world) turned_is (turn_stand v.scenario w l taken.choices stands.stored);
         messages = messages;
         tally = led.counted.2 ∙ ap (λ (c : Counts). counted c led.counted.0) stands.tally
-            ∙ sym (counts_with w after l m.part.lane led.counted.0 inside refl led.counted.1);
+            ∙ sym (counts_with w after l m.part.lane led.counted.0 inside refl led.counted.1 led.counted.3);
       };
     }

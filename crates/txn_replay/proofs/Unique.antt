@@ -3,6 +3,8 @@ use Rattle.std.proofs.Common.{◌≡◌, ℕ, zero, suc, ◌⊎◌, ◌+◌, ◌
 use Rattle.std.specs.Prelude.{◌==◌, not, if◌then◌else◌, option_map, option_and_then}
 use Rattle.std.proofs.lemmas.Bool.{eqb-true, eq-eqb, cases_lt}
 use Rattle.std.proofs.lemmas.Option.{same_Some}
+use Rattle.capture_store.specs.Calls.{Call, Adds, Drops, found_by, left_at, left_by}
+use Rattle.capture_store.specs.StoreRow.{StoreRow, commit_next, is_cut, opened, opened_to_add, opened_to_settle, made_call, cut_call, call_by, ended_by}
 use Rattle.card_pages.specs.Cuts.{Cut, Dropped, Pending, commit_of, behind_one, cut_of, left_of, pending_by}
 use Rattle.card_pages.specs.Pages.{found_of}
 use Rattle.card_state.specs.Decisions.{Decided}
@@ -15,18 +17,22 @@ use Rattle.report_text.specs.declared.line.Line.{Line}
 use Rattle.scenario.specs.Cards.{CardData}
 use Rattle.scenario.specs.Plan.{ScenarioData}
 use Rattle.txn_replay.specs.Changes.{powered}
-use Rattle.txn_replay.specs.Choices.{leaves_open, leaves_choice, LeavesNone, NoneIsOpen, RunIsOne}
+use Rattle.txn_replay.specs.Choices.{leaves_open, leaves_choice, HasNoChoice, LeavesNone, IsClosed, NoneIsOpen, IsSameRun, RunIsOne}
 use Rattle.txn_replay.specs.Lines.{audit_power_line}
 use Rattle.txn_replay.specs.Part.{Part, Moved, powered_up, begun, begun_by, begun_with, piece_by, piece}
 use Rattle.txn_replay.specs.Payment.{Payment, next_of}
 use Rattle.txn_replay.specs.Run.{Place, Scheduled, Round, Settling, Auditing, Finished, Reached, start, scheduled, rounds, round, again, settlement, settling, audit, auditing, finished, all_over, closing}
-use Rattle.txn_replay.specs.Steps.{After, Check, PowersUp, Asks, Settlement, settlements, settles, checks, audits, with_card, part_of, moved, choice_in, turned_by, happens, Step}
-use Rattle.txn_replay.specs.World.{Holder, CardRow, LaneRow, World, new_card, first_world, card_at}
+use Rattle.txn_replay.specs.Steps.{After, Check, PowersUp, Asks, Settlement, Opens, Sends, with_lane, settled_store, lane_settled, settlements, settles, checks, audits, with_card, part_of, moved, choice_in, turned_by, happens, Step}
+use Rattle.txn_replay.specs.Storing.{part_with, copied, copy_lines, dropped_by, delivers_first, opened_for, opens_by, goes_through, stored_by, free_by, runs_by, before_by, more_chosen, behind, lane_piece}
+use Rattle.txn_replay.specs.World.{Holder, CardRow, LaneRow, World, new_card, new_lane, first_world, card_at, lane_at, with_store}
 use Rattle.txn_replay.specs.declared.event.Event.{Event}
 use Rattle.txn_replay.specs.declared.event.Event.TheVariants.{Turn, Settle, Audit}
-use Rattle.txn_replay.proofs.Exchanging.{Tells, piece_tells}
+use Rattle.txn_replay.proofs.Exchanging.{Tells, StoreTells, lane_tells}
 use Rattle.txn_replay.proofs.Folding.{reached_keeps}
+use Rattle.txn_replay.proofs.Lanes.{piece_lane}
 use Rattle.txn_replay.proofs.Lists.{at_set, get_or-map_const}
+use Rattle.txn_replay.proofs.Sending.{Later, as_is, beginning, messaging}
+use Rattle.txn_replay.proofs.Ways.{lane_ways}
 
 -- a tear of the power-up cuts no decision
 never_cut : (tear : Tear) → tear.commit ≡ 0 → (made : ℕ) (ds : List Decided) → cut_of (Some tear) made ds ≡ None
@@ -89,43 +95,140 @@ module _ (p : Payment) (part : Part) (none : leaves_choice p.planned.tear ≡ fa
     hosts = λ replies runs message asks reply is. closed;
   }
 
-abbrev NoneOpen : ScenarioData → World → Type 0
-NoneOpen s w = (i : ℕ) → (card_at w i).pending ≡ None
+module _ (p : Payment) (part : Part) (none : leaves_choice p.planned.tear ≡ false) (closed : part.card.pending ≡ None) where
+  store_closed : StoreTells p part (Came p part none closed) (Behind p part none closed)
+  store_closed = record {
+    own = tells_closed p part none closed;
+    again = λ one at off. tells_closed p (part_with (opened_to_add part.lane.store one) part) none closed;
+    opened = λ one at off. closed;
+    lost = λ at cut. closed;
+    sent = λ at message. closed;
+    sent_lost = λ at message cut. closed;
+  }
+
+-- a call that a plan without a choice cuts is left undone, or done
+closed_call : (plan : Option Tear) → leaves_choice plan ≡ false → (store : StoreRow) → is_cut plan store ≡ true → (list : List (List ℕ)) (call : Call)
+    → (left_by plan list call).lost ≡ None
+closed_call None none store cut list call = cc
+closed_call (Some tear) none store cut list call = by_commit (tear.commit == 0) refl none
+  where
+    by_place : (at : TearAt) → leaves_open at ≡ false → (left_at at list call).lost ≡ None
+    by_place (Before number) closed = by (number == 1) refl closed
+      where
+        by : (b : Bool) → (number == 1) ≡ b → not b ≡ false → (if b then None else Some call) ≡ None
+        by true is closed = refl
+        by false is closed = cc
+    by_place (Within number) closed = cc
+    by_place Release closed = refl
+
+    by_commit : (b : Bool) → (tear.commit == 0) ≡ b → (not b && leaves_open tear.at) ≡ false → (left_at tear.at list call).lost ≡ None
+    by_commit true first closed =
+        let zero_is : tear.commit ≡ 0 = eqb-true tear.commit 0 first in
+        let next : tear.commit ≡ commit_next store = eqb-true tear.commit (commit_next store) cut in
+        absurd (omega (arith, zero_is, next))
+    by_commit false other closed = by_place tear.at closed
+
+-- behind a call under it no call is lost
+call_closed : (plan : Option Tear) → leaves_choice plan ≡ false → (store : StoreRow) → store.lost ≡ None → (call : Call) → (call_by plan store call).lost ≡ None
+call_closed plan none store closed call = by (is_cut plan store) refl
+  where
+    by : (cut : Bool) → is_cut plan store ≡ cut → (if cut then cut_call plan store call else made_call store call).lost ≡ None
+    by true is = closed_call plan none store is store.list call
+    by false is = closed
+
+ended_closed : (plan : Option Tear) → leaves_choice plan ≡ false → (store : StoreRow) → store.lost ≡ None → (capture : Option (List ℕ)) → (durable : Bool)
+    → (if durable then ended_by plan store capture else store).lost ≡ None
+ended_closed plan none store closed None true = closed
+ended_closed plan none store closed (Some message) true = call_closed plan none store closed (Adds message)
+ended_closed plan none store closed capture false = closed
+
+later_closed : (before lane : LaneRow) → Later before lane → before.store.lost ≡ None → lane.store.lost ≡ None
+later_closed before _ as_is closed = closed
+later_closed before _ (beginning found) closed = closed
+later_closed before _ (messaging message) closed = closed
+
+lane_closed : (p : Payment) (part : Part) → leaves_choice p.planned.terminal_tear ≡ false → part.lane.store.lost ≡ None → (one other : Bool)
+    → (lane_piece p part one other).part.lane.store.lost ≡ None
+lane_closed p part none closed one other =
+    lane_ways (λ m. m.part.lane.store.lost ≡ None) p part
+    closed
+    (λ choice so. piece_closed part choice closed)
+    (λ at off cut. closed)
+    (λ choice at off full. refl)
+    (λ choice second at off room. piece_closed (part_with (opened_to_add part.lane.store choice) part) second refl)
+    (λ at on. delivered part.lane.store.list)
+    one other
+  where
+    piece_closed : (at : Part) (choice : Bool) → at.lane.store.lost ≡ None → (piece p at choice).part.lane.store.lost ≡ None
+    piece_closed at choice is =
+        piece_lane (λ row. row.store.lost ≡ None) p at is
+        (λ lane replies later. later_closed at.lane lane later is)
+        (λ lane replies end later. ended_closed p.planned.terminal_tear none lane.store (later_closed at.lane lane later is) end.capture p.durable) choice
+
+    delivered : (list : List (List ℕ)) → (delivers_first p part list).part.lane.store.lost ≡ None
+    delivered [] = closed
+    delivered (message ∷ others) = by (is_cut p.planned.terminal_tear part.lane.store)
+      where
+        by : (cut : Bool) → (dropped_by p (copied p message part) (copy_lines p message part.messages p.copies) cut).part.lane.store.lost ≡ None
+        by true = call_closed p.planned.terminal_tear none part.lane.store closed Drops
+        by false = call_closed p.planned.terminal_tear none part.lane.store closed Drops
 
 module _ (s : ScenarioData) (leaves : LeavesNone s) where
-  turn_closed : (w : World) (l : ℕ) (choices : List Bool) → NoneOpen s w → (o : Option Payment) → next_of s w l ≡ o
-      → NoneOpen s (turned_by w l choices o).world
+  turn_closed : (w : World) (l : ℕ) (choices : List Bool) → IsClosed w → (o : Option Payment) → next_of s w l ≡ o
+      → IsClosed (turned_by w l choices o).world
   turn_closed w l choices none None is = none
   turn_closed w l choices none (Some p) is =
-      let choice : Bool = choice_in choices 0 in
       let part : Part = part_of w l p.planned.card in
-      let own : leaves_choice p.planned.tear ≡ false = leaves l _ p is in
-      at_set (λ (i : ℕ) (card : CardRow). card.pending ≡ None) w.cards p.planned.card (piece p part choice).part.card new_card
-      (piece_tells p part (Came p part own (none p.planned.card)) (Behind p part own (none p.planned.card)) (tells_closed p part own (none p.planned.card)) choice) none
+      let own : HasNoChoice p = leaves l _ p is in
+      let m : Moved = lane_piece p part (choice_in choices 0) (choice_in choices 1) in
+      record {
+        cards = at_set (λ (i : ℕ) (card : CardRow). card.pending ≡ None) w.cards p.planned.card m.part.card new_card
+            (lane_tells p part (Came p part own.card (none.cards p.planned.card)) (Behind p part own.card (none.cards p.planned.card))
+            (store_closed p part own.card (none.cards p.planned.card)) (choice_in choices 0) (choice_in choices 1)) none.cards;
+        stores = at_set (λ (i : ℕ) (row : LaneRow). row.store.lost ≡ None) w.lanes l m.part.lane new_lane
+            (lane_closed p part own.terminal (none.stores l) (choice_in choices 0) (choice_in choices 1)) none.stores;
+      }
 
-  event_closed : (w : World) (e : Event) (choices : List Bool) → NoneOpen s w → NoneOpen s (happens s w e choices).world
+  event_closed : (w : World) (e : Event) (choices : List Bool) → IsClosed w → IsClosed (happens s w e choices).world
   event_closed w (Turn l) choices none = turn_closed w l choices none (next_of s w l) refl
   event_closed w (Settle k) choices none = by (slice_get (settlements s w) k)
     where
-      by : (o : Option Settlement) → NoneOpen s (settles s w o).world
+      settled : (drops : Bool) (store : StoreRow) → store.lost ≡ None → (settled_store drops store).lost ≡ None
+      settled true store closed = closed
+      settled false store closed = closed
+
+      by : (o : Option Settlement) → IsClosed (settles s w choices o).world
       by None = none
-      by (Some at) = none
+      by (Some (Opens l)) = record {
+        cards = none.cards;
+        stores = at_set (λ (i : ℕ) (row : LaneRow). row.store.lost ≡ None) w.lanes l
+            (with_store (opened_to_settle (lane_at w l).store (choice_in choices 0)) (lane_at w l)) new_lane refl none.stores;
+      }
+      by (Some (Sends l message drops)) = record {
+        cards = none.cards;
+        stores = at_set (λ (i : ℕ) (row : LaneRow). row.store.lost ≡ None) w.lanes l (lane_settled message drops (lane_at w l)) new_lane
+            (settled drops (lane_at w l).store (none.stores l)) none.stores;
+      }
   event_closed w (Audit k) choices none = by (slice_get (checks s) k)
     where
-      with_closed : (i : ℕ) (card : CardRow) → card.pending ≡ None → NoneOpen s (with_card w i card)
-      with_closed i card closed = at_set (λ (j : ℕ) (x : CardRow). x.pending ≡ None) w.cards i card new_card closed none
+      with_closed : (i : ℕ) (card : CardRow) → card.pending ≡ None → IsClosed (with_card w i card)
+      with_closed i card closed =
+          record { cards = at_set (λ (j : ℕ) (x : CardRow). x.pending ≡ None) w.cards i card new_card closed none.cards; stores = none.stores }
 
-      by : (o : Option Check) → NoneOpen s (audits w choices o).world
+      by : (o : Option Check) → IsClosed (audits w choices o).world
       by None = none
       by (Some (PowersUp i card)) = with_closed i _ refl
-      by (Some (Asks i card command)) = with_closed i _ (none i)
+      by (Some (Asks i card command)) = with_closed i _ (none.cards i)
 
-  first_closed : NoneOpen s (first_world s)
-  first_closed i = ap (λ (row : CardRow). row.pending) (get_or-map_const s.cards i new_card)
+  first_closed : IsClosed (first_world s)
+  first_closed = record {
+    cards = λ i. ap (λ (row : CardRow). row.pending) (get_or-map_const s.cards i new_card);
+    stores = λ l. ap (λ (row : LaneRow). row.store.lost) (get_or-map_const s.lanes l new_lane);
+  }
 
 pub none_is_open : NoneIsOpen
-none_is_open s place n choices lines w i leaves reached =
-    reached_keeps s (NoneOpen s) (first_closed s leaves) (event_closed s leaves) place n choices lines w reached i
+none_is_open s place n choices lines w leaves reached =
+    reached_keeps s IsClosed (first_closed s leaves) (event_closed s leaves) place n choices lines w reached
 
 -- the truth value tells nothing then
 found_same : (kept : List Decided) (pending : Option Decided) → pending ≡ None → found_of kept pending true ≡ found_of kept pending false
@@ -158,7 +261,14 @@ audit_found w i card found = record {
   choices = 1;
 }
 
-module _ (s : ScenarioData) (w : World) (none : NoneOpen s w) where
+-- nor does that of an opening
+opened_any : (store : StoreRow) → store.lost ≡ None → (a b : Bool) → opened store a ≡ opened store b
+opened_any store none a b = ap (λ (lost : Option Call). by lost a) none ∙ sym (ap (λ (lost : Option Call). by lost b) none)
+  where
+    by : Option Call → Bool → StoreRow
+    by lost found = record store { list = found_by store.list lost found; lost = None; commits = Some 0 }
+
+module _ (s : ScenarioData) (w : World) (none : IsClosed w) where
   -- whichever truth value is the first
   piece_any : (p : Payment) (part : Part) → part.card.pending ≡ None → (a b : Bool) → piece p part a ≡ piece p part b
   piece_any p part closed true true = refl
@@ -172,6 +282,55 @@ module _ (s : ScenarioData) (w : World) (none : NoneOpen s w) where
   found_any kept pending closed false true = sym (found_same kept pending closed)
   found_any kept pending closed false false = refl
 
+  -- with what comes before a purchase
+  lane_any : (p : Payment) (part : Part) → part.card.pending ≡ None → part.lane.store.lost ≡ None → (a b c d : Bool)
+      → lane_piece p part a c ≡ lane_piece p part b d
+  lane_any p part closed unlost a b c d = by_durable p.durable
+    where
+      same : opened_to_add part.lane.store a ≡ opened_to_add part.lane.store b
+      same = ap (λ (store : StoreRow). record store { due = length store.list == 7 }) (opened_any part.lane.store unlost a b)
+
+      by_due : (due : Bool) → behind p a c (goes_through p part due) ≡ behind p b d (goes_through p part due)
+      by_due true = refl
+      by_due false = piece_any p part closed a b
+
+      by_full : (full : Bool) → behind p a c (opened_for (part_with (opened_to_add part.lane.store b) part) full)
+          ≡ behind p b d (opened_for (part_with (opened_to_add part.lane.store b) part) full)
+      by_full true = refl
+      by_full false = ap more_chosen (piece_any p (part_with (opened_to_add part.lane.store b) part) closed c d)
+
+      by_cut : (cut : Bool) → behind p a c (opens_by p part a cut) ≡ behind p b d (opens_by p part b cut)
+      by_cut true = refl
+      by_cut false =
+          ap (λ (store : StoreRow). behind p a c (opened_for (part_with store part) store.due)) same ∙ by_full (opened_to_add part.lane.store b).due
+
+      by_store : (o : Option ℕ) → behind p a c (stored_by p part a o) ≡ behind p b d (stored_by p part b o)
+      by_store None = by_cut (is_named p.planned.terminal_tear 0)
+      by_store (Some made) = by_due part.lane.store.due
+
+      by_holder : (o : Option Holder) → behind p a c (free_by p part a o) ≡ behind p b d (free_by p part b o)
+      by_holder None = by_store part.lane.store.commits
+      by_holder (Some holder) = refl
+
+      by_running : (o : Option (List Reply)) → behind p a c (runs_by p part a o) ≡ behind p b d (runs_by p part b o)
+      by_running None = by_holder part.card.holder
+      by_running (Some replies) = piece_any p part closed a b
+
+      by_durable : (durable : Bool) → behind p a c (before_by p part a durable) ≡ behind p b d (before_by p part b durable)
+      by_durable false = piece_any p part closed a b
+      by_durable true = by_running part.lane.running
+
+  settled_any : (choices others : List Bool) (o : Option Settlement) → settles s w choices o ≡ settles s w others o
+  settled_any choices others None = refl
+  settled_any choices others (Some (Opens l)) =
+      ap (λ (store : StoreRow). settled_with_store l (record store { found = Some store.list }))
+      (opened_any (lane_at w l).store (none.stores l) (choice_in choices 0) (choice_in others 0))
+    where
+      settled_with_store : ℕ → StoreRow → After
+      settled_with_store lane store =
+          record { world = with_lane w lane (with_store store (lane_at w lane)); lines = []; choices = 1 }
+  settled_any choices others (Some (Sends l message drops)) = refl
+
   happens_same : (e : Event) (choices others : List Bool) → happens s w e choices ≡ happens s w e others
   happens_same (Turn l) choices others = by (next_of s w l)
     where
@@ -179,15 +338,16 @@ module _ (s : ScenarioData) (w : World) (none : NoneOpen s w) where
       by None = refl
       by (Some p) =
           ap (λ (m : Moved). moved w l p.planned.card m)
-          (piece_any p (part_of w l p.planned.card) (none p.planned.card) (choice_in choices 0) (choice_in others 0))
-  happens_same (Settle k) choices others = refl
+          (lane_any p (part_of w l p.planned.card) (none.cards p.planned.card) (none.stores l) (choice_in choices 0) (choice_in others 0)
+          (choice_in choices 1) (choice_in others 1))
+  happens_same (Settle k) choices others = settled_any choices others (slice_get (settlements s w) k)
   happens_same (Audit k) choices others = by (slice_get (checks s) k)
     where
       by : (o : Option Check) → audits w choices o ≡ audits w others o
       by None = refl
       by (Some (PowersUp i card)) =
           ap (λ (found : List Decided). audit_found w i card found)
-          (found_any (card_at w i).kept (card_at w i).pending (none i) (choice_in choices 0) (choice_in others 0))
+          (found_any (card_at w i).kept (card_at w i).pending (none.cards i) (choice_in choices 0) (choice_in others 0))
       by (Some (Asks i card command)) = refl
 
 -- how far a run is, with its lines and its world
@@ -250,7 +410,7 @@ module _ (s : ScenarioData) where
 
   module _ (some : 1 ≤ length s.lanes) (leaves : LeavesNone s) where
     -- with whatever truth value an event is made
-    made : (at : At) (place : Place) (e : Event) (c : List Bool) (new : List Line) (after : World) → NoneOpen s at.world → Step s at.world e c new after
+    made : (at : At) (place : Place) (e : Event) (c : List Bool) (new : List Line) (after : World) → IsClosed at.world → Step s at.world e c new after
         → goes at place e ≡ record { place = place; count = at.count + 1; lines = at.lines ++ new; world = after }
     made at place e c new after none step =
         let same : happens s at.world e c ≡ happens s at.world e [] = happens_same s at.world none e c [] in
@@ -269,7 +429,7 @@ module _ (s : ScenarioData) where
         by true is = absurd (let same : l ≡ n = eqb-true l n is in omega arith)
         by false is = refl
 
-    going : (at : At) (place : Place) (e : Event) (c : List Bool) (new : List Line) (after : World) → NoneOpen s at.world → Step s at.world e c new after
+    going : (at : At) (place : Place) (e : Event) (c : List Bool) (new : List Line) (after : World) → IsClosed at.world → Step s at.world e c new after
         → Leads at → next at ≡ Some (goes at place e) → Leads (record { place = place; count = at.count + 1; lines = at.lines ++ new; world = after })
     going at place e c new after none step leads is = further at _ leads (is ∙ ap (λ (x : At). Some x) (made at place e c new after none step))
 
@@ -279,14 +439,14 @@ module _ (s : ScenarioData) where
     run_leads _ _ _ _ _ start = record { count = 0; is = refl }
     run_leads _ _ _ _ _ (scheduled {k} {l} {n} {cs} {c} {ls} {new} {w = v} {w' = v'} before at step) =
         going (record { place = Scheduled k; count = n; lines = ls; world = v }) (Scheduled (k + 1)) (Turn l) c new v'
-        (λ i. none_is_open s _ n cs ls v i leaves before) step (run_leads _ n cs ls v before)
+        (none_is_open s _ n cs ls v leaves before) step (run_leads _ n cs ls v before)
         (ap (by_schedule (record { place = Scheduled k; count = n; lines = ls; world = v }) k) at)
     run_leads _ _ _ _ _ (rounds {n} {cs} {ls} {w = v} before) =
         let at : At = record { place = Scheduled (length s.schedule); count = n; lines = ls; world = v } in
         further at _ (run_leads _ n cs ls v before) (ap (by_schedule at (length s.schedule)) (past_end s.schedule))
     run_leads _ _ _ _ _ (round {l} {n} {cs} {c} {ls} {new} {w = v} {w' = v'} before inside busy step) =
         let at : At = record { place = Round l; count = n; lines = ls; world = v } in
-        going at (Round (l + 1)) (Turn l) c new v' (λ i. none_is_open s _ n cs ls v i leaves before) step (run_leads _ n cs ls v before)
+        going at (Round (l + 1)) (Turn l) c new v' (none_is_open s _ n cs ls v leaves before) step (run_leads _ n cs ls v before)
         (ap (λ b. by_round at l b ((l == 0) && all_over s v)) (unlike l (length s.lanes) inside) ∙ ap (by_round at l false) (not_over (l == 0) refl))
       where
         not_over : (b : Bool) → (l == 0) ≡ b → (b && all_over s v) ≡ false
@@ -302,14 +462,14 @@ module _ (s : ScenarioData) where
         (ap (λ b. by_round at 0 b (true && all_over s v)) (unlike 0 (length s.lanes) (omega arith)) ∙ ap (by_round at 0 false) over)
     run_leads _ _ _ _ _ (settling {k} {n} {cs} {c} {ls} {new} {w = v} {w' = v'} before at step) =
         going (record { place = Settling k; count = n; lines = ls; world = v }) (Settling (k + 1)) (Settle k) c new v'
-        (λ i. none_is_open s _ n cs ls v i leaves before) step (run_leads _ n cs ls v before)
+        (none_is_open s _ n cs ls v leaves before) step (run_leads _ n cs ls v before)
         (ap (by_settlement (record { place = Settling k; count = n; lines = ls; world = v }) k) at)
     run_leads _ _ _ _ _ (audit {k} {n} {cs} {ls} {w = v} before past) =
         let at : At = record { place = Settling k; count = n; lines = ls; world = v } in
         further at _ (run_leads _ n cs ls v before) (ap (by_settlement at k) past)
     run_leads _ _ _ _ _ (auditing {k} {n} {cs} {c} {ls} {new} {w = v} {w' = v'} before at step) =
         going (record { place = Auditing k; count = n; lines = ls; world = v }) (Auditing (k + 1)) (Audit k) c new v'
-        (λ i. none_is_open s _ n cs ls v i leaves before) step (run_leads _ n cs ls v before)
+        (none_is_open s _ n cs ls v leaves before) step (run_leads _ n cs ls v before)
         (ap (by_check (record { place = Auditing k; count = n; lines = ls; world = v }) k) at)
     run_leads _ _ _ _ _ (finished {k} {n} {cs} {ls} {w = v} before past) =
         let at : At = record { place = Auditing k; count = n; lines = ls; world = v } in
@@ -340,14 +500,18 @@ module _ (s : ScenarioData) where
       by (inr past) (inl above) = absurd (never y x there.count here.count other there.is here.is above)
       by (inr past) (inr most) = let same : here.count ≡ there.count = omega arith in same_Some x y (sym here.is ∙ ap steps same ∙ there.is)
 
+-- two runs that have come to the end have the same lines and world
+pub ends_are_one : (s : ScenarioData) → 1 ≤ length s.lanes → LeavesNone s → (n m : ℕ) (cs ds : List Bool) (ls ms : List Line) (w v : World)
+    → Reached s Finished n cs ls w → Reached s Finished m ds ms v → IsSameRun ls ms w v
+ends_are_one s some leaves n m cs ds ls ms w v one other =
+    let x : At = record { place = Finished; count = n; lines = ls; world = w } in
+    let y : At = record { place = Finished; count = m; lines = ms; world = v } in
+    let same : x ≡ y =
+    only s x y refl refl (run_leads s some leaves Finished n cs ls w one) (run_leads s some leaves Finished m ds ms v other) in
+    record { told = ap (λ (at : At). at.lines) same; led = ap (λ (at : At). at.world) same }
+
 pub run_is_one : RunIsOne
 run_is_one s lines others w v fits leaves one other =
-    let x : At = record { place = Finished; count = one.count; lines = one.reported; world = w } in
-    let y : At = record { place = Finished; count = other.count; lines = other.reported; world = v } in
-    let same : x ≡ y =
-    only s x y refl refl (run_leads s fits.tables.some_lane leaves Finished one.count one.choices one.reported w one.reached)
-    (run_leads s fits.tables.some_lane leaves Finished other.count other.choices other.reported v other.reached) in
-    record {
-      told = one.whole ∙ ap (λ (at : At). at.lines ++ closing s at.world) same ∙ sym other.whole;
-      led = ap (λ (at : At). at.world) same;
-    }
+    let same : IsSameRun one.reported other.reported w v =
+    ends_are_one s fits.tables.some_lane leaves one.count other.count one.choices other.choices one.reported other.reported w v one.reached other.reached in
+    record { told = one.whole ∙ (λ i. same.told i ++ closing s (same.led i)) ∙ sym other.whole; led = same.led }

@@ -30,7 +30,7 @@ use Rattle.txn_replay.specs.Bounds.{purchases_in}
 use Rattle.txn_replay.specs.Payment.{Payment, payment_with, payment_of, payment_on, payment_in, next_of, deal_for}
 use Rattle.txn_replay.specs.Reading.{data_by, data_at, data_after}
 use Rattle.txn_replay.specs.Run.{lane_over, all_below, all_over, ended_count}
-use Rattle.txn_replay.specs.Seen.{WorldSeen, RunFor, LaneAt, WorldStands, is_lane_done, done_below, is_done, PagesAre, BankStands, plan_for}
+use Rattle.txn_replay.specs.Seen.{WorldSeen, RunFor, LaneAt, WorldStands, is_lane_done, done_below, is_done, PagesAre, plan_for}
 use Rattle.txn_replay.specs.Slot.{SlotSeen, OfApps, OfCanned, SlotOn, SlotOff, IsSlotOf, HasLost}
 use Rattle.txn_replay.specs.Sound.{RunsIn}
 use Rattle.txn_replay.specs.Standing.{RunStands, PlaceStands, card_in}
@@ -211,9 +211,11 @@ pages_are (OfApps chip) memory card row plan left is lost stands =
 pages_are (OfCanned canned) memory card row plan left is lost stands =
     subst (λ (o : Option (List (List ℕ))). PagesAre memory card row o) (sym is.0) (subst (λ (m : Memory). IsBlank m) (sym left) is.1)
 
-pub given_stands : (v : WorldSeen) (w : World) (bank : List Memory) → WorldStands v w → length v.slots ≡ length v.scenario.cards → AreGiven v.slots 0 bank
-    → BankStands v.scenario w bank
-given_stands v w bank stands count given = λ i card is.
+-- each card's pages, at its place
+pub given_cards : (v : WorldSeen) (w : World) (bank : List Memory) → WorldStands v w → length v.slots ≡ length v.scenario.cards → AreGiven v.slots 0 bank
+    → (i : ℕ) (card : CardData) → slice_get v.scenario.cards i ≡ Some card
+    → (memory : Memory) × (slice_get bank i ≡ Some memory) × PagesAre memory card (card_at w i) card.canned
+given_cards v w bank stands count given i card is =
     let within : i < length v.slots = (let a : i < length v.scenario.cards = slice_get_within v.scenario.cards i card is in omega arith) in
     let slot = some_at v.slots i within in
     let one = given i slot.0 (omega arith) slot.1 in

@@ -1,29 +1,37 @@
--- Rows worked out from the definitions: a run without cards and lanes, one whose only power-up is cut, and one with a card
--- that has no canned answer.
-use Rattle.std.proofs.Common.{◌≡◌, Bool, true, false, List, [], ◌∷◌, ◌++◌, Some, None, refl, arith}
+-- Rows worked out from the definitions: a run without cards and lanes, one whose only power-up is cut, one with a card that
+-- has no canned answer, one whose store is lost at its opening, and steps of a lane with its store.
+use Rattle.std.proofs.Common.{◌≡◌, ℕ, Bool, true, false, List, [], ◌∷◌, ◌++◌, Option, Some, None, refl, arith}
 use Rattle.std.specs.Prelude.{codes}
 use Rattle.app_select.specs.Selecting.{listing}
-use Rattle.emv_dict.specs.declared.ending.Ending.TheVariants.{CutOff}
+use Rattle.capture_store.specs.Calls.{Drops}
+use Rattle.capture_store.specs.StoreRow.{StoreRow}
+use Rattle.emv_dict.specs.Views.{SettingsData}
+use Rattle.emv_dict.specs.declared.ending.Ending.TheVariants.{Approved, CutOff}
 use Rattle.emv_dict.specs.declared.ending.Step.TheVariants as step
 use Rattle.emv_dict.specs.declared.purchase.AidRow.{AidRow}
-use Rattle.emv_ports.specs.declared.tear.TearAt.TheVariants.{Before}
+use Rattle.emv_ports.specs.declared.tear.Tear.{Tear}
+use Rattle.emv_ports.specs.declared.tear.TearAt.TheVariants.{Before, Within, Release}
 use Rattle.issuer_host.specs.declared.keys.HostKeys.{HostKeys}
 use Rattle.kernel.specs.Course.{card_step}
 use Rattle.kernel.specs.Dialogue.{dialogue}
+use Rattle.kernel.specs.Ended.{EndData}
 use Rattle.pse_directory.specs.Directory.{selecting_by}
 use Rattle.report_text.specs.declared.line.EndParts.{EndParts}
 use Rattle.report_text.specs.declared.line.Line.{Line}
-use Rattle.report_text.specs.declared.line.Line.TheVariants.{PowerCanned, PowerTorn, ToCard, Gone, End, AuditPower, Done}
+use Rattle.report_text.specs.declared.line.Line.TheVariants.{PowerCanned, PowerTorn, ToCard, Gone, End, EndLost, AuditPower, Done}
 use Rattle.scenario.specs.Cards.{no_image}
 use Rattle.scenario.specs.Plan.{ScenarioData}
 use Rattle.scenario_lanes.specs.declared.plan.Link.TheVariants.{Sound}
 use Rattle.scenario_lanes.specs.declared.plan.Planned.{Planned}
 use Rattle.card_state.specs.Totals.{totals, apps_totals}
-use Rattle.txn_replay.specs.Payment.{payment_in}
-use Rattle.txn_replay.specs.Run.{start, rounds, round, again, settlement, audit, auditing, finished, Run}
+use Rattle.txn_replay.specs.Part.{Part, lane_ended, ended_with}
+use Rattle.txn_replay.specs.Payment.{Payment, payment_in}
+use Rattle.txn_replay.specs.Run.{start, rounds, round, again, settlement, settling, audit, auditing, finished, Run}
 use Rattle.txn_replay.specs.Steps.{settlements_from, checks_from, happens}
-use Rattle.txn_replay.specs.World.{World, first_world}
-use Rattle.txn_replay.specs.declared.event.Event.TheVariants.{Turn, Audit}
+use Rattle.txn_replay.specs.Storing.{delivers, lane_piece}
+use Rattle.terminal_state.specs.Marks.{MomentData}
+use Rattle.txn_replay.specs.World.{World, LaneRow, first_world, new_card, new_lane}
+use Rattle.txn_replay.specs.declared.event.Event.TheVariants.{Turn, Settle, Audit}
 
 abbrev no_keys : HostKeys
 no_keys = record { ac = []; mac = []; enc = []; pin = [] }
@@ -70,6 +78,19 @@ cut = record {
   card = 0;
   link = Sound;
   tear = Some (record { commit = 0; at = Before 1 });
+  terminal_tear = None;
+}
+
+abbrev usual : SettingsData
+usual = record {
+  kind = 22;
+  country = 8 ∷ 0x40 ∷ [];
+  caps = 0 ∷ 0 ∷ 0 ∷ [];
+  id = codes "TERM0001";
+  pin_key = [];
+  exceptions = [];
+  aids = row ∷ [];
+  pse = false;
 }
 
 abbrev cut_once : ScenarioData
@@ -77,20 +98,7 @@ cut_once = record {
   issuer = no_keys;
   accounts = [];
   cards = record { name = codes "c1"; image = no_image; canned = None } ∷ [];
-  lanes = record {
-    settings = record {
-      kind = 22;
-      country = 8 ∷ 0x40 ∷ [];
-      caps = 0 ∷ 0 ∷ 0 ∷ [];
-      id = codes "TERM0001";
-      pin_key = [];
-      exceptions = [];
-      aids = row ∷ [];
-      pse = false;
-    };
-    purchases = cut ∷ [];
-    iso = false;
-  } ∷ [];
+  lanes = record { settings = usual; purchases = cut ∷ []; iso = false; durable = false } ∷ [];
   schedule = [];
   copies = 1;
 }
@@ -179,3 +187,145 @@ silent_runs = record {
       refl;
   whole = refl;
 }
+
+-- the same purchase in a lane that keeps its captures durably, with this plan for its terminal
+abbrev planned_with : Option Tear → Planned
+planned_with plan = record cut { terminal_tear = plan }
+
+abbrev durable_once : Option Tear → ScenarioData
+durable_once plan = record cut_once {
+  lanes = record { settings = usual; purchases = planned_with plan ∷ []; iso = false; durable = true } ∷ [];
+}
+
+-- the opening is cut: `L0 end 1 lost`, and the card isn't powered up
+abbrev at_opening : ScenarioData
+at_opening = durable_once (Some (record { commit = 0; at = Before 1 }))
+
+lost_happens : (choices : List Bool) → (happens at_opening (first_world at_opening) (Turn 0) choices).lines ≡ EndLost 0 1 ∷ []
+unfolding payment_in
+lost_happens choices = refl
+
+abbrev lost_world : World
+lost_world = (happens at_opening (first_world at_opening) (Turn 0) []).world
+
+-- the settlement opens the store, a step without a line, and finds no message
+abbrev opened_world : World
+opened_world = (happens at_opening lost_world (Settle 0) (false ∷ [])).world
+
+abbrev lost_audited : World
+lost_audited = (happens at_opening opened_world (Audit 0) (true ∷ [])).world
+
+lost_runs : Run at_opening (EndLost 0 1 ∷ AuditPower (record { items = codes "c1" }) (record { items = [] }) ∷ Done 1 ∷ []) lost_audited
+unfolding payment_in settlements_from checks_from totals apps_totals
+lost_runs = record {
+  count = 3;
+  choices = false ∷ true ∷ [];
+  reported = EndLost 0 1 ∷ AuditPower (record { items = codes "c1" }) (record { items = [] }) ∷ [];
+  reached = finished
+      (auditing {c = true ∷ []}
+      (audit
+      (settling {c = false ∷ []}
+      (settlement
+      (again
+      (round {l = 0} {c = []} {new = EndLost 0 1 ∷ []} {w' = lost_world} (rounds start) (omega arith) (λ first. refl)
+      (record { taken = refl; made = refl; leads = refl })))
+      refl)
+      refl (record { taken = refl; made = refl; leads = refl }))
+      refl)
+      refl (record { taken = refl; made = refl; leads = refl }))
+      refl;
+  whole = refl;
+}
+
+-- without a loss the opening takes a truth value, and the purchase goes on in the same turn
+opened_lines : (choices : List Bool) → (happens (durable_once None) (first_world (durable_once None)) (Turn 0) choices).lines ≡ cut_lines
+unfolding payment_in dialogue card_step listing selecting_by
+opened_lines choices = refl
+
+opened_choices : (choices : List Bool) → (happens (durable_once None) (first_world (durable_once None)) (Turn 0) choices).choices ≡ 1
+unfolding payment_in dialogue card_step listing selecting_by
+opened_choices choices = refl
+
+-- a purchase of the lane with this plan, and the lane with its store open behind so many commits
+abbrev paid : Option Tear → Payment
+paid plan = record {
+  issuer = no_keys;
+  accounts = [];
+  copies = 2;
+  lane = 0;
+  iso = false;
+  durable = true;
+  settings = usual;
+  planned = planned_with plan;
+  card = record { name = codes "c1"; image = no_image; canned = None };
+}
+
+abbrev open_with : List (List ℕ) → ℕ → Bool → StoreRow
+open_with list commits due = record { list = list; lost = None; commits = Some commits; due = due; found = None }
+
+abbrev lane_with : StoreRow → LaneRow
+lane_with store = record new_lane { store = store }
+
+abbrev part_with : StoreRow → Part
+part_with store = record { lane = lane_with store; card = new_card; messages = [] }
+
+-- an approval that is to be captured
+abbrev approved : MomentData → EndData
+approved moment = record { ending = Approved true; moment = moment; card = None; capture = Some (7 ∷ 8 ∷ []) }
+
+-- its message is added, and the store is turned off
+added : (moment : MomentData) →
+    (lane_ended (paid None) [] (approved moment) (lane_with (open_with [] 0 false))).store
+    ≡ record { list = (7 ∷ 8 ∷ []) ∷ []; lost = None; commits = None; due = false; found = None }
+added moment = refl
+
+-- the adding is cut before its first write: the purchase is lost, and its message with it
+lost_before : (moment : MomentData) →
+    (lane_ended (paid (Some (record { commit = 1; at = Before 1 }))) [] (approved moment) (lane_with (open_with [] 0 false))).store
+    ≡ record { list = []; lost = None; commits = None; due = false; found = None }
+lost_before moment = refl
+
+lost_line : (moment : MomentData) →
+    (ended_with (paid (Some (record { commit = 1; at = Before 1 }))) [] (approved moment) (part_with (open_with [] 0 false)) []).lines
+    ≡ EndLost 0 1 ∷ []
+lost_line moment = refl
+
+-- at its release: the purchase is lost, and its message is stored
+lost_release : (moment : MomentData) →
+    (lane_ended (paid (Some (record { commit = 1; at = Release }))) [] (approved moment) (lane_with (open_with [] 0 false))).store
+    ≡ record { list = (7 ∷ 8 ∷ []) ∷ []; lost = None; commits = None; due = false; found = None }
+lost_release moment = refl
+
+-- the plan names a commit that isn't reached: nothing is lost
+unreached : (moment : MomentData) →
+    (lane_ended (paid (Some (record { commit = 2; at = Before 1 }))) [] (approved moment) (lane_with (open_with [] 0 false))).store.list
+    ≡ (7 ∷ 8 ∷ []) ∷ []
+unreached moment = refl
+
+abbrev seven : List (List ℕ)
+seven = (1 ∷ []) ∷ (2 ∷ []) ∷ (3 ∷ []) ∷ (4 ∷ []) ∷ (5 ∷ []) ∷ (6 ∷ []) ∷ (7 ∷ []) ∷ []
+
+abbrev six : List (List ℕ)
+six = (2 ∷ []) ∷ (3 ∷ []) ∷ (4 ∷ []) ∷ (5 ∷ []) ∷ (6 ∷ []) ∷ (7 ∷ []) ∷ []
+
+-- a full store is opened in a turn of its own
+full_opens : (other : Bool) →
+    lane_piece (paid None) (part_with (record { list = seven; lost = None; commits = None; due = false; found = None })) true other
+    ≡ record { part = part_with (open_with seven 0 true); lines = []; choices = 1 }
+full_opens other = refl
+
+-- the next one delivers its first message in two copies and drops it
+full_delivers : (one other : Bool) →
+    (lane_piece (paid None) (part_with (open_with seven 0 true)) one other).part
+    ≡ record {
+      lane = record (lane_with (open_with six 1 false)) { sent = (1 ∷ []) ∷ (1 ∷ []) ∷ [] };
+      card = new_card;
+      messages = (1 ∷ []) ∷ (1 ∷ []) ∷ [];
+    }
+full_delivers one other = refl
+
+-- the drop is cut within a write: the purchase is lost, and the next opening may find the message dropped or not
+drop_lost : (one other : Bool) →
+    (lane_piece (paid (Some (record { commit = 1; at = Within 2 }))) (part_with (open_with seven 0 true)) one other).part.lane.store
+    ≡ record { list = seven; lost = Some Drops; commits = None; due = false; found = None }
+drop_lost one other = refl

@@ -1,5 +1,5 @@
 -- How much a run comes to, by its scenario (this project's own).
-use Rattle.std.specs.Prelude.{◌≡◌, ℕ, ◌*◌, ◌≤◌, Bool, List, length, slice_get, Option, Some, None}
+use Rattle.std.specs.Prelude.{◌≡◌, ℕ, ◌+◌, ◌*◌, ◌≤◌, Bool, List, length, slice_get, Option, Some, None}
 use Rattle.report_text.specs.declared.line.Line.{Line}
 use Rattle.scenario.specs.Plan.{ScenarioData, IsScenario}
 use Rattle.scenario_lanes.specs.Plan.{LaneData, purchase_count}
@@ -21,7 +21,8 @@ pub record IsFewIn (s : ScenarioData) (l : ℕ) (row : LaneRow) : Type 0 where
 pub record IsFew (s : ScenarioData) (w : World) : Type 0 where
   pub lanes : (l : ℕ) (row : LaneRow) → slice_get w.lanes l ≡ Some row → IsFewIn s l row
   pub ended : ended_count w ≤ purchase_count s.lanes
-  pub settlements : length (settlements s w) ≤ s.copies * purchase_count s.lanes
+  -- the captures of each lane, or the opening of its store and what it may have found
+  pub settlements : 1 ≤ s.copies → length (settlements s w) ≤ s.copies * purchase_count s.lanes + (1 + s.copies * 7) * length s.lanes
 
 -- so in every world that a run comes to
 abbrev pub WorldsAreFew : Type 0
@@ -29,11 +30,12 @@ WorldsAreFew =
     (s : ScenarioData) (place : Place) (n : ℕ) (choices : List Bool) (lines : List Line) (w : World)
     → Reached s place n choices lines w → IsFew s w
 
--- at most 30,000 settlement messages: three copies of 10,000
+-- at most 30,352 steps of the settlement: three copies of 10,000 messages, and for each of 16 lanes an opening and three
+-- copies of seven
 abbrev pub SettlementsAreFew : Type 0
 SettlementsAreFew =
     (s : ScenarioData) (place : Place) (n : ℕ) (choices : List Bool) (lines : List Line) (w : World)
-    → IsScenario s → Reached s place n choices lines w → length (settlements s w) ≤ 30000
+    → IsScenario s → Reached s place n choices lines w → length (settlements s w) ≤ 30352
 
 -- and at most 832 steps of an audit: 64 power-ups, and three commands for each of four applications of a card
 abbrev pub ChecksAreFew : Type 0

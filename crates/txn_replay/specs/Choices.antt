@@ -7,27 +7,36 @@ use Rattle.report_text.specs.declared.line.Line.{Line}
 use Rattle.scenario.specs.Plan.{ScenarioData, IsScenario}
 use Rattle.txn_replay.specs.Payment.{Payment, payment_in}
 use Rattle.txn_replay.specs.Run.{Place, Reached, Run}
-use Rattle.txn_replay.specs.World.{World, card_at}
+use Rattle.txn_replay.specs.World.{World, card_at, lane_at}
 
--- nothing of a decision that is cut before its first write is left, and one whose release is cut is kept
+-- nothing of a decision or a call that is cut before its first write is left, and one whose release is cut is kept
 abbrev pub leaves_open : TearAt → Bool
 leaves_open (Before number) = not (number == 1)
 leaves_open (Within number) = true
 leaves_open Release = false
 
--- a tear of the power-up cuts no decision
+-- a tear of the power-up, or of an opening, cuts none
 abbrev pub leaves_choice : Option Tear → Bool
 leaves_choice None = false
 leaves_choice (Some tear) = not (tear.commit == 0) && leaves_open tear.at
 
-abbrev pub LeavesNone : ScenarioData → Type 0
-LeavesNone s = (l number : ℕ) (p : Payment) → payment_in s l number ≡ Some p → leaves_choice p.planned.tear ≡ false
+-- neither the tear of its card nor that of its terminal leaves one
+pub record HasNoChoice (p : Payment) : Type 0 where
+  pub card : leaves_choice p.planned.tear ≡ false
+  pub terminal : leaves_choice p.planned.terminal_tear ≡ false
 
--- no card has a decision that may be kept or not
+abbrev pub LeavesNone : ScenarioData → Type 0
+LeavesNone s = (l number : ℕ) (p : Payment) → payment_in s l number ≡ Some p → HasNoChoice p
+
+-- no card has a decision that may be kept or not, and no store a lost call
+pub record IsClosed (w : World) : Type 0 where
+  pub cards : (i : ℕ) → (card_at w i).pending ≡ None
+  pub stores : (l : ℕ) → (lane_at w l).store.lost ≡ None
+
 abbrev pub NoneIsOpen : Type 0
 NoneIsOpen =
-    (s : ScenarioData) (place : Place) (n : ℕ) (choices : List Bool) (lines : List Line) (w : World) (i : ℕ)
-    → LeavesNone s → Reached s place n choices lines w → (card_at w i).pending ≡ None
+    (s : ScenarioData) (place : Place) (n : ℕ) (choices : List Bool) (lines : List Line) (w : World)
+    → LeavesNone s → Reached s place n choices lines w → IsClosed w
 
 -- two runs have the same lines, and lead to the same world
 pub record IsSameRun (lines others : List Line) (w v : World) : Type 0 where

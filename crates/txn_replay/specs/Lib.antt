@@ -3,6 +3,8 @@ pub mod Payment
 pub mod Lines
 pub mod Changes
 pub mod Part
+pub mod Stocking
+pub mod Storing
 pub mod Steps
 pub mod Run
 pub mod Reading
@@ -13,7 +15,11 @@ pub mod Telling
 pub mod Told
 pub mod Choices
 pub mod Bounds
+pub mod Stored
+pub mod Captured
 pub mod Standing
+pub mod Prepared
+pub mod Settling
 pub mod Audited
 pub mod Banked
 pub mod Seen
@@ -22,3 +28,5 @@ pub mod SeenSlot
 pub mod Called
 pub mod PagesTell
 pub mod Respelled
+pub mod Alone
+pub mod StandAlone

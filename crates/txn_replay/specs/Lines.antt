@@ -1,5 +1,5 @@
 -- The lines of a report that a run makes (this project's own).
-use Rattle.std.specs.Prelude.{ℕ, Bool, List, [], ◌∷◌, map, Option, Some, None, option_map}
+use Rattle.std.specs.Prelude.{ℕ, Bool, if◌then◌else◌, List, [], ◌∷◌, map, Option, Some, None, option_map}
 use Rattle.std.specs.List.{zip}
 use Rattle.std.specs.Option.{option_and}
 use Rattle.card_files.specs.Files.{opening_of}
@@ -13,7 +13,7 @@ use Rattle.host_link.specs.Dialect.{call_in, reply_in}
 use Rattle.kernel.specs.Ended.{EndData}
 use Rattle.report_text.specs.declared.line.EndParts.{EndParts}
 use Rattle.report_text.specs.declared.line.Line.{Line}
-use Rattle.report_text.specs.declared.line.Line.TheVariants.{Power, PowerCanned, PowerTorn, ToCard, FromCard, Torn, Gone, ToHost, FromHost, NoReply, End, AuditPower, AuditAsk, AuditAnswer, SettleCall, SettleReply}
+use Rattle.report_text.specs.declared.line.Line.TheVariants.{Power, PowerCanned, PowerTorn, ToCard, FromCard, Torn, Gone, ToHost, FromHost, NoReply, End, EndLost, AuditPower, AuditAsk, AuditAnswer, SettleCall, SettleReply}
 use Rattle.report_text.specs.declared.line.Shown.{Shown}
 use Rattle.scenario.specs.Cards.{CardData}
 
@@ -87,6 +87,10 @@ end_parts end = record {
 -- the lane's purchase of this number, from 1, has ended
 abbrev pub end_line : ℕ → ℕ → EndData → Line
 end_line lane number end = End lane number (end_parts end)
+
+-- it has ended and was lost, or its outcome is told
+abbrev pub outcome_line : Bool → ℕ → ℕ → EndData → Line
+outcome_line lost lane number end = (if lost then EndLost lane number else end_line lane number end)
 
 -- a message of a lane's settlement, and its reply
 abbrev pub settle_wire_lines : ℕ → List ℕ → List ℕ → List Line

@@ -1,5 +1,6 @@
 -- One exchange of a lane, on what it touches (this project's own).
-use Rattle.std.specs.Prelude.{ℕ, ◌+◌, Bool, true, false, List, [], ◌∷◌, ◌++◌, length, slice_get, Option, Some, None, option_to_list}
+use Rattle.std.specs.Prelude.{ℕ, ◌+◌, Bool, true, false, ◌&&◌, if◌then◌else◌, List, [], ◌∷◌, ◌++◌, length, slice_get, Option, Some, None, option_to_list}
+use Rattle.capture_store.specs.StoreRow.{StoreRow, is_cut, ended_by}
 use Rattle.card_app.specs.Answering.{card_answer}
 use Rattle.card_pages.specs.Cuts.{Cut, cut_of}
 use Rattle.card_pages.specs.Pages.{found_of}
@@ -10,6 +11,7 @@ use Rattle.emv_dict.specs.declared.ending.Ending.{Ending}
 use Rattle.emv_dict.specs.declared.ending.Ending.TheVariants.{Approved, Declined, Terminated, CutOff}
 use Rattle.emv_dict.specs.declared.purchase.Logged.{Logged}
 use Rattle.emv_ports.specs.Cut.{is_named}
+use Rattle.emv_ports.specs.declared.tear.Tear.{Tear}
 use Rattle.host_link.specs.Delivery.{delivered, heard}
 use Rattle.issuer_host.specs.History.{host_reply}
 use Rattle.kernel.specs.Dialogue.{dialogue}
@@ -18,7 +20,7 @@ use Rattle.kernel.specs.Reply.{Reply, CardSaid, CardGone, from_host, Deed, ToCar
 use Rattle.object_lists.specs.CardRead.{ReadCard}
 use Rattle.report_text.specs.declared.line.Line.{Line}
 use Rattle.txn_replay.specs.Changes.{powered, exchanged, told_once, torn, lost, freed}
-use Rattle.txn_replay.specs.Lines.{power_line, power_canned_line, power_torn_line, answer_lines, torn_lines, gone_lines, host_lines, end_line}
+use Rattle.txn_replay.specs.Lines.{power_line, power_canned_line, power_torn_line, answer_lines, torn_lines, gone_lines, host_lines, outcome_line}
 use Rattle.txn_replay.specs.Payment.{Payment, deal_for, end_at}
 use Rattle.txn_replay.specs.World.{Holder, CardRow, LaneRow, with_sent}
 
@@ -49,21 +51,30 @@ approval purchase (Declined online) card = []
 approval purchase (Terminated step cause) card = []
 approval purchase (CutOff step) card = []
 
--- the purchase has ended
+-- the power of a terminal is cut as its store adds this capture
+abbrev pub loses_by : Option Tear → StoreRow → Option (List ℕ) → Bool
+loses_by plan store None = false
+loses_by plan store (Some message) = is_cut plan store
+
+abbrev pub loses : Payment → StoreRow → Option (List ℕ) → Bool
+loses p store capture = p.durable && loses_by p.planned.terminal_tear store capture
+
+-- the purchase has ended: what it captures is in the store, or waits for settlement; one that is lost joins no log
 abbrev pub lane_ended : Payment → List Reply → EndData → LaneRow → LaneRow
 lane_ended p replies end lane = record {
-  ended = lane.ended ++ record { began = lane.began; replies = replies; end = end } ∷ [];
+  ended = lane.ended ++ record { began = lane.began; replies = replies; end = Some end; lost = loses p lane.store end.capture } ∷ [];
   running = None;
   began = None;
-  log = lane.log ++ approval p.planned.purchase end.ending end.card;
-  captures = lane.captures ++ option_to_list end.capture;
+  log = lane.log ++ (if loses p lane.store end.capture then [] else approval p.planned.purchase end.ending end.card);
+  captures = lane.captures ++ (if p.durable then [] else option_to_list end.capture);
   sent = lane.sent;
+  store = (if p.durable then ended_by p.planned.terminal_tear lane.store end.capture else lane.store);
 }
 
 abbrev pub ended_with : Payment → List Reply → EndData → Part → List Line → Moved
 ended_with p replies end part lines = record {
   part = record { lane = lane_ended p replies end part.lane; card = freed part.card; messages = part.messages };
-  lines = lines ++ end_line p.lane (length part.lane.ended + 1) end ∷ [];
+  lines = lines ++ outcome_line (loses p part.lane.store end.capture) p.lane (length part.lane.ended + 1) end ∷ [];
   choices = 0;
 }
 
@@ -167,6 +178,6 @@ abbrev pub piece_by : Payment → Part → Bool → Option (List Reply) → Move
 piece_by p part choice None = begun p part choice part.card.holder
 piece_by p part choice (Some replies) = asked p replies part (dialogue (deal_for p) replies).deed
 
--- one exchange of the lane
+-- one exchange of a lane whose store, where it has one, is open
 abbrev pub piece : Payment → Part → Bool → Moved
 piece p part choice = piece_by p part choice part.lane.running

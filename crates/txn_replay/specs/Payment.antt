@@ -13,13 +13,15 @@ use Rattle.scenario_lanes.specs.declared.plan.Planned.{Planned}
 use Rattle.terminal_state.specs.Terminal.{Deal}
 use Rattle.txn_replay.specs.World.{World, lane_at}
 
--- the issuer, the lane's number, whether it speaks ISO 8583 with the host, its terminal's settings, what is planned, and
--- the card
+-- the issuer, how often a settlement message is sent, the lane's number, whether it speaks ISO 8583 with the host and
+-- whether it keeps its captures durably, its terminal's settings, what is planned, and the card
 pub record Payment : Type 0 where
   pub issuer : HostKeys
   pub accounts : List AccountData
+  pub copies : ℕ
   pub lane : ℕ
   pub iso : Bool
+  pub durable : Bool
   pub settings : SettingsData
   pub planned : Planned
   pub card : CardData
@@ -28,8 +30,10 @@ abbrev pub payment_with : ScenarioData → ℕ → LaneData → Planned → Card
 payment_with s l lane planned card = record {
   issuer = s.issuer;
   accounts = s.accounts;
+  copies = s.copies;
   lane = l;
   iso = lane.iso;
+  durable = lane.durable;
   settings = lane.settings;
   planned = planned;
   card = card;
@@ -52,6 +56,14 @@ is_iso (Some lane) = lane.iso
 
 abbrev pub dialect_of : ScenarioData → ℕ → Bool
 dialect_of s l = is_iso (slice_get s.lanes l)
+
+-- whether a lane keeps its captures durably
+abbrev pub is_durable : Option LaneData → Bool
+is_durable None = false
+is_durable (Some lane) = lane.durable
+
+abbrev pub durable_of : ScenarioData → ℕ → Bool
+durable_of s l = is_durable (slice_get s.lanes l)
 
 -- the one that a lane begins next, or that runs in it
 abbrev pub next_of : ScenarioData → World → ℕ → Option Payment

@@ -15,9 +15,9 @@ use Rattle.txn_replay.specs.Steps.{Step}
 use Rattle.txn_replay.specs.World.{Past, World, first_world, lane_at}
 use Rattle.txn_replay.specs.declared.event.Event.TheVariants.{Turn}
 
--- the purchase is taken without its tear
+-- the purchase is taken without its tears
 abbrev pub untorn : Planned → Planned
-untorn planned = record planned { tear = None }
+untorn planned = record planned { tear = None; terminal_tear = None }
 
 abbrev pub first_untorn : List Planned → List Planned
 first_untorn [] = []
@@ -40,7 +40,7 @@ last_past (past ∷ []) = Some past
 last_past (past ∷ other ∷ others) = last_past (other ∷ others)
 
 abbrev pub past_card : Past → Option ReadCard
-past_card past = past.end.card
+past_card past = option_and_then (λ end. end.card) past.end
 
 -- what reading gave in the purchase that a lane began last
 abbrev pub data_by : ScenarioData → World → ℕ → Option (List Reply) → Option ReadCard
@@ -50,9 +50,9 @@ data_by s w l None = option_and_then past_card (last_past (lane_at w l).ended)
 abbrev pub data_at : ScenarioData → World → ℕ → Option ReadCard
 data_at s w l = data_by s w l (lane_at w l).running
 
--- how a lane's latest purchase ended
+-- how a lane's latest purchase ended, where it has an end record
 abbrev pub latest_ending : List Past → Option Ending
-latest_ending pasts = option_map (λ past. past.end.ending) (last_past pasts)
+latest_ending pasts = option_and_then (λ past. option_map (λ end. end.ending) past.end) (last_past pasts)
 
 abbrev pub ending_at : World → ℕ → Option Ending
 ending_at w l = latest_ending (lane_at w l).ended
@@ -68,6 +68,7 @@ is_read s w = is_read_by (data_at s w 0) (ending_at w 0)
 -- an end line isn't shown
 abbrev pub without_end : Line → List Line
 without_end (line.End lane number parts) = []
+without_end (line.EndLost lane number) = []
 without_end other = other ∷ []
 
 -- turns of the first lane, up to the one in which its card is read

@@ -1,6 +1,8 @@
 -- The value of a whole run, and the world that it stands for.
-use Rattle.std.specs.Prelude.{◌≡◌, ◌⊎◌, ℕ, zero, suc, Bool, true, false, ◌&&◌, ◌==◌, is_none, List, [], length, map, sum_by, slice_get, Option, Some, None}
+use Rattle.std.specs.Prelude.{◌≡◌, ◌⊎◌, ℕ, zero, suc, ◌+◌, ◌-◌, ◌≤◌, Bool, true, false, ◌&&◌, ◌==◌, nat_le, is_none, List, [], length, sum_by, count_by, slice_get, Option, Some, None}
 use Rattle.std.specs.List.{All}
+use Rattle.capture_store.specs.ListPages.{MayStandForList}
+use Rattle.capture_store.specs.SeenShelf.{ShelfSeen}
 use Rattle.card_files.specs.Files.{opening_of}
 use Rattle.card_pages.specs.Pages.{MayStand}
 use Rattle.emv_ports.specs.Memory.{Memory, IsBlank}
@@ -10,16 +12,18 @@ use Rattle.kernel.specs.Tally.{Counts}
 use Rattle.report_text.specs.declared.line.Line.{Line}
 use Rattle.scenario.specs.Cards.{CardData}
 use Rattle.scenario.specs.Plan.{ScenarioData, IsScenario}
-use Rattle.scenario_lanes.specs.Plan.{LaneData}
+use Rattle.scenario_lanes.specs.Plan.{LaneData, last_pages}
 use Rattle.txn_replay.specs.Bounds.{IsFewIn}
-use Rattle.txn_replay.specs.Counting.{capped, counts}
-use Rattle.txn_replay.specs.Payment.{Payment, payment_in}
+use Rattle.txn_replay.specs.Counting.{capped, counts, lost_count}
+use Rattle.txn_replay.specs.Payment.{Payment, payment_in, durable_of}
 use Rattle.txn_replay.specs.Run.{all_over}
 use Rattle.txn_replay.specs.Slot.{SlotSeen, SlotOn, IsSlotOf, HasLost, is_on}
 use Rattle.txn_replay.specs.Sound.{IsSound}
-use Rattle.txn_replay.specs.Standing.{RunStands, LaneKeeps, CardStands, LaneFits, lane_left}
-use Rattle.txn_replay.specs.Steps.{Settlement, Asks, checks, Step}
-use Rattle.txn_replay.specs.World.{Holder, CardRow, LaneRow, World, new_lane, card_at, lane_at}
+use Rattle.txn_replay.specs.StandAlone.{ComesApart}
+use Rattle.txn_replay.specs.Standing.{RunStands, LaneKeeps, CardStands, ShelfFor, LaneFits, lane_left, shelf_left}
+use Rattle.txn_replay.specs.Steps.{Asks, checks, Step}
+use Rattle.txn_replay.specs.Stored.{StoresStand, IsSettledTo}
+use Rattle.txn_replay.specs.World.{Holder, CardRow, LaneRow, World, card_at, lane_at}
 use Rattle.txn_replay.specs.declared.event.Event.{Event}
 use Rattle.txn_replay.specs.declared.lane.Lane.{Lane}
 
@@ -27,9 +31,11 @@ pub record WorldSeen : Type 0 where
   pub scenario : ScenarioData
   pub slots : List SlotSeen
   pub lanes : List Lane
+  -- the store of each lane, where it has one
+  pub shelves : List ShelfSeen
   pub host : HostData
   pub tally : Counts
-  -- the pages that no card has
+  -- the pages that no card and no store has
   pub spare : List Memory
 
 -- the plan of the purchase that has a card
@@ -52,6 +58,14 @@ pub record IsAudited (s : ScenarioData) (w : World) (slot : SlotSeen) (card : Ca
 abbrev pub SlotStands : ScenarioData → World → SlotSeen → CardData → CardRow → Type 0
 SlotStands s w slot card row = CardStands slot card (plan_for s row.holder) row ⊎ IsAudited s w slot card row
 
+-- the plan under which a lane's store is opened: that of the purchase behind those that have ended
+abbrev pub terminal_plan : Option Payment → Option Tear
+terminal_plan None = None
+terminal_plan (Some p) = p.planned.terminal_tear
+
+abbrev pub ShelfAt : ScenarioData → ℕ → ShelfSeen → LaneRow → Type 0
+ShelfAt s l shelf row = ShelfFor shelf row (terminal_plan (payment_in s l (length row.ended))) (durable_of s l)
+
 -- a terminal that runs the purchase behind those that have ended, or none
 abbrev pub RunFor : Lane → LaneRow → Option Payment → Type 0
 RunFor lane row None = lane.running ≡ None
@@ -67,8 +81,14 @@ pub record WorldStands (v : WorldSeen) (w : World) : Type 0 where
   pub slots : (i : ℕ) (slot : SlotSeen) (card : CardData) → slice_get v.slots i ≡ Some slot → slice_get v.scenario.cards i ≡ Some card
       → SlotStands v.scenario w slot card (card_at w i)
   pub lanes : (l : ℕ) (lane : Lane) → slice_get v.lanes l ≡ Some lane → LaneAt v.scenario l lane (lane_at w l)
+  pub shelves : (l : ℕ) (shelf : ShelfSeen) → slice_get v.shelves l ≡ Some shelf → ShelfAt v.scenario l shelf (lane_at w l)
+  pub stored : StoresStand v.scenario w
   pub messages : HostStands v.host w.messages
   pub tally : v.tally ≡ counts w
+
+-- how many lanes keep their captures durably
+abbrev pub durable_count : List LaneData → ℕ
+durable_count lanes = count_by (λ lane. lane.durable) lanes
 
 -- a value stands for some world
 abbrev pub IsStanding : WorldSeen → Type 0
@@ -79,16 +99,21 @@ pub record IsWhole (v : WorldSeen) : Type 0 where
   pub scenario : IsScenario v.scenario
   pub slot_count : length v.slots ≡ length v.scenario.cards
   pub lane_count : length v.lanes ≡ length v.scenario.lanes
+  pub shelf_count : length v.shelves ≡ length v.scenario.lanes
   pub fits : All LaneFits v.lanes
   pub keys : v.host.keys ≡ v.scenario.issuer
   pub accounts : v.host.accounts ≡ v.scenario.accounts
+  pub blank : All IsBlank v.spare
+  -- each of the 64 pages is a card's, a store's or spare
+  pub pages : length v.spare + length v.scenario.cards + durable_count v.scenario.lanes ≡ 64
   pub standing : IsStanding v
 
--- an event has led to what the value stands for
+-- an event has led to what the value stands for, and is one of a lane alone, or none of it, for each that shares nothing
 pub record Goes (v : WorldSeen) (w : World) (e : Event) (lines : List Line) : Type 0 where
   pub choices : List Bool
   pub after : World
   pub step : Step v.scenario w e choices lines after
+  pub apart : ComesApart v.scenario w e choices lines after
   pub stands : WorldStands v after
 
 -- no purchase runs, and each of its lane has ended
@@ -107,7 +132,13 @@ is_done v = done_below v.scenario.lanes v.lanes (length v.scenario.lanes)
 
 -- how many exchanges are left at most
 abbrev pub turns_left : WorldSeen → ℕ
-turns_left v = sum_by lane_left v.lanes
+turns_left v = sum_by lane_left v.lanes + sum_by shelf_left v.shelves
+
+-- the settlement has come to this step in some world that the value stands for
+pub record IsSettling (v : WorldSeen) (k : ℕ) : Type 0 where
+  pub world : World
+  pub stands : WorldStands v world
+  pub through : IsSettledTo v.scenario world k
 
 -- the card that a check asks is on
 abbrev pub IsNext : WorldSeen → ℕ → Type 0
@@ -126,17 +157,22 @@ abbrev pub PagesAre : Memory → CardData → CardRow → Option (List (List ℕ
 PagesAre memory card row None = PagesStand memory card row
 PagesAre memory card row (Some answers) = IsBlank memory
 
-abbrev pub BankStands : ScenarioData → World → List Memory → Type 0
-BankStands s w bank =
-    (i : ℕ) (card : CardData) → slice_get s.cards i ≡ Some card
-    → (memory : Memory) × (slice_get bank i ≡ Some memory) × PagesAre memory card (card_at w i) card.canned
+-- pages that are off, and may stand for the list of a lane's store; their losses are the lost purchases
+pub record StorePages (memory : Memory) (row : LaneRow) : Type 0 where
+  pub off : memory.on ≡ false
+  pub may : MayStandForList memory.cells row.store.list row.store.lost
+  pub losses : memory.losses ≡ capped (lost_count row.ended)
 
--- what a lane has captured, as the settlement reads it
-abbrev pub captured : Lane → LaneRow
-captured lane = record new_lane { captures = map (λ message. message.items) lane.captures.items }
+-- the pages of this number are those of a lane's store
+abbrev pub is_store_of : ScenarioData → ℕ → Bool
+is_store_of s i = nat_le i last_pages && durable_of s (last_pages - i)
 
-abbrev pub settlement_by : ℕ → List ℕ → Settlement
-settlement_by lane message = record { lane = lane; message = message }
+-- the cards' pages stand first, the store of lane `l` has those that are `l` before the last ones, and all others are blank
+pub record BankStands (s : ScenarioData) (w : World) (bank : List Memory) : Type 0 where
+  pub cards : (i : ℕ) (card : CardData) → slice_get s.cards i ≡ Some card
+      → (memory : Memory) × (slice_get bank i ≡ Some memory) × PagesAre memory card (card_at w i) card.canned
+  pub stores : (l : ℕ) → durable_of s l ≡ true → (memory : Memory) × (slice_get bank (last_pages - l) ≡ Some memory) × StorePages memory (lane_at w l)
+  pub others : (i : ℕ) (memory : Memory) → slice_get bank i ≡ Some memory → length s.cards ≤ i → is_store_of s i ≡ false → IsBlank memory
 
 -- a lane before its first purchase
 pub record IsNewLane (lane : Lane) : Type 0 where
@@ -146,3 +182,4 @@ pub record IsNewLane (lane : Lane) : Type 0 where
   pub captures : lane.captures.items ≡ []
   pub place : lane.place ≡ None
   pub ending : lane.ending ≡ None
+  pub found : lane.found ≡ None

@@ -1,6 +1,8 @@
 -- The events of a run: an exchange of a lane, a message of the settlement, a step of the audit (this project's own).
-use Rattle.std.specs.Prelude.{◌≡◌, ℕ, ◌+◌, Bool, false, List, [], ◌∷◌, ◌++◌, length, flat_map, replicate, slice_get, slice_index_or, slice_set, Option, Some, None}
+use Rattle.std.specs.Prelude.{◌≡◌, ℕ, ◌+◌, ◌-◌, Bool, true, false, if◌then◌else◌, List, [], ◌∷◌, ◌++◌, length, flat_map, replicate, slice_get, slice_index_or, slice_set, Option, Some, None, unwrap_or}
 use Rattle.app_select.specs.Said.{select_command}
+use Rattle.capture_store.specs.Calls.{Drops}
+use Rattle.capture_store.specs.StoreRow.{StoreRow, opened_to_settle, made_call}
 use Rattle.card_app.specs.Answering.{card_answer}
 use Rattle.card_files.specs.Views.{AppData}
 use Rattle.card_pages.specs.Pages.{found_of}
@@ -12,9 +14,10 @@ use Rattle.scenario.specs.Cards.{CardData}
 use Rattle.scenario.specs.Plan.{ScenarioData}
 use Rattle.txn_replay.specs.Changes.{powered, exchanged}
 use Rattle.txn_replay.specs.Lines.{settle_lines, audit_power_line, audit_lines}
-use Rattle.txn_replay.specs.Part.{Part, Moved, piece}
-use Rattle.txn_replay.specs.Payment.{Payment, next_of, dialect_of}
-use Rattle.txn_replay.specs.World.{CardRow, LaneRow, World, card_at, lane_at, with_sent}
+use Rattle.txn_replay.specs.Part.{Part, Moved}
+use Rattle.txn_replay.specs.Payment.{Payment, next_of, dialect_of, durable_of}
+use Rattle.txn_replay.specs.Storing.{lane_piece}
+use Rattle.txn_replay.specs.World.{CardRow, LaneRow, World, card_at, lane_at, with_sent, with_store}
 use Rattle.txn_replay.specs.declared.event.Event.{Event}
 use Rattle.txn_replay.specs.declared.event.Event.TheVariants.{Turn, Settle, Audit}
 
@@ -38,48 +41,80 @@ moved w l i m = record {
   choices = m.choices;
 }
 
--- the truth value of this number among those that an event takes: a card's is the first
+-- the truth value of this number among those that an event takes: a store's comes before a card's
 abbrev pub choice_in : List Bool → ℕ → Bool
 choice_in choices n = slice_index_or choices n false
 
 -- nothing happens where no purchase is left
 abbrev pub turned_by : World → ℕ → List Bool → Option Payment → After
 turned_by w l choices None = nothing w
-turned_by w l choices (Some p) = moved w l p.planned.card (piece p (part_of w l p.planned.card) (choice_in choices 0))
+turned_by w l choices (Some p) = moved w l p.planned.card (lane_piece p (part_of w l p.planned.card) (choice_in choices 0) (choice_in choices 1))
 
 abbrev pub turned : ScenarioData → World → ℕ → List Bool → After
 turned s w l choices = turned_by w l choices (next_of s w l)
 
--- a message that a lane captured
-pub record Settlement : Type 0 where
-  pub lane : ℕ
-  pub message : List ℕ
+-- a step of the settlement: a lane's store is opened without a plan, or a message of a lane is sent, which its store drops
+-- behind the last copy
+pub data Settlement : Type 0 where
+  Opens : (lane : ℕ) → Settlement
+  Sends : (lane : ℕ) → (message : List ℕ) → (drops : Bool) → Settlement
 
--- the messages of lanes, the first of which has this number, each sent so often
-unfoldable pub settlements_from : ℕ → ℕ → List LaneRow → List Settlement
-settlements_from copies l [] = []
-settlements_from copies l (lane ∷ lanes) =
-    flat_map (λ message. replicate copies (record { lane = l; message = message })) lane.captures ++ settlements_from copies (l + 1) lanes
+-- a message in so many copies, and one that is dropped behind the last of them
+abbrev pub copies_of : ℕ → ℕ → List ℕ → List Settlement
+copies_of copies l message = replicate copies (Sends l message false)
+
+abbrev pub dropped_copies : ℕ → ℕ → List ℕ → List Settlement
+dropped_copies copies l message = replicate (copies - 1) (Sends l message false) ++ Sends l message true ∷ []
+
+-- those of a lane: of its captures, or of what the opening of its store has found
+abbrev pub lane_settlements : ℕ → ℕ → LaneRow → Bool → List Settlement
+lane_settlements copies l lane false = flat_map (copies_of copies l) lane.captures
+lane_settlements copies l lane true = Opens l ∷ flat_map (dropped_copies copies l) (unwrap_or lane.store.found [])
+
+-- those of lanes, the first of which has this number
+unfoldable pub settlements_from : ScenarioData → ℕ → List LaneRow → List Settlement
+settlements_from s l [] = []
+settlements_from s l (lane ∷ lanes) = lane_settlements s.copies l lane (durable_of s l) ++ settlements_from s (l + 1) lanes
 
 -- by lane, then by purchase
 abbrev pub settlements : ScenarioData → World → List Settlement
-settlements s w = settlements_from s.copies 0 w.lanes
+settlements s w = settlements_from s 0 w.lanes
+
+abbrev pub with_lane : World → ℕ → LaneRow → World
+with_lane w l lane = record w { lanes = slice_set w.lanes l lane }
+
+-- a store is opened, which takes a truth value whatever it holds
+abbrev pub opens_to_settle : World → ℕ → Bool → After
+opens_to_settle w l choice = record {
+  world = with_lane w l (with_store (opened_to_settle (lane_at w l).store choice) (lane_at w l));
+  lines = [];
+  choices = 1;
+}
+
+-- a store behind the delivery of its first message, and the lane of a delivered one
+abbrev pub settled_store : Bool → StoreRow → StoreRow
+settled_store drops store = (if drops then made_call store Drops else store)
+
+abbrev pub lane_settled : List ℕ → Bool → LaneRow → LaneRow
+lane_settled message drops lane = with_store (settled_store drops lane.store) (with_sent message lane)
 
 -- a message is delivered once
-abbrev pub settled_with : Bool → World → Settlement → List ℕ → After
-settled_with iso w at reply = record {
+abbrev pub settled_with : Bool → World → ℕ → List ℕ → Bool → List ℕ → After
+settled_with iso w l message drops reply = record {
   world = record {
     cards = w.cards;
-    lanes = slice_set w.lanes at.lane (with_sent at.message (lane_at w at.lane));
-    messages = w.messages ++ at.message ∷ [];
+    lanes = slice_set w.lanes l (lane_settled message drops (lane_at w l));
+    messages = w.messages ++ message ∷ [];
   };
-  lines = settle_lines iso at.lane at.message reply;
+  lines = settle_lines iso l message reply;
   choices = 0;
 }
 
-abbrev pub settles : ScenarioData → World → Option Settlement → After
-settles s w None = nothing w
-settles s w (Some at) = settled_with (dialect_of s at.lane) w at (host_reply s.issuer s.accounts w.messages at.message)
+abbrev pub settles : ScenarioData → World → List Bool → Option Settlement → After
+settles s w choices None = nothing w
+settles s w choices (Some (Opens l)) = opens_to_settle w l (choice_in choices 0)
+settles s w choices (Some (Sends l message drops)) =
+    settled_with (dialect_of s l) w l message drops (host_reply s.issuer s.accounts w.messages message)
 
 -- a step of the audit: the card of this number is powered up, or asked a command
 pub data Check : Type 0 where
@@ -133,7 +168,7 @@ audits w choices (Some (Asks i card command)) =
 -- what happens, with these truth values where any are taken
 abbrev pub happens : ScenarioData → World → Event → List Bool → After
 happens s w (Turn l) choices = turned s w l choices
-happens s w (Settle k) choices = settles s w (slice_get (settlements s w) k)
+happens s w (Settle k) choices = settles s w choices (slice_get (settlements s w) k)
 happens s w (Audit k) choices = audits w choices (slice_get (checks s) k)
 
 -- the event takes these truth values, makes these lines, and leads to this world

@@ -1,14 +1,15 @@
 -- What the lines of a run tell: which card lost its power, what each terminal was told, and how each purchase ended (this
 -- project's own).
-use Rattle.std.specs.Prelude.{◌≡◌, ℕ, ◌+◌, ◌==◌, Bool, false, if◌then◌else◌, List, [], ◌∷◌, ◌++◌, length, map, flat_map, fold, slice_get, Option, Some, None}
+use Rattle.std.specs.Prelude.{◌≡◌, ℕ, ◌+◌, ◌==◌, Bool, true, false, is_some, option_map, if◌then◌else◌, List, [], ◌∷◌, ◌++◌, length, map, flat_map, fold, slice_get, Option, Some, None}
 use Rattle.std.specs.Str.{bytes_eq}
 use Rattle.host_link.specs.Dialect.{call_in, reply_in}
 use Rattle.kernel.specs.Dialogue.{dialogue}
+use Rattle.kernel.specs.Ended.{EndData}
 use Rattle.kernel.specs.Kernel.{told_bytes}
 use Rattle.kernel.specs.Reply.{Reply, CardSaid, CardGone, HostSaid, HostSilent}
 use Rattle.report_text.specs.declared.line.EndParts.{EndParts}
 use Rattle.report_text.specs.declared.line.Line.{Line}
-use Rattle.report_text.specs.declared.line.Line.TheVariants.{Power, PowerCanned, PowerTorn, FromCard, Torn, Gone, ToHost, FromHost, NoReply, SettleCall, End}
+use Rattle.report_text.specs.declared.line.Line.TheVariants.{Power, PowerCanned, PowerTorn, FromCard, Torn, Gone, ToHost, FromHost, NoReply, SettleCall, End, EndLost}
 use Rattle.scenario.specs.Cards.{CardData}
 use Rattle.scenario.specs.Plan.{ScenarioData, IsScenario}
 use Rattle.txn_replay.specs.Lines.{end_parts}
@@ -78,11 +79,11 @@ abbrev pub heard_in : Option Payment → List Reply → List Heard
 heard_in None replies = []
 heard_in (Some p) replies = heard_behind p [] replies
 
--- an end line, with what was told since the power line before it
+-- an end line, with what was told since the power line before it; that of a lost purchase tells no outcome
 pub record EndTold : Type 0 where
   pub heard : List Heard
   pub number : ℕ
-  pub parts : EndParts
+  pub parts : Option EndParts
 
 -- what was told since a lane's last power line, and its end lines
 pub record LaneTold : Type 0 where
@@ -95,7 +96,7 @@ hears t heard = record { heard = t.heard ++ heard ∷ []; ended = t.ended }
 abbrev pub begins : LaneTold → List Heard → LaneTold
 begins t heard = record { heard = heard; ended = t.ended }
 
-abbrev pub finishes : LaneTold → ℕ → EndParts → LaneTold
+abbrev pub finishes : LaneTold → ℕ → Option EndParts → LaneTold
 finishes t number parts = record { heard = []; ended = t.ended ++ record { heard = t.heard; number = number; parts = parts } ∷ [] }
 
 abbrev pub told_next : ℕ → LaneTold → Line → LaneTold
@@ -107,23 +108,30 @@ told_next l t (Torn lane) = if lane == l then hears t Cut else t
 told_next l t (Gone lane) = if lane == l then hears t Cut else t
 told_next l t (FromHost lane bytes) = if lane == l then hears t (Replied bytes.items) else t
 told_next l t (NoReply lane) = if lane == l then hears t Silence else t
-told_next l t (End lane number parts) = if lane == l then finishes t number parts else t
+told_next l t (End lane number parts) = if lane == l then finishes t number (Some parts) else t
+told_next l t (EndLost lane number) = if lane == l then finishes t number None else t
 told_next l t other = t
 
 unfoldable pub lane_told : ℕ → List Line → LaneTold
 lane_told l lines = fold (told_next l) (record { heard = []; ended = [] }) lines
 
 -- the ended purchases of a lane, the first of which has this number, from 0; the lines' numbers are from 1
+-- the outcome of a purchase is told where it isn't lost
+abbrev pub parts_told : Bool → Option EndData → Option EndParts
+parts_told false end = option_map end_parts end
+parts_told true end = None
+
 abbrev pub pasts_told : ScenarioData → ℕ → ℕ → List Past → List EndTold
 pasts_told s l n [] = []
 pasts_told s l n (past ∷ pasts) =
-    record { heard = heard_in (payment_in s l n) past.replies; number = n + 1; parts = end_parts past.end } ∷ pasts_told s l (n + 1) pasts
+    record { heard = heard_in (payment_in s l n) past.replies; number = n + 1; parts = parts_told past.lost past.end } ∷ pasts_told s l (n + 1) pasts
 
--- the lines between a power line and an end line are the replies of that purchase, and so are those behind the last power
--- line where the purchase still runs
+-- The lines between a power line and an end line are the replies of that purchase, and so are those behind the last power
+-- line where the purchase still runs. Behind an end line there are none before the next power line.
 pub record IsLaneTold (s : ScenarioData) (l : ℕ) (row : LaneRow) (t : LaneTold) : Type 0 where
   pub ended : t.ended ≡ pasts_told s l 0 row.ended
   pub heard : (replies : List Reply) → row.running ≡ Some replies → t.heard ≡ heard_in (payment_in s l (length row.ended)) replies
+  pub rests : row.running ≡ None → t.heard ≡ []
 
 abbrev pub RunsTellReplies : Type 0
 RunsTellReplies =
@@ -145,11 +153,12 @@ RunsTellMessages =
     (s : ScenarioData) (place : Place) (n : ℕ) (choices : List Bool) (lines : List Line) (w : World) (l : ℕ)
     → Reached s place n choices lines w → messages_told l lines ≡ map (call_in (dialect_of s l)) (lane_at w l).sent
 
--- an ended purchase has the end record of its dialogue over its replies
+-- an end record is that of the purchase's dialogue over its replies, and a purchase that isn't lost has one
 pub record EndsSo (s : ScenarioData) (l number : ℕ) (past : Past) : Type 0 where
   pub payment : Payment
   pub is : payment_in s l number ≡ Some payment
-  pub ends : end_at payment past.replies ≡ Some past.end
+  pub ends : (end : EndData) → past.end ≡ Some end → end_at payment past.replies ≡ Some end
+  pub there : past.lost ≡ false → is_some past.end ≡ true
 
 abbrev pub PastsEnd : Type 0
 PastsEnd =

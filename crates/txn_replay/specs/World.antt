@@ -1,6 +1,7 @@
 -- The world of a run: each card with what it decided, each lane with its purchases, and the messages that came to the
 -- issuer's host (this project's own).
-use Rattle.std.specs.Prelude.{ℕ, List, [], ◌∷◌, ◌++◌, map, slice_index_or, Option, None}
+use Rattle.std.specs.Prelude.{ℕ, Bool, List, [], ◌∷◌, ◌++◌, map, slice_index_or, Option, None}
+use Rattle.capture_store.specs.StoreRow.{StoreRow, new_store}
 use Rattle.card_app.specs.Session.{Exchange}
 use Rattle.card_state.specs.Decisions.{Decided}
 use Rattle.emv_dict.specs.declared.purchase.Logged.{Logged}
@@ -42,11 +43,13 @@ pub record CardRow : Type 0 where
   -- how often its power was cut
   pub losses : ℕ
 
--- a purchase that has ended: what its card's power-up found, what the terminal was told, and its end record
+-- a purchase that has ended: what its card's power-up found, what the terminal was told, its end record where its dialogue
+-- has ended, and whether it was lost: the power of its terminal was cut before the outcome was stored
 pub record Past : Type 0 where
   pub began : Option (List Decided)
   pub replies : List Reply
-  pub end : EndData
+  pub end : Option EndData
+  pub lost : Bool
 
 pub record LaneRow : Type 0 where
   pub ended : List Past
@@ -59,6 +62,8 @@ pub record LaneRow : Type 0 where
   pub captures : List (List ℕ)
   -- those that were made for the host, one a delivery at settlement, whether they came to it or were lost
   pub sent : List (List ℕ)
+  -- where a lane that keeps its captures durably has them
+  pub store : StoreRow
 
 pub record World : Type 0 where
   pub cards : List CardRow
@@ -70,7 +75,7 @@ abbrev pub new_card : CardRow
 new_card = record { kept = []; pending = None; session = []; made = 0; told = 0; holder = None; given = []; acts = []; losses = 0 }
 
 abbrev pub new_lane : LaneRow
-new_lane = record { ended = []; running = None; began = None; log = []; captures = []; sent = [] }
+new_lane = record { ended = []; running = None; began = None; log = []; captures = []; sent = []; store = new_store }
 
 abbrev pub first_world : ScenarioData → World
 first_world s = record { cards = map (λ card. new_card) s.cards; lanes = map (λ lane. new_lane) s.lanes; messages = [] }
@@ -84,3 +89,6 @@ lane_at w l = slice_index_or w.lanes l new_lane
 -- a message is made for the host
 abbrev pub with_sent : List ℕ → LaneRow → LaneRow
 with_sent message lane = record lane { sent = lane.sent ++ message ∷ [] }
+
+abbrev pub with_store : StoreRow → LaneRow → LaneRow
+with_store store lane = record lane { store = store }

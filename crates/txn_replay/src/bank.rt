@@ -1,15 +1,18 @@
-//! The pages of the cards: each card of a run takes some of the bank, and gives them back.
-ghost use Rattle.std.specs.Prelude.{◌≡◌, ◌≤◌, ◌+◌, [], length, map, drop};
+//! The pages of the cards and of the stores: each takes some of the bank, and gives them back.
+ghost use Rattle.std.specs.Prelude.{◌≡◌, ◌≤◌, ◌<◌, ◌+◌, ◌-◌, [], ◌∷◌, ℕ, List, Option, true, is_some, length, map, drop};
 ghost use Rattle.std.specs.List.{All};
 ghost use Rattle.std.specs.Vec.{vec_len, vec_capacity};
-ghost use Rattle.emv_ports.specs.Memory.{IsBlank};
+ghost use Rattle.emv_ports.specs.Memory.{Memory, IsBlank};
 ghost use Rattle.scenario.specs.CardRules.{IsKind};
 ghost use Rattle.scenario.specs.Seen.{seen_cards};
-ghost use Rattle.txn_replay.specs.Banked.{AreNew, AreGiven};
+ghost use Rattle.scenario_lanes.specs.Plan.{HaveRoom};
+ghost use Rattle.txn_replay.specs.Banked.{AreNew, AreGiven, IsNewStore, AreNewStores, StoresAreGiven, IsStoreGiven, stores_in, with_pages, with_stores};
 
 use crate::slot::Slot;
+use capture_store::Shelf;
 use emv_ports::Pages;
 use scenario::NamedCard;
+use scenario_lanes::{LAST_PAGES, Lane as Terminal};
 
 /// Each card takes the first pages of the bank that no card has. One with applications is personalised on
 /// them; those of one of canned answers stay as they are.
@@ -37,12 +40,88 @@ pub(crate) fn take_pages<'s, P: Pages>(
     }
 }
 
+/// The store of each lane that keeps its captures durably takes its own pages: those of the first lane are the
+/// last ones. An empty list is written to them.
+pub(crate) fn take_stores<P: Pages>(
+    terminals: &[Terminal],
+    bank: &mut Vec<P>,
+    shelves: &mut Vec<Shelf<P>>,
+)
+    requires none { shelves.old.items ≡ [] }
+    requires room { length terminals.now ≤ vec_capacity shelves.old }
+    requires few { length terminals.now ≤ 16 }
+    requires pages { vec_len bank.old ≡ 64 }
+    requires blank { All IsBlank (map P.memory bank.old.items) }
+    ensures new { AreNewStores terminals.now shelves.new.items }
+    ensures count { vec_len shelves.new ≡ length terminals.now }
+    ensures pages { vec_len bank.new + stores_in shelves.new.items ≡ 64 }
+    ensures left { (cards : ℕ) → cards ≤ 64 → HaveRoom cards terminals.now → cards ≤ vec_len bank.new }
+    ensures blank { All IsBlank (map P.memory bank.new.items) }
+    ensures capacity { vec_capacity bank.new ≡ vec_capacity bank.old }
+{
+    for (index, terminal) in terminals.iter().enumerate() {
+        let shelf = take_store(terminal.durable, LAST_PAGES - index, bank);
+        let Ok(()) = shelves.push(shelf) else {
+            unreachable!();
+        };
+    }
+}
+
+/// A store on the pages at this place, where the lane keeps its captures durably.
+fn take_store<P: Pages>(durable: bool, place: usize, bank: &mut Vec<P>) -> Shelf<P>
+    requires place { durable ≡ true → place < vec_len bank.old }
+    requires blank { All IsBlank (map P.memory bank.old.items) }
+    ensures new { IsNewStore result durable }
+    ensures length { vec_len bank.new + stores_in (result ∷ []) ≡ vec_len bank.old }
+    ensures some { is_some result ≡ durable }
+    ensures blank { All IsBlank (map P.memory bank.new.items) }
+    ensures capacity { vec_capacity bank.new ≡ vec_capacity bank.old }
+{
+    if durable {
+        return Shelf::new(bank.remove(place));
+    }
+    Shelf::absent()
+}
+
+/// The stores' pages, off, stand at their own places again, those of the last lane first.
+pub(crate) fn give_stores<P: Pages>(shelves: Vec<Shelf<P>>, bank: Vec<P>) -> Vec<P>
+    requires few { vec_len shelves ≤ 16 }
+    requires pages { vec_len bank + stores_in shelves.items ≡ 64 }
+    requires capacity { 64 ≤ vec_capacity bank }
+    ensures given { (pages : List (Option Memory)) × StoresAreGiven shelves.items pages
+        × (map P.memory result.items ≡ with_stores 0 pages (map P.memory bank.items)) }
+    ensures length { vec_len result ≡ 64 }
+{
+    let mut shelves = shelves;
+    let mut bank = bank;
+    while let Some(shelf) = shelves.pop() {
+        put_back(shelf, LAST_PAGES - shelves.len(), &mut bank);
+    }
+    bank
+}
+
+/// A store's pages stand at this place again, where there is a store.
+fn put_back<P: Pages>(shelf: Shelf<P>, place: usize, bank: &mut Vec<P>)
+    requires place { place ≤ vec_len bank.old }
+    requires room { vec_len bank.old + stores_in (shelf ∷ []) ≤ vec_capacity bank.old }
+    ensures given { (pages : Option Memory) × IsStoreGiven shelf pages × (map P.memory bank.new.items ≡ with_pages place pages (map P.memory bank.old.items)) }
+    ensures length { vec_len bank.new ≡ vec_len bank.old + stores_in (shelf ∷ []) }
+    ensures capacity { vec_capacity bank.old ≤ vec_capacity bank.new }
+{
+    if let Some(pages) = shelf.into_pages() {
+        let Ok(()) = bank.insert(place, pages) else {
+            unreachable!();
+        };
+    }
+}
+
 /// The cards' pages, off, stand before the pages that no card had.
 pub(crate) fn give_pages<P: Pages>(slots: Vec<Slot<'_, P>>, spare: Vec<P>) -> Vec<P>
     requires place { vec_len slots + vec_len spare ≤ vec_capacity spare }
     ensures given { AreGiven slots.entry.items 0 (map P.memory result.items) }
     ensures spare { drop (length slots.entry.items) (map P.memory result.items) ≡ map P.memory spare.items }
     ensures length { vec_len result ≡ length slots.entry.items + length spare.items }
+    ensures capacity { vec_capacity spare ≤ vec_capacity result }
 {
     let mut slots = slots;
     let mut bank = spare;

@@ -1,5 +1,5 @@
 //! One exchange of a lane, on what it touches: the lane, its card, and the host.
-ghost use Rattle.std.specs.Prelude.{◌≡◌, ◌+◌, ◌≤◌, ◌<◌, ◌++◌, ◌∷◌, [], ℕ, List, Bool, length, true, false, ◌&&◌, is_none, IsSome, IsSomeAnd, IfSome, IfOk, Some, None, Option, OnOk, OnErr, option_map, IsTrue};
+ghost use Rattle.std.specs.Prelude.{◌≡◌, ◌+◌, ◌≤◌, ◌<◌, ◌++◌, [], ℕ, List, Bool, length, true, false, ◌&&◌, is_none, IsSome, IsSomeAnd, IfSome, IfOk, Some, None, Option, OnOk, OnErr, option_map};
 ghost use Rattle.std.specs.List.{All};
 ghost use Rattle.std.specs.Vec.{vec_len, vec_capacity};
 ghost use Rattle.card_state.specs.Decisions.{Decided};
@@ -9,49 +9,38 @@ ghost use Rattle.host_link.specs.Dialect.{call_in, reply_in};
 ghost use Rattle.issuer_host.specs.Account.{AccountData};
 ghost use Rattle.issuer_host.specs.declared.keys.HostKeys.{HostKeys};
 ghost use Rattle.kernel.specs.Dialogue.{dialogue};
-ghost use Rattle.kernel.specs.Kernel.{next_of, told_next, told_bytes};
+ghost use Rattle.kernel.specs.Kernel.{next_of, told_bytes};
 ghost use Rattle.issuer_host.specs.History.{HostStands, host_reply};
-ghost use Rattle.kernel.specs.Reply.{Reply, CardGone, from_host};
+ghost use Rattle.kernel.specs.Reply.{Reply};
 ghost use Rattle.kernel.specs.declared.kernel.Next.TheVariants as next;
 ghost use Rattle.txn_replay.specs.Part as step;
 ghost use Rattle.scenario_lanes.specs.Plan.{IsPlanned};
-ghost use Rattle.txn_replay.specs.Part.{Part, piece};
+ghost use Rattle.txn_replay.specs.Part.{Part};
 ghost use Rattle.txn_replay.specs.Payment.{Payment as Paid, deal_for};
-ghost use Rattle.txn_replay.specs.Standing.{PartRests, PartRuns, PartStands, Led, SameLane, LaneStands, rank_in, MovedTo, IsCounted, LaneFits, RunStands, lane_left, is_ended, is_over as over_test, seen_payment};
+ghost use Rattle.txn_replay.specs.Standing.{PartRests, NextRests, PartRuns, PartStands, Led, SameLane, MovedTo, IsCounted, LaneFits, RunStands, lane_left, HasRoom, HasTaken, shelf_left, seen_payment};
 ghost use Rattle.txn_replay.specs.Slot.{SlotOff, is_on as has_power};
-ghost use Rattle.txn_replay.specs.World.{LaneRow};
+ghost use Rattle.txn_replay.specs.Storing.{lane_piece};
 
 use crate::lane::{Lane, finish, make_room};
 use crate::lines::{Lines, add_answer, add_host, add_power_torn};
 use crate::payment::Payment;
 use crate::slot::Slot;
+use crate::storing::prepare;
+use crate::terminal::{hear, is_over, lose, start, waits_for};
 use apdu_core::Answer;
 use auth_message::Message;
+use capture_store::Shelf;
 use emv_ports::{Gone, Pages};
 use host_link::{Wire, deliver};
 use issuer_host::Host;
 use kernel::{Kernel, Next, Tally};
 use std::alloc::AllocError;
 
-/// Whether the dialogue of a purchase that runs is over.
-fn is_over(running: &Option<Box<Kernel<'_>>>) -> bool
-    ensures exact { result ≡ over_test running.now }
-    ensures told { (p : Paid) (replies : List Reply) → RunStands running.now p (Some replies)
-        → result ≡ is_ended (told_next (dialogue (deal_for p) replies)) }
-{
-    match running {
-        Some(kernel) => match kernel.next() {
-            Next::Ended => true,
-            Next::ToCard | Next::ToHost => false,
-        },
-        None => false,
-    }
-}
-
 /// The purchase goes on behind a reply, or has ended: the card is turned off then.
 fn settle<'s, P: Pages>(
     at: &Payment<'s>,
     lane: &mut Lane<'s>,
+    shelf: &mut Shelf<P>,
     slot: &mut Slot<'s, P>,
     tally: &mut Tally,
     lines: &mut Lines,
@@ -61,23 +50,25 @@ fn settle<'s, P: Pages>(
     requires captures { vec_len lane.old.captures < vec_capacity lane.old.captures }
     requires amount { at.now.planned.now.purchase.amount ≤ most_amount }
     requires amounts { All (λ logged. logged.amount ≤ most_amount) lane.old.log.items }
+    requires room { HasRoom shelf.old at.now.durable }
+    requires taken { HasTaken lane.old.running }
     requires fresh { IsSomeAnd lane.old.running (λ kernel. kernel.value.is_spent ≡ false) }
     requires on { has_power slot.old ≡ true }
     requires lines { length lines.old.items < 8 }
     ensures moved { (issuer : HostKeys) (accounts : List AccountData) (replies : List Reply) (part : Part)
-        → PartRuns (seen_payment issuer accounts at.now) lane.old slot.old replies part
-        → MovedTo (seen_payment issuer accounts at.now) lane.new slot.new lines.new.items
+        → PartRuns (seen_payment issuer accounts at.now) lane.old shelf.old slot.old replies part
+        → MovedTo (seen_payment issuer accounts at.now) lane.new shelf.new slot.new lines.new.items
         (step.settled (seen_payment issuer accounts at.now) replies part lines.old.items) }
     ensures counted { (issuer : HostKeys) (accounts : List AccountData) (replies : List Reply) (part : Part)
-        → PartRuns (seen_payment issuer accounts at.now) lane.old slot.old replies part
+        → PartRuns (seen_payment issuer accounts at.now) lane.old shelf.old slot.old replies part
         → IsCounted tally.old tally.new part.lane.ended
         (step.settled (seen_payment issuer accounts at.now) replies part lines.old.items).part.lane.ended }
     ensures fits { LaneFits lane.new }
-    ensures nearer { lane_left lane.new ≤ lane_left lane.old }
+    ensures nearer { lane_left lane.new + shelf_left shelf.new ≤ lane_left lane.old + shelf_left shelf.old }
 {
     if is_over(&lane.running) {
         slot.power_off();
-        finish(at, lane, tally, lines);
+        finish(at, lane, shelf, tally, lines);
     }
 }
 
@@ -85,6 +76,7 @@ fn settle<'s, P: Pages>(
 fn ask_card<'s, P: Pages>(
     at: &Payment<'s>,
     lane: &mut Lane<'s>,
+    shelf: &mut Shelf<P>,
     slot: &mut Slot<'s, P>,
     tally: &mut Tally,
     lines: &mut Lines,
@@ -94,19 +86,21 @@ fn ask_card<'s, P: Pages>(
     requires captures { vec_len lane.old.captures < vec_capacity lane.old.captures }
     requires amount { at.now.planned.now.purchase.amount ≤ most_amount }
     requires amounts { All (λ logged. logged.amount ≤ most_amount) lane.old.log.items }
+    requires room { HasRoom shelf.old at.now.durable }
+    requires taken { HasTaken lane.old.running }
     requires waits { IsSomeAnd lane.old.running (λ kernel. next_of kernel.value ≡ next.ToCard) }
     requires on { has_power slot.old ≡ true }
     requires lines { lines.old.items ≡ [] }
     ensures moved { (issuer : HostKeys) (accounts : List AccountData) (replies : List Reply) (part : Part)
-        → PartRuns (seen_payment issuer accounts at.now) lane.old slot.old replies part
-        → MovedTo (seen_payment issuer accounts at.now) lane.new slot.new lines.new.items
+        → PartRuns (seen_payment issuer accounts at.now) lane.old shelf.old slot.old replies part
+        → MovedTo (seen_payment issuer accounts at.now) lane.new shelf.new slot.new lines.new.items
         (step.asked_card (seen_payment issuer accounts at.now) replies (told_bytes (dialogue (deal_for (seen_payment issuer accounts at.now)) replies)) part) }
     ensures counted { (issuer : HostKeys) (accounts : List AccountData) (replies : List Reply) (part : Part)
-        → PartRuns (seen_payment issuer accounts at.now) lane.old slot.old replies part
+        → PartRuns (seen_payment issuer accounts at.now) lane.old shelf.old slot.old replies part
         → IsCounted tally.old tally.new part.lane.ended
         (step.asked_card (seen_payment issuer accounts at.now) replies (told_bytes (dialogue (deal_for (seen_payment issuer accounts at.now)) replies)) part).part.lane.ended }
     ensures fits { LaneFits lane.new }
-    ensures nearer { lane_left lane.new < lane_left lane.old }
+    ensures nearer { lane_left lane.new + shelf_left shelf.new < lane_left lane.old + shelf_left shelf.old }
 {
     let mut answer = Answer::new();
     let Some(place) = &mut lane.running else {
@@ -117,12 +111,12 @@ fn ask_card<'s, P: Pages>(
         Ok(()) => {
             add_answer(at.lane, kernel.bytes(), answer.as_slice(), lines);
             kernel.take_card(answer.as_slice(), lane.log.as_slice());
-            settle(at, lane, slot, tally, lines);
+            settle(at, lane, shelf, slot, tally, lines);
         }
         Err(Gone) => {
             slot.add_gone(at.lane, kernel.bytes(), lines);
             kernel.take_gone();
-            finish(at, lane, tally, lines);
+            finish(at, lane, shelf, tally, lines);
         }
     }
 }
@@ -167,27 +161,11 @@ fn said(comes: bool, reply: &Message) -> Option<&[u8]>
     if comes { Some(reply.as_slice()) } else { None }
 }
 
-/// The terminal takes the host's reply where it comes back, and else its silence.
-fn hear(lane: &mut Lane<'_>, reply: Option<&[u8]>)
-    requires waits { IsSomeAnd lane.old.running (λ kernel. next_of kernel.value ≡ next.ToHost) }
-    requires reply { IfSome reply (λ reply. length reply.now ≤ 2048) }
-    ensures told { (p : Paid) (replies : List Reply) (row : LaneRow)
-        → LaneStands lane.old p (record row { running = Some replies })
-        → LaneStands lane.new p (record row { running = Some (replies ++ from_host (option_map (λ reply. reply.now) reply.entry) ∷ []) }) }
-    ensures same { IsSomeAnd lane.new.running (λ kernel. lane.new ≡ record lane.old { running = Some kernel; place = lane.new.place }) }
-    ensures fresh { IsSomeAnd lane.new.running (λ kernel. kernel.value.is_spent ≡ false) }
-    ensures nearer { lane_left lane.new < lane_left lane.old }
-{
-    let Some(kernel) = &mut lane.running else {
-        unreachable!();
-    };
-    kernel.take_host(reply);
-}
-
 /// The host is asked. After `AllocError` nothing has changed.
 fn ask_host<'s, P: Pages>(
     at: &Payment<'s>,
     lane: &mut Lane<'s>,
+    shelf: &mut Shelf<P>,
     slot: &mut Slot<'s, P>,
     host: &mut Host<'s>,
     tally: &mut Tally,
@@ -198,24 +176,26 @@ fn ask_host<'s, P: Pages>(
     requires captures { vec_len lane.old.captures < vec_capacity lane.old.captures }
     requires amount { at.now.planned.now.purchase.amount ≤ most_amount }
     requires amounts { All (λ logged. logged.amount ≤ most_amount) lane.old.log.items }
+    requires room { HasRoom shelf.old at.now.durable }
+    requires taken { HasTaken lane.old.running }
     requires waits { IsSomeAnd lane.old.running (λ kernel. next_of kernel.value ≡ next.ToHost) }
     requires on { has_power slot.old ≡ true }
     requires lines { lines.old.items ≡ [] }
     requires stands { (messages : List (List ℕ)) × HostStands host.old messages }
     ensures led { OnOk result ((replies : List Reply) (part : Part)
-        → PartRuns (seen_payment host.old.keys host.old.accounts at.now) lane.old slot.old replies part → HostStands host.old part.messages
-        → Led (seen_payment host.old.keys host.old.accounts at.now) lane.new slot.new tally.old tally.new lines.new.items part
+        → PartRuns (seen_payment host.old.keys host.old.accounts at.now) lane.old shelf.old slot.old replies part → HostStands host.old part.messages
+        → Led (seen_payment host.old.keys host.old.accounts at.now) lane.new shelf.new slot.new tally.old tally.new lines.new.items part
         (step.asked_host (seen_payment host.old.keys host.old.accounts at.now) replies
         (told_bytes (dialogue (deal_for (seen_payment host.old.keys host.old.accounts at.now)) replies)) part)) }
     ensures messages { OnOk result ((replies : List Reply) (part : Part)
-        → PartRuns (seen_payment host.old.keys host.old.accounts at.now) lane.old slot.old replies part → HostStands host.old part.messages
+        → PartRuns (seen_payment host.old.keys host.old.accounts at.now) lane.old shelf.old slot.old replies part → HostStands host.old part.messages
         → HostStands host.new (step.asked_host (seen_payment host.old.keys host.old.accounts at.now) replies
         (told_bytes (dialogue (deal_for (seen_payment host.old.keys host.old.accounts at.now)) replies)) part).part.messages) }
     ensures keys { host.new.keys ≡ host.old.keys }
     ensures accounts { host.new.accounts ≡ host.old.accounts }
     ensures fits { OnOk result (LaneFits lane.new) }
-    ensures nearer { OnOk result (lane_left lane.new < lane_left lane.old) }
-    ensures err { OnErr result ((lane.new ≡ lane.old) × (slot.new ≡ slot.old) × (host.new ≡ host.old) × (tally.new ≡ tally.old) × (lines.new.items ≡ [])) }
+    ensures nearer { OnOk result (lane_left lane.new + shelf_left shelf.new < lane_left lane.old + shelf_left shelf.old) }
+    ensures err { OnErr result ((lane.new ≡ lane.old) × (shelf.new ≡ shelf.old) × (slot.new ≡ slot.old) × (host.new ≡ host.old) × (tally.new ≡ tally.old) × (lines.new.items ≡ [])) }
 {
     let mut wire = Wire::new();
     let mut reply = Message::new();
@@ -227,7 +207,7 @@ fn ask_host<'s, P: Pages>(
         lines,
     );
     hear(lane, said(comes, &reply));
-    settle(at, lane, slot, tally, lines);
+    settle(at, lane, shelf, slot, tally, lines);
     Ok(())
 }
 
@@ -235,6 +215,7 @@ fn ask_host<'s, P: Pages>(
 fn begin<'s, P: Pages>(
     at: &Payment<'s>,
     lane: &mut Lane<'s>,
+    shelf: &mut Shelf<P>,
     slot: &mut Slot<'s, P>,
     tally: &mut Tally,
     lines: &mut Lines,
@@ -246,76 +227,76 @@ fn begin<'s, P: Pages>(
     requires planned { IsPlanned at.now.planned.now }
     requires name { length at.now.card.now.name.items ≤ 16 }
     requires amounts { All (λ logged. logged.amount ≤ most_amount) lane.old.log.items }
+    requires room { HasRoom shelf.old at.now.durable }
     requires rests { lane.old.running ≡ None }
     requires place { IsSome lane.old.place }
     requires off { (kept : List Decided) × (pending : Option Decided) × SlotOff slot.old kept pending }
     requires lines { lines.old.items ≡ [] }
     ensures led { (issuer : HostKeys) (accounts : List AccountData) (part : Part)
-        → PartRests (seen_payment issuer accounts at.now) lane.old slot.old part
-        → (choice : Bool) × Led (seen_payment issuer accounts at.now) lane.new slot.new tally.old tally.new lines.new.items part
+        → PartRests (seen_payment issuer accounts at.now) lane.old shelf.old slot.old part
+        → (choice : Bool) × Led (seen_payment issuer accounts at.now) lane.new shelf.new slot.new tally.old tally.new lines.new.items part
         (step.begun_with (seen_payment issuer accounts at.now) part choice (seen_payment issuer accounts at.now).card.canned) }
     ensures fits { LaneFits lane.new }
-    ensures nearer { lane_left lane.new < lane_left lane.old }
+    ensures nearer { lane_left lane.new + shelf_left shelf.new < lane_left lane.old + shelf_left shelf.old }
 {
     start(at, lane);
     match slot.power_up(at.planned.tear) {
         Ok(()) => {
             slot.add_power(at.lane, at.card.name.as_slice(), lines);
-            settle(at, lane, slot, tally, lines);
+            settle(at, lane, shelf, slot, tally, lines);
         }
         Err(Gone) => {
             add_power_torn(at.lane, at.card.name.as_slice(), lines);
             lose(lane);
-            finish(at, lane, tally, lines);
+            finish(at, lane, shelf, tally, lines);
         }
     }
 }
 
-/// The terminal begins its dialogue.
-fn start<'s>(at: &Payment<'s>, lane: &mut Lane<'s>)
+/// The next purchase begins, behind what its terminal's store has to do first, which may be all of this exchange.
+/// After `AllocError` nothing has changed.
+fn begin_next<'s, P: Pages>(
+    at: &Payment<'s>,
+    lane: &mut Lane<'s>,
+    shelf: &mut Shelf<P>,
+    slot: &mut Slot<'s, P>,
+    host: &mut Host<'s>,
+    tally: &mut Tally,
+    lines: &mut Lines,
+) -> Result<(), AllocError>
+    requires few { lane.old.ended < 10000 }
+    requires log { vec_len lane.old.log < vec_capacity lane.old.log }
+    requires captures { vec_len lane.old.captures < vec_capacity lane.old.captures }
     requires settings { IsSettings at.now.settings.now }
     requires planned { IsPlanned at.now.planned.now }
+    requires name { length at.now.card.now.name.items ≤ 16 }
+    requires one_copy { 1 ≤ at.now.copies }
+    requires few_copies { at.now.copies ≤ 3 }
+    requires amounts { All (λ logged. logged.amount ≤ most_amount) lane.old.log.items }
+    requires rests { lane.old.running ≡ None }
     requires place { IsSome lane.old.place }
-    ensures same { IsSomeAnd lane.new.running (λ kernel. lane.new ≡ record lane.old { running = Some kernel; place = lane.new.place }) }
-    ensures fresh { IsSomeAnd lane.new.running (λ kernel. kernel.value.is_spent ≡ false) }
-    ensures told { (issuer : HostKeys) (accounts : List AccountData)
-        → RunStands lane.new.running (seen_payment issuer accounts at.now) (Some []) }
-    ensures waits { IsSomeAnd lane.new.running (λ kernel. next_of kernel.value ≡ next.ToCard) }
-    ensures few { rank_in lane.new.running ≤ 20015 }
+    requires lines { lines.old.items ≡ [] }
+    requires stands { (part : Part) × NextRests (seen_payment host.old.keys host.old.accounts at.now) lane.old shelf.old slot.old part
+        × HostStands host.old part.messages }
+    ensures led { OnOk result ((part : Part)
+        → NextRests (seen_payment host.old.keys host.old.accounts at.now) lane.old shelf.old slot.old part → HostStands host.old part.messages
+        → (one : Bool) × (other : Bool)
+        × Led (seen_payment host.old.keys host.old.accounts at.now) lane.new shelf.new slot.new tally.old tally.new lines.new.items part
+        (lane_piece (seen_payment host.old.keys host.old.accounts at.now) part one other)
+        × HostStands host.new (lane_piece (seen_payment host.old.keys host.old.accounts at.now) part one other).part.messages) }
+    ensures keys { host.new.keys ≡ host.old.keys }
+    ensures accounts { host.new.accounts ≡ host.old.accounts }
+    ensures fits { OnOk result (LaneFits lane.new) }
+    ensures nearer { OnOk result (lane_left lane.new + shelf_left shelf.new < lane_left lane.old + shelf_left shelf.old) }
+    ensures err { OnErr result ((lane.new ≡ lane.old) × (shelf.new ≡ shelf.old) × (slot.new ≡ slot.old) × (host.new ≡ host.old) × (tally.new ≡ tally.old) × (lines.new.items ≡ [])) }
 {
-    let Some(mut kernel) = lane.place.take() else {
-        unreachable!();
-    };
-    let planned = at.planned;
-    kernel.begin_again(at.settings, &planned.purchase);
-    lane.running = Some(kernel);
-}
-
-/// The card is gone before the terminal could ask it.
-fn lose(lane: &mut Lane<'_>)
-    requires waits { IsSomeAnd lane.old.running (λ kernel. next_of kernel.value ≡ next.ToCard) }
-    ensures same { IsSomeAnd lane.new.running (λ kernel. lane.new ≡ record lane.old { running = Some kernel; place = lane.new.place }) }
-    ensures fresh { IsSomeAnd lane.new.running (λ kernel. kernel.value.is_spent ≡ false) }
-    ensures told { (p : Paid) (replies : List Reply) → RunStands lane.old.running p (Some replies)
-        → RunStands lane.new.running p (Some (replies ++ CardGone ∷ [])) }
-    ensures over { IsSomeAnd lane.new.running (λ kernel. next_of kernel.value ≡ next.Ended) }
-    ensures nearer { rank_in lane.new.running < rank_in lane.old.running }
-{
-    let Some(kernel) = &mut lane.running else {
-        unreachable!();
-    };
-    kernel.take_gone();
-}
-
-/// What the purchase that runs waits for.
-fn waits_for(running: &Option<Box<Kernel<'_>>>) -> Option<Next>
-    ensures exact { result ≡ option_map (λ kernel. next_of kernel.value) running.now }
-    ensures told { (p : Paid) (replies : List Reply) → RunStands running.now p (Some replies)
-        → result ≡ Some (told_next (dialogue (deal_for p) replies)) }
-{
-    match running {
-        Some(kernel) => Some(kernel.next()),
-        None => None,
+    match prepare(at, lane, shelf, host, lines) {
+        Ok(true) => {
+            begin(at, lane, shelf, slot, tally, lines);
+            Ok(())
+        }
+        Ok(false) => Ok(()),
+        Err(AllocError) => Err(AllocError),
     }
 }
 
@@ -327,10 +308,12 @@ pub(crate) fn is_held<P: Pages>(running: &Option<Box<Kernel<'_>>>, slot: &Slot<'
     running.is_none() && slot.is_on()
 }
 
-/// One exchange of a purchase that has its card, or begins. After `AllocError` nothing has changed.
+/// One exchange of a purchase that has its card, or begins, behind what its terminal's store has to do first.
+/// After `AllocError` nothing has changed.
 pub(crate) fn exchange<'s, P: Pages>(
     at: &Payment<'s>,
     lane: &mut Lane<'s>,
+    shelf: &mut Shelf<P>,
     slot: &mut Slot<'s, P>,
     host: &mut Host<'s>,
     tally: &mut Tally,
@@ -341,26 +324,28 @@ pub(crate) fn exchange<'s, P: Pages>(
     requires settings { IsSettings at.now.settings.now }
     requires planned { IsPlanned at.now.planned.now }
     requires name { length at.now.card.now.name.items ≤ 16 }
+    requires one_copy { 1 ≤ at.now.copies }
+    requires few_copies { at.now.copies ≤ 3 }
     requires fits { LaneFits lane.old }
     requires lines { lines.old.items ≡ [] }
-    requires stands { (part : Part) × PartStands (seen_payment host.old.keys host.old.accounts at.now) lane.old slot.old part × HostStands host.old part.messages }
+    requires stands { (part : Part) × PartStands (seen_payment host.old.keys host.old.accounts at.now) lane.old shelf.old slot.old part × HostStands host.old part.messages }
     ensures led { OnOk result ((part : Part)
-        → PartStands (seen_payment host.old.keys host.old.accounts at.now) lane.old slot.old part → HostStands host.old part.messages
-        → (choice : Bool)
-        × Led (seen_payment host.old.keys host.old.accounts at.now) lane.new slot.new tally.old tally.new lines.new.items part
-        (piece (seen_payment host.old.keys host.old.accounts at.now) part choice)
-        × HostStands host.new (piece (seen_payment host.old.keys host.old.accounts at.now) part choice).part.messages) }
-    ensures err { OnErr result (SameLane lane.old lane.new × (slot.new ≡ slot.old) × (host.new ≡ host.old) × (tally.new ≡ tally.old) × (lines.new.items ≡ [])) }
+        → PartStands (seen_payment host.old.keys host.old.accounts at.now) lane.old shelf.old slot.old part → HostStands host.old part.messages
+        → (one : Bool) × (other : Bool)
+        × Led (seen_payment host.old.keys host.old.accounts at.now) lane.new shelf.new slot.new tally.old tally.new lines.new.items part
+        (lane_piece (seen_payment host.old.keys host.old.accounts at.now) part one other)
+        × HostStands host.new (lane_piece (seen_payment host.old.keys host.old.accounts at.now) part one other).part.messages) }
+    ensures err { OnErr result (SameLane lane.old lane.new × (shelf.new ≡ shelf.old) × (slot.new ≡ slot.old) × (host.new ≡ host.old) × (tally.new ≡ tally.old) × (lines.new.items ≡ [])) }
     ensures keys { host.new.keys ≡ host.old.keys }
     ensures accounts { host.new.accounts ≡ host.old.accounts }
     ensures fits { LaneFits lane.new }
-    ensures nearer { OnOk result (lane_left lane.new < lane_left lane.old) }
+    ensures nearer { OnOk result (lane_left lane.new + shelf_left shelf.new < lane_left lane.old + shelf_left shelf.old) }
 {
     make_room(at, lane)?;
     match waits_for(&lane.running) {
-        None => begin(at, lane, slot, tally, lines),
-        Some(Next::ToCard) => ask_card(at, lane, slot, tally, lines),
-        Some(Next::ToHost) => ask_host(at, lane, slot, host, tally, lines)?,
+        None => begin_next(at, lane, shelf, slot, host, tally, lines)?,
+        Some(Next::ToCard) => ask_card(at, lane, shelf, slot, tally, lines),
+        Some(Next::ToHost) => ask_host(at, lane, shelf, slot, host, tally, lines)?,
         Some(Next::Ended) => unreachable!(),
     }
     Ok(())

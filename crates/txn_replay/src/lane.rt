@@ -1,5 +1,5 @@
 //! A lane of a run: a terminal with its purchases.
-ghost use Rattle.std.specs.Prelude.{◌≡◌, ◌+◌, ◌≤◌, ◌<◌, ◌^◌, ◌++◌, ◌∷◌, [], ℕ, List, length, map, false, IsSomeAnd, Some, None, Option, IsSome, IfOk, OnOk, sum_by, option_map, option_to_list};
+ghost use Rattle.std.specs.Prelude.{◌≡◌, ◌+◌, ◌≤◌, ◌<◌, ◌^◌, ◌++◌, ◌∷◌, [], ℕ, List, length, map, true, false, if◌then◌else◌, IsSomeAnd, Some, None, Option, IsSome, IfOk, OnOk, sum_by, option_map, option_to_list};
 ghost use Rattle.std.specs.List.{All};
 ghost use Rattle.std.specs.Vec.{vec_len, vec_capacity};
 ghost use Rattle.auth_message.specs.Whole.{IsMessage};
@@ -13,25 +13,35 @@ ghost use Rattle.kernel.specs.Reply.{Reply};
 ghost use Rattle.kernel.specs.Tally.{raised};
 ghost use Rattle.kernel.specs.declared.kernel.Next.TheVariants as next;
 ghost use Rattle.object_lists.specs.CardRead.{ReadCard};
-ghost use Rattle.txn_replay.specs.Lines.{end_line};
-ghost use Rattle.txn_replay.specs.Part.{lane_ended, approval};
+ghost use Rattle.capture_store.specs.SeenShelf.{is_on as has_power, count_of};
+ghost use Rattle.emv_ports.specs.declared.tear.Tear.{Tear as Plan};
+ghost use Rattle.report_text.specs.declared.line.Line.TheVariants.{EndLost};
+ghost use Rattle.txn_replay.specs.Lines.{outcome_line};
+ghost use Rattle.txn_replay.specs.Stocking.{IsStoredBy, IsNoRequest};
+ghost use Rattle.txn_replay.specs.Part.{lane_ended, loses, approval};
+ghost use Rattle.txn_replay.specs.declared.lane.Outcome.TheVariants as outcome;
 ghost use Rattle.txn_replay.specs.Payment.{end_at};
 ghost use Rattle.scenario_lanes.specs.Plan.{IsPlanned};
-ghost use Rattle.txn_replay.specs.Standing.{SameLane, card_in, LaneStands, lane_left, seen_payment};
+ghost use Rattle.txn_replay.specs.Standing.{SameLane, card_in, LaneKeeps, LaneStands, ShelfStands, HasRoom, HasTaken, lane_left, shelf_left, seen_payment};
+ghost use Rattle.txn_replay.specs.Storing.{lane_lost};
 ghost use Rattle.txn_replay.specs.Seen.{IsNewLane, done_below, is_lane_done};
 ghost use Rattle.txn_replay.specs.World.{LaneRow};
 
-use crate::lines::{Lines, add_end};
+use crate::lines::{Lines, end_parts};
 use crate::payment::Payment;
 use auth_message::Message;
+use capture_store::Shelf;
 use emv_dict::{Digits, Ending, Logged};
+use emv_ports::{Gone, Pages};
 use kernel::{Capture, EndRecord, Kernel, Tally};
 use object_lists::CardData;
+use report_text::Line;
 use scenario_lanes::{Lane as Terminal, Planned};
 use std::alloc::{AllocError, Global};
 
 /// A terminal: how many of its purchases have ended, the one that runs, its log of approvals, the messages
-/// for settlement, and how the purchase that ended last has ended.
+/// for settlement, how the purchase that ended last has ended, and how many messages the opening of its store
+/// for settlement has found.
 #[derive(Drop)]
 pub(crate) struct Lane<'s> {
     pub ended: u32,
@@ -41,6 +51,7 @@ pub(crate) struct Lane<'s> {
     pub log: Vec<Logged>,
     pub captures: Vec<Message>,
     pub ending: Option<Ending>,
+    pub found: Option<u8>,
 }
 
 /// Makes room for an approval and for what is captured, and where no purchase runs for the dialogue of the next
@@ -64,10 +75,22 @@ pub(crate) fn make_room<'s>(at: &Payment<'s>, lane: &mut Lane<'s>) -> Result<(),
     Ok(())
 }
 
-/// Ends the purchase whose dialogue is over: its end line, an approval for the log, and what is captured.
-pub(crate) fn finish<'s>(
+/// What becomes of a purchase's outcome.
+#[derive(Clone, Copy, PartialEq, Eq, Debug)]
+pub(crate) enum Outcome {
+    /// It is told.
+    Told,
+    /// The terminal has lost its power as it was stored.
+    Lost,
+}
+
+/// Ends the purchase whose dialogue is over: its capture goes to the store, which is turned off then, or waits
+/// for settlement; behind that its end line is made, and an approval joins the log. Where the terminal loses
+/// its power at the store, the line tells that the purchase is lost, and it joins no log.
+pub(crate) fn finish<'s, P: Pages>(
     at: &Payment<'s>,
     lane: &mut Lane<'s>,
+    shelf: &mut Shelf<P>,
     tally: &mut Tally,
     lines: &mut Lines,
 )
@@ -78,25 +101,29 @@ pub(crate) fn finish<'s>(
     requires captures { vec_len lane.old.captures < vec_capacity lane.old.captures }
     requires amount { at.now.planned.now.purchase.amount ≤ most_amount }
     requires amounts { All (λ logged. logged.amount ≤ most_amount) lane.old.log.items }
+    requires room { HasRoom shelf.old at.now.durable }
+    requires taken { HasTaken lane.old.running }
     requires lines { length lines.old.items < 8 }
     ensures stands { (issuer : HostKeys) (accounts : List AccountData) (replies : List Reply) (row : LaneRow)
         → LaneStands lane.old (seen_payment issuer accounts at.now) (record row { running = Some replies })
+        → ShelfStands shelf.old (seen_payment issuer accounts at.now) row
         → (end : EndData) × (end_at (seen_payment issuer accounts at.now) replies ≡ Some end)
         × LaneStands lane.new (seen_payment issuer accounts at.now) (lane_ended (seen_payment issuer accounts at.now) replies end row)
-        × (lines.new.items ≡ lines.old.items ++ end_line at.now.lane (length row.ended + 1) end ∷ [])
+        × ShelfStands shelf.new (seen_payment issuer accounts at.now) (lane_ended (seen_payment issuer accounts at.now) replies end row)
+        × (lines.new.items ≡ lines.old.items ++ outcome_line (loses (seen_payment issuer accounts at.now) row.store end.capture) at.now.lane (length row.ended + 1) end ∷ [])
         × (tally.new ≡ raised tally.old end.ending (length replies)) }
     ensures amounts { All (λ logged. logged.amount ≤ most_amount) lane.new.log.items }
     ensures ended { lane.new.ended ≡ lane.old.ended + 1 }
     ensures rests { lane.new.running ≡ None }
-    ensures nearer { lane_left lane.new < lane_left lane.old }
+    ensures nearer { lane_left lane.new + shelf_left shelf.new < lane_left lane.old + shelf_left shelf.old }
 {
     let Some(mut kernel) = lane.running.take() else {
         unreachable!();
     };
     let ended = kernel.end(tally);
     lane.place = Some(kernel);
-    add_end(at.lane, lane.ended + 1, &ended, lines);
     lane.ended += 1;
+    let parts = end_parts(&ended);
     let EndRecord {
         ending,
         tvr: _,
@@ -108,10 +135,76 @@ pub(crate) fn finish<'s>(
         scripts: _,
         capture,
     } = ended;
-    let amount = amount_of(at.planned);
-    add_approval(&mut lane.log, ending, pan, amount);
-    add_capture(&mut lane.captures, capture);
     lane.ending = Some(ending);
+    match keep_capture(at, &mut lane.captures, shelf, capture) {
+        Outcome::Told => {
+            lines.end(at.lane, lane.ended, parts);
+            add_approval(&mut lane.log, ending, pan, amount_of(at.planned));
+        }
+        Outcome::Lost => lines.end_lost(at.lane, lane.ended),
+    }
+}
+
+/// What is captured goes to the store of a terminal that has one, or waits for settlement.
+fn keep_capture<P: Pages>(
+    at: &Payment<'_>,
+    captures: &mut Vec<Message>,
+    shelf: &mut Shelf<P>,
+    capture: Option<Capture>,
+) -> Outcome
+    requires captures { vec_len captures.old < vec_capacity captures.old }
+    requires room { HasRoom shelf.old at.now.durable }
+    requires settles { IsNoRequest capture }
+    ensures waits { map (λ message. message.items) captures.new.items
+        ≡ map (λ message. message.items) captures.old.items ++ (if at.now.durable then [] else option_to_list capture) }
+    ensures read { All IsMessage (option_to_list capture) }
+    ensures stored { at.now.durable ≡ true → IsStoredBy shelf.old shelf.new at.now.planned.now.terminal_tear capture result }
+    ensures told { at.now.durable ≡ false → (result ≡ outcome.Told) × (shelf.new ≡ shelf.old) }
+{
+    if at.durable {
+        return store_capture(shelf, capture);
+    }
+    add_capture(captures, capture);
+    Outcome::Told
+}
+
+/// What is captured joins the messages of the store, which is turned off then.
+fn store_capture<P: Pages>(shelf: &mut Shelf<P>, capture: Option<Capture>) -> Outcome
+    requires on { has_power shelf.old ≡ true }
+    requires room { count_of shelf.old < 7 }
+    requires settles { IsNoRequest capture }
+    ensures stored { (plan : Option Plan) → IsStoredBy shelf.old shelf.new plan capture result }
+    ensures read { All IsMessage (option_to_list capture) }
+{
+    let Some(capture) = capture else {
+        shelf.power_off();
+        return Outcome::Told;
+    };
+    let mut message = Message::new();
+    capture.into_message(&mut message);
+    match shelf.add(message.as_slice()) {
+        Ok(()) => {
+            shelf.power_off();
+            Outcome::Told
+        }
+        Err(Gone) => Outcome::Lost,
+    }
+}
+
+/// The purchase that is next is lost before its card is powered up.
+pub(crate) fn lose_purchase(at: &Payment<'_>, lane: &mut Lane<'_>, lines: &mut Lines)
+    requires few { lane.old.ended < 10000 }
+    requires rests { lane.old.running ≡ None }
+    requires lines { length lines.old.items < 8 }
+    ensures keeps { (row : LaneRow) → LaneKeeps lane.old row → LaneKeeps lane.new (lane_lost row) }
+    ensures line { lines.new.items ≡ lines.old.items ++ EndLost at.now.lane lane.new.ended ∷ [] }
+    ensures ended { lane.new.ended ≡ lane.old.ended + 1 }
+    ensures same { lane.new ≡ record lane.old { ended = lane.new.ended; place = None; ending = None } }
+{
+    lane.ended += 1;
+    lane.place = None;
+    lane.ending = None;
+    lines.end_lost(at.lane, lane.ended);
 }
 
 /// What reading gave in the dialogue of this place.
@@ -179,6 +272,7 @@ pub(crate) fn new_lanes<'s>(alloc: Global, count: usize) -> Result<Vec<Lane<'s>>
             log: Vec::new(alloc),
             captures: Vec::new(alloc),
             ending: None,
+            found: None,
         })?;
     }
     Ok(lanes)

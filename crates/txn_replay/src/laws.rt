@@ -1,13 +1,16 @@
 //! Laws over every run, whatever its scenario.
 ghost use Rattle.txn_replay.specs.Bounds.{WorldsAreFew, SettlementsAreFew, ChecksAreFew};
+ghost use Rattle.txn_replay.specs.Captured.{CapturesAreSent, LostAreTold};
 ghost use Rattle.txn_replay.specs.Choices.{NoneIsOpen, RunIsOne};
 ghost use Rattle.txn_replay.specs.Laws.{RunsAreFair, WholeRunsAreFair, WorldsAreSound, IdleLanesStay, LanesStayApart, LossesAreTold, StuckIsOver, CalmIsOver};
 ghost use Rattle.txn_replay.specs.PagesTell.{PagesTellTotals};
 ghost use Rattle.txn_replay.specs.Respelled.{DialectsShow, WholeDialectsShow};
+ghost use Rattle.txn_replay.specs.StandAlone.{LanesStandAlone, CarriedAreOwn, FirstPartsAgree, StepsComeApart, AloneIsOwn, LaneRunIsOne};
+ghost use Rattle.txn_replay.specs.Stored.{StoresAreKept, SettlementGoesThrough, StoresAreEmptied};
 ghost use Rattle.txn_replay.specs.Telling.{GivenIsTold, GivenIsLeft, HeldIsSure, AnsweredIsSure};
 ghost use Rattle.txn_replay.specs.Told.{RunsTellLosses, WholeRunsTellLosses, RunsTellReplies, RunsTellMessages, PastsEnd};
 
-use host_histories::transactions_are_booked_once;
+use host_histories::{accounts_stand_apart, transactions_are_booked_once};
 
 /// Wherever a scenario's tears cut the power: no transaction counter of an application serves the
 /// cryptograms of two purchases. Each completed power-up finds a prefix of the decisions taken, which
@@ -75,7 +78,7 @@ pub fn losses_are_told()
 {}
 
 /// Where no tear of a scenario leaves a choice, no card of a world that a run comes to has a decision that may be
-/// kept or not, and there is one run.
+/// kept or not, no store has a lost call, and there is one run.
 pub fn run_is_one()
     ensures closed { NoneIsOpen }
     ensures one { RunIsOne }
@@ -86,3 +89,36 @@ pub fn run_is_one()
 pub fn pages_tell_totals()
     ensures { PagesTellTotals }
 {}
+
+/// Of a lane that keeps its captures durably, each capture of a purchase that wasn't lost is sent whole, in the
+/// order of the purchases; that of a lost purchase is sent whole or never; one that is sent again is, because its
+/// drop was lost. What is sent comes to the host, and a presentment's transaction is booked where the host's reply
+/// to it has code 00. A lane has lost as many purchases as its lines tell.
+pub fn captures_are_sent()
+    ensures sent { CapturesAreSent }
+    ensures lost { LostAreTold }
+{}
+
+/// A store never holds more than seven messages, and has room while a purchase runs. The settlement goes through
+/// what its opening has found, and behind it nothing is left in a store and no call is lost.
+pub fn stores_are_emptied()
+    ensures kept { StoresAreKept }
+    ensures through { SettlementGoesThrough }
+    ensures emptied { StoresAreEmptied }
+{}
+
+/// A lane whose cards no other lane's purchase names, and whose account numbers no other lane's message carries, runs as
+/// if it were alone: its lines, the audit of its cards and the balances of its accounts are those of a run of the lane
+/// alone. These numbers may be just those that its own messages carry. Each event of a run is one of the lane alone, or
+/// none of it. The lane alone is made of nothing else of the scenario, and where no tear of the lane leaves a choice, it
+/// has one run.
+pub fn lanes_stand_alone()
+    ensures alone { LanesStandAlone }
+    ensures numbers { CarriedAreOwn }
+    ensures first { FirstPartsAgree }
+    ensures steps { StepsComeApart }
+    ensures own { AloneIsOwn }
+    ensures one { LaneRunIsOne }
+{
+    accounts_stand_apart();
+}

@@ -11,12 +11,15 @@ pub mod lines;
 mod payment;
 mod settlement;
 mod slot;
+mod storing;
+mod terminal;
 pub mod world;
 
 pub use event::Event;
 pub use laws::{
-    cards_are_told, dialects_show, lanes_are_sound, losses_are_told, pages_tell_totals,
-    replies_are_told, run_is_one, runs_are_fair, runs_end,
+    captures_are_sent, cards_are_told, dialects_show, lanes_are_sound, lanes_stand_alone,
+    losses_are_told, pages_tell_totals, replies_are_told, run_is_one, runs_are_fair, runs_end,
+    stores_are_emptied,
 };
 pub use lines::Lines;
 pub use world::{NoWorld, World};

@@ -3,19 +3,21 @@ ghost use Rattle.std.specs.Prelude.{◌≡◌, ◌≤◌, ◌<◌, length, optio
 ghost use Rattle.emv_dict.specs.Settings.{IsSettings};
 ghost use Rattle.scenario.specs.Plan.{IsScenario};
 ghost use Rattle.scenario_lanes.specs.Plan.{IsPlanned};
-ghost use Rattle.txn_replay.specs.Payment.{payment_in, dialect_of};
+ghost use Rattle.txn_replay.specs.Payment.{payment_in, dialect_of, durable_of};
 ghost use Rattle.txn_replay.specs.Standing.{seen_payment};
 
 use emv_dict::Settings;
 use scenario::{NamedCard, Scenario};
 use scenario_lanes::Planned;
 
-/// The lane's index, whether it speaks ISO 8583 with the host, its terminal's settings, what is planned, and the
-/// card.
+/// How often a settlement message is sent, the lane's index, whether it speaks ISO 8583 with the host and whether
+/// it keeps its captures durably, its terminal's settings, what is planned, and the card.
 #[derive(Clone, Copy)]
 pub(crate) struct Payment<'s> {
+    pub copies: u8,
     pub lane: u8,
     pub iso: bool,
+    pub durable: bool,
     pub settings: &'s Settings,
     pub planned: &'s Planned,
     pub card: &'s NamedCard,
@@ -30,12 +32,16 @@ pub(crate) fn payment_at(scenario: &Scenario, lane: usize, number: u32) -> Optio
     ensures planned { IfSome result (λ at. IsPlanned at.planned.now) }
     ensures card { IfSome result (λ at. at.planned.now.card < length scenario.now.cards) }
     ensures name { IfSome result (λ at. length at.card.now.name.items ≤ 16) }
+    ensures one_copy { IfSome result (λ at. 1 ≤ at.copies) }
+    ensures few_copies { IfSome result (λ at. at.copies ≤ 3) }
 {
     let terminal = &scenario.lanes[lane];
     match terminal.purchases.get(number as usize) {
         Some(planned) => Some(Payment {
+            copies: scenario.copies,
             lane: lane as u8,
             iso: terminal.iso,
+            durable: terminal.durable,
             settings: &terminal.settings,
             planned,
             card: &scenario.cards[planned.card],
@@ -50,6 +56,16 @@ pub(crate) fn dialect_at(scenario: &Scenario, lane: u8) -> bool
 {
     match scenario.lanes.get(lane as usize) {
         Some(terminal) => terminal.iso,
+        None => false,
+    }
+}
+
+/// Whether the lane keeps its captures durably.
+pub(crate) fn is_durable(scenario: &Scenario, lane: usize) -> bool
+    ensures { result ≡ durable_of scenario.now lane }
+{
+    match scenario.lanes.get(lane) {
+        Some(terminal) => terminal.durable,
         None => false,
     }
 }

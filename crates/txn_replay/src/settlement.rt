@@ -1,29 +1,176 @@
-//! The messages of the settlement, by lane, then by purchase.
-ghost use Rattle.std.specs.Prelude.{◌≡◌, ◌≤◌, ◌<◌, ℕ, map, option_map, slice_get, length};
-ghost use Rattle.txn_replay.specs.Seen.{captured, settlement_by};
-ghost use Rattle.txn_replay.specs.Steps.{settlements_from};
+//! The settlement: by lane, its captures by purchase, or the opening of its store and what it found.
+ghost use Rattle.std.specs.Prelude.{◌≡◌, ◌≤◌, ◌<◌, ◌+◌, ◌++◌, ◌∷◌, [], ℕ, List, Bool, true, length, slice_get, Some, None, IfOk, OnOk, OnErr};
+ghost use Rattle.std.specs.List.{All};
+ghost use Rattle.std.specs.Vec.{vec_len};
+ghost use Rattle.auth_message.specs.Message.{message_of};
+ghost use Rattle.auth_message.specs.Whole.{IsMessage};
+ghost use Rattle.capture_store.specs.SeenShelf.{ShelfOn, ShelfOff, IsShelfOff, losses_of, is_on as has_power};
+ghost use Rattle.capture_store.specs.StoreRow.{StoreRow, opened_to_settle};
+ghost use Rattle.issuer_host.specs.History.{HostStands, host_reply, is_new};
+ghost use Rattle.scenario.specs.Plan.{IsScenario};
+ghost use Rattle.txn_replay.specs.Lines.{settle_lines};
+ghost use Rattle.txn_replay.specs.Payment.{durable_of};
+ghost use Rattle.txn_replay.specs.Settling.{AreRows, IsStepOf, steps_of as steps_in, step_in as found_in};
+ghost use Rattle.txn_replay.specs.Steps.{settlements_from, settled_store};
+ghost use Rattle.txn_replay.specs.World.{LaneRow};
 
 use crate::lane::Lane;
+use crate::lines::Lines;
+use crate::payment::is_durable;
+use crate::storing::copy_first;
 use auth_message::Message;
+use capture_store::Shelf;
+use emv_ports::Pages;
+use host_link::{Wire, deliver};
+use issuer_host::Host;
+use scenario::Scenario;
+use scenario_lanes::Link;
+use std::alloc::AllocError;
 
-/// The lane and the message of the settlement of this number, from 0, where each is sent so often.
-pub(crate) fn settlement<'a>(
-    lanes: &'a [Lane<'_>],
-    copies: u8,
-    number: u32,
-) -> Option<(u8, &'a Message)>
-    requires few { length lanes.now ≤ 16 }
-    requires copies { 1 ≤ copies }
-    ensures { option_map (λ at. settlement_by at.0 at.1.now.items) result ≡ slice_get (settlements_from copies 0 (map captured lanes.now)) number }
+/// A step of the settlement.
+pub(crate) enum Settling<'a> {
+    /// The store of a lane is opened.
+    Opens(usize),
+    /// A message that a lane has captured is sent.
+    Sends(usize, &'a Message),
+    /// The oldest message of a lane's store is sent, and dropped behind its last copy.
+    Drains(usize, bool),
+}
+
+/// How many steps a lane has.
+fn steps_of(lane: &Lane<'_>, durable: bool, copies: usize) -> usize
+    requires copies { copies ≤ 3 }
+    requires few { vec_len lane.now.captures ≤ 10000 }
+    ensures { result ≡ steps_in lane.now durable copies }
 {
-    let copies = copies as usize;
+    if !durable {
+        return lane.captures.len() * copies;
+    }
+    match lane.found {
+        Some(found) => 1 + usize::from(found) * copies,
+        None => 1,
+    }
+}
+
+/// The step of this number among those of a lane.
+fn step_in<'a>(
+    lane: &'a Lane<'_>,
+    index: usize,
+    durable: bool,
+    copies: usize,
+    number: usize,
+) -> Settling<'a>
+    requires copies { 1 ≤ copies }
+    requires within { number < steps_in lane.now durable copies }
+    ensures { found_in lane.now index durable copies number result }
+{
+    if !durable {
+        return Settling::Sends(index, &lane.captures[number / copies]);
+    }
+    if number == 0 {
+        return Settling::Opens(index);
+    }
+    Settling::Drains(index, number % copies == 0)
+}
+
+/// The step of the settlement of this number, from 0.
+pub(crate) fn settlement<'a>(
+    scenario: &Scenario,
+    lanes: &'a [Lane<'_>],
+    number: u32,
+) -> Option<Settling<'a>>
+    requires scenario { IsScenario scenario.now }
+    requires few { length lanes.now ≤ 16 }
+    requires captures { All (λ lane. vec_len lane.captures ≤ 10000) lanes.now }
+    ensures { (rows : List LaneRow) → AreRows lanes.now rows → IsStepOf (durable_of scenario.now) (slice_get (settlements_from scenario.now 0 rows) number) result }
+{
+    let copies = usize::from(scenario.copies);
     let mut left = number as usize;
     for (index, lane) in lanes.iter().enumerate() {
-        let captures = lane.captures.as_slice();
-        if let Some(message) = captures.get(left / copies) {
-            return Some((index as u8, message));
+        let durable = is_durable(scenario, index);
+        let steps = steps_of(lane, durable, copies);
+        if left < steps {
+            return Some(step_in(lane, index, durable, copies, left));
         }
-        left -= captures.len() * copies;
+        left -= steps;
     }
     None
+}
+
+/// A settlement message goes to the host in the dialect of its lane, and both its lines are made. After
+/// `AllocError`, which doesn't come where the host has had the message, nothing has changed.
+pub(crate) fn send(
+    iso: bool,
+    lane: u8,
+    message: &[u8],
+    host: &mut Host<'_>,
+    lines: &mut Lines,
+) -> Result<(), AllocError>
+    requires short { length message.now ≤ 2048 }
+    requires message { iso ≡ true → IsMessage message.now }
+    requires room { length lines.old.items < 7 }
+    requires stands { (messages : List (List ℕ)) × HostStands host.old messages }
+    ensures lines { OnOk result ((messages : List (List ℕ)) → HostStands host.old messages
+        → lines.new.items ≡ lines.old.items ++ settle_lines iso lane message.now (host_reply host.old.keys host.old.accounts messages message.now)) }
+    ensures two { OnOk result (length lines.new.items ≡ length lines.old.items + 2) }
+    ensures stands { OnOk result ((messages : List (List ℕ)) → HostStands host.old messages → HostStands host.new (messages ++ message.now ∷ [])) }
+    ensures keys { host.new.keys ≡ host.old.keys }
+    ensures accounts { host.new.accounts ≡ host.old.accounts }
+    ensures err { OnErr result ((host.new ≡ host.old) × (lines.new.items ≡ lines.old.items)) }
+    ensures memory { OnErr result (is_new host.old.books (message_of message.now) ≡ true) }
+{
+    let mut wire = Wire::new();
+    let mut reply = Message::new();
+    let _ = deliver(iso, Link::Sound, message, host, &mut wire, &mut reply)?;
+    lines.settle_call(lane, wire.call.as_slice());
+    lines.settle_reply(lane, wire.reply.as_slice());
+    Ok(())
+}
+
+/// A lane's store is opened for settlement, without a plan.
+pub(crate) fn open_to_settle<P: Pages>(lane: &mut Lane<'_>, shelf: &mut Shelf<P>)
+    requires off { IsShelfOff shelf.old }
+    ensures opened { (row : StoreRow) → ShelfOff shelf.old row
+        → (found : Bool) × ShelfOn shelf.new (opened_to_settle row found) None × (lane.new.found ≡ Some (length (opened_to_settle row found).list)) }
+    ensures losses { losses_of shelf.new ≡ losses_of shelf.old }
+    ensures same { lane.new ≡ record lane.old { found = lane.new.found } }
+{
+    let Ok(()) = shelf.open(None) else {
+        unreachable!();
+    };
+    lane.found = Some(shelf.count() as u8);
+}
+
+/// The oldest message of a lane's store, which is on without a plan, is sent, and dropped behind its last copy.
+/// After `AllocError` nothing has changed.
+pub(crate) fn drain<P: Pages>(
+    iso: bool,
+    lane: u8,
+    drops: bool,
+    shelf: &mut Shelf<P>,
+    host: &mut Host<'_>,
+    lines: &mut Lines,
+) -> Result<(), AllocError>
+    requires on { (row : StoreRow) × ShelfOn shelf.old row None × (0 < length row.list) × All IsMessage row.list }
+    requires lines { lines.old.items ≡ [] }
+    requires stands { (messages : List (List ℕ)) × HostStands host.old messages }
+    ensures drained { OnOk result ((row : StoreRow) → ShelfOn shelf.old row None → ShelfOn shelf.new (settled_store drops row) None) }
+    ensures lines { OnOk result ((row : StoreRow) (message : List ℕ) (messages : List (List ℕ)) → ShelfOn shelf.old row None
+        → slice_get row.list 0 ≡ Some message → HostStands host.old messages
+        → (lines.new.items ≡ settle_lines iso lane message (host_reply host.old.keys host.old.accounts messages message))
+        × HostStands host.new (messages ++ message ∷ [])) }
+    ensures losses { losses_of shelf.new ≡ losses_of shelf.old }
+    ensures keys { host.new.keys ≡ host.old.keys }
+    ensures accounts { host.new.accounts ≡ host.old.accounts }
+    ensures err { OnErr result ((shelf.new ≡ shelf.old) × (host.new ≡ host.old) × (lines.new.items ≡ [])) }
+{
+    let mut message = Message::new();
+    copy_first(shelf, &mut message);
+    send(iso, lane, message.as_slice(), host, lines)?;
+    if drops {
+        let Ok(()) = shelf.drop_first() else {
+            unreachable!();
+        };
+    }
+    Ok(())
 }

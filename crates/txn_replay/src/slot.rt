@@ -12,7 +12,7 @@ ghost use Rattle.txn_replay.specs.Called.{IsPowered, IsLost, IsAnswered, IsGone,
 ghost use Rattle.txn_replay.specs.Slot.{SlotOn, SlotOff, IsSlotOf, HasLost, is_on as has_power};
 ghost use Rattle.txn_replay.specs.World.{CardRow};
 
-use crate::lines::{Lines, add_gone, add_power, add_power_canned, add_torn};
+use crate::lines::{Lines, add_gone, add_power, name_of};
 use apdu_core::Answer;
 use ber_tlv::append;
 use card_app::Chip;
@@ -188,7 +188,7 @@ impl<'s, P: Pages> Slot<'s, P> {
     {
         match &self.0 {
             SlotKind::App(chip) => add_power(lane, name, chip.image(), chip.totals(), lines),
-            SlotKind::Canned(_) => add_power_canned(lane, name, lines),
+            SlotKind::Canned(_) => lines.power_canned(lane, name_of(name)),
         }
     }
 
@@ -200,7 +200,10 @@ impl<'s, P: Pages> Slot<'s, P> {
         ensures two { length lines.new.items ≡ length lines.old.items + 2 }
     {
         match &self.0 {
-            SlotKind::App(_) => add_torn(lane, command, lines),
+            SlotKind::App(_) => {
+                lines.to_card(lane, command);
+                lines.torn(lane);
+            }
             SlotKind::Canned(_) => add_gone(lane, command, lines),
         }
     }

@@ -8,29 +8,28 @@ ghost use Rattle.report_text.specs.declared.line.Line.{Line as ReportLine};
 ghost use Rattle.scenario.specs.Plan.{IsScenario};
 ghost use Rattle.txn_replay.specs.Reading.{data_at, ending_at};
 ghost use Rattle.txn_replay.specs.Run.{all_over, ended_count};
-ghost use Rattle.txn_replay.specs.Seen.{WorldSeen, WorldStands, Goes, BankStands, IsNext, is_done, turns_left};
+ghost use Rattle.txn_replay.specs.Seen.{WorldSeen, WorldStands, Goes, BankStands, IsSettling, IsNext, is_done, turns_left};
 ghost use Rattle.txn_replay.specs.Sound.{IsIdle};
 ghost use Rattle.txn_replay.specs.Steps.{Settlement, Check, settlements, checks};
+ghost use Rattle.txn_replay.specs.Stored.{IsSettledTo};
 ghost use Rattle.txn_replay.specs.World.{World as SpecWorld, first_world};
 ghost use Rattle.txn_replay.specs.declared.event.Event.TheVariants as event;
 
 use crate::audit::{audit_step, carry_out};
-use crate::bank::{give_pages, take_pages};
+use crate::bank::{give_pages, give_stores, take_pages, take_stores};
 use crate::exchange::{exchange, is_held};
 use crate::lane::{Lane, all_ended, are_done, data_in, new_lanes};
-use crate::lines::{Lines, add_settlement};
+use crate::lines::Lines;
 use crate::payment::{dialect_at, payment_at};
-use crate::settlement::settlement;
+use crate::settlement::{Settling, drain, open_to_settle, send, settlement};
 use crate::slot::Slot;
-use auth_message::Message;
+use capture_store::Shelf;
 use emv_dict::{Digits, Ending};
 use emv_ports::Pages;
-use host_link::{Wire, deliver};
 use issuer_host::{Host, HostKeys};
 use kernel::Tally;
 use object_lists::CardData;
 use scenario::Scenario;
-use scenario_lanes::Link;
 use std::alloc::{AllocError, Global};
 use std::marker::Model;
 
@@ -46,15 +45,17 @@ pub struct World<'s, P: Pages> {
     scenario: &'s Scenario,
     slots: Vec<Slot<'s, P>>,
     lanes: Vec<Lane<'s>>,
+    /// The store of each lane that keeps its captures durably.
+    shelves: Vec<Shelf<P>>,
     host: Host<'s>,
     tally: Tally,
-    /// The pages that no card has.
+    /// The pages that no card and no store has.
     spare: Vec<P>,
 }
 
 impl<'s, P: Pages> Model for World<'s, P> {
-    ghost use Rattle.std.specs.Prelude.{map, ◌+◌, ◌≤◌};
-    ghost use Rattle.std.specs.Vec.{vec_len, vec_capacity};
+    ghost use Rattle.std.specs.Prelude.{map, ◌≤◌};
+    ghost use Rattle.std.specs.Vec.{vec_capacity};
     ghost use Rattle.txn_replay.specs.Seen.{WorldSeen, IsWhole};
 
     ghost Value = { WorldSeen };
@@ -63,6 +64,7 @@ impl<'s, P: Pages> Model for World<'s, P> {
       scenario = w.scenario.now;
       slots = w.slots.items;
       lanes = w.lanes.items;
+      shelves = w.shelves.items;
       host = w.host;
       tally = w.tally;
       spare = map P.memory w.spare.items;
@@ -72,14 +74,16 @@ impl<'s, P: Pages> Model for World<'s, P> {
       scenario = w.scenario.now;
       slots = w.slots.items;
       lanes = w.lanes.items;
+      shelves = w.shelves.items;
       host = w.host;
       tally = w.tally;
       spare = map P.memory w.spare.items;
-    }) × (vec_len w.slots + vec_len w.spare ≤ vec_capacity w.spare) };
+    }) × (64 ≤ vec_capacity w.spare) };
 }
 
 impl<'s, P: Pages> World<'s, P> {
-    /// The run of a scenario begins. Its cards take the first of the pages, in their order.
+    /// The run of a scenario begins. Its cards take the first of the pages, in their order, and the stores of its
+    /// lanes the last ones, each lane those before the ones of the lane before it.
     /// `NoWorld` is want of memory: no later call but `turn` and `settle` takes any.
     pub fn new(
         alloc: Global,
@@ -91,7 +95,6 @@ impl<'s, P: Pages> World<'s, P> {
         requires blank { All IsBlank (map P.memory bank.items) }
         ensures stands { IfOk result (λ world. WorldStands world (first_world scenario.now)) }
         ensures scenario { IfOk result (λ world. world.scenario ≡ scenario.now) }
-        ensures spare { IfOk result (λ world. world.spare ≡ drop (length scenario.now.cards) (map P.memory bank.items)) }
         ensures back { IfErr result (λ no. no.bank ≡ bank) }
     {
         let keys = keys_of(&scenario.issuer);
@@ -101,16 +104,21 @@ impl<'s, P: Pages> World<'s, P> {
         let Ok(lanes) = new_lanes(alloc, scenario.lanes.len()) else {
             return Err(NoWorld { bank });
         };
+        let Ok(mut shelves) = Vec::with_capacity(alloc, scenario.lanes.len()) else {
+            return Err(NoWorld { bank });
+        };
         let cards = scenario.cards.as_slice();
         let Ok(mut slots) = Vec::with_capacity(alloc, cards.len()) else {
             return Err(NoWorld { bank });
         };
         let mut spare = bank;
+        take_stores(scenario.lanes.as_slice(), &mut spare, &mut shelves);
         take_pages(cards, &mut spare, &mut slots);
         Ok(World {
             scenario,
             slots,
             lanes,
+            shelves,
             host,
             tally: Tally::new(),
             spare,
@@ -118,8 +126,10 @@ impl<'s, P: Pages> World<'s, P> {
     }
 
     /// One exchange of the lane of this index. A lane without a running purchase powers up the card of its
-    /// next one; a purchase whose dialogue is over ends in the same exchange. `false`, and nothing happens,
-    /// where no purchase is left or another lane's has the card. After `AllocError` nothing has changed.
+    /// next one; a purchase whose dialogue is over ends in the same exchange. A lane that keeps its captures
+    /// durably first opens its store; where that is full, this is all, the first message is sent and dropped in
+    /// the next exchange, and the card is powered up in the one behind it. `false`, and nothing happens, where no
+    /// purchase is left or another lane's has the card. After `AllocError` nothing has changed.
     pub fn turn(&mut self, lane: usize, lines: &mut Lines) -> Result<bool, AllocError>
         requires lane { lane < length self.old.scenario.lanes }
         requires empty { lines.old.items ≡ [] }
@@ -130,7 +140,6 @@ impl<'s, P: Pages> World<'s, P> {
         ensures err { OnErr result ((w : SpecWorld) → WorldStands self.old w → WorldStands self.new w) }
         ensures none { OnErr result (lines.new.items ≡ []) }
         ensures scenario { self.new.scenario ≡ self.old.scenario }
-        ensures spare { self.new.spare ≡ self.old.spare }
     {
         let scenario = self.scenario;
         let ended = self.lanes[lane].ended;
@@ -144,6 +153,7 @@ impl<'s, P: Pages> World<'s, P> {
         exchange(
             &at,
             &mut self.lanes[lane],
+            &mut self.shelves[lane],
             &mut self.slots[card],
             &mut self.host,
             &mut self.tally,
@@ -152,43 +162,48 @@ impl<'s, P: Pages> World<'s, P> {
         Ok(true)
     }
 
-    /// The settlement message of this number, from 0, goes to the host: each lane's captures by purchase,
-    /// each as often as the scenario says. `false` where there is none; then, and after `AllocError`,
-    /// nothing has happened.
+    /// The step of the settlement of this number, from 0: each lane's captures by purchase, each sent as often as
+    /// the scenario says; of a lane that keeps its captures durably first the opening of its store, which makes no
+    /// line, and then each message that it found, dropped behind its last copy. `false` where there is none; then,
+    /// and after `AllocError`, nothing has happened.
     pub fn settle(&mut self, number: u32, lines: &mut Lines) -> Result<bool, AllocError>
+        requires done { is_done self.old ≡ true }
+        requires next { IsSettling self.old number }
         requires empty { lines.old.items ≡ [] }
-        ensures ok { OnOk result ((w : SpecWorld) → WorldStands self.old w → Goes self.new w (event.Settle number) lines.new.items) }
+        ensures ok { OnOk result ((w : SpecWorld) → WorldStands self.old w → IsSettledTo self.old.scenario w number
+            → Goes self.new w (event.Settle number) lines.new.items) }
         ensures there { IfOk result (λ went. went ≡ true → (w : SpecWorld) → WorldStands self.old w
             → (at : Settlement) × (slice_get (settlements self.old.scenario w) number ≡ Some at)) }
         ensures past { IfOk result (λ went. went ≡ false → (w : SpecWorld) → WorldStands self.old w
             → slice_get (settlements self.old.scenario w) number ≡ None) }
-        ensures few { IfOk result (λ went. went ≡ true → number < 30000) }
+        ensures few { IfOk result (λ went. went ≡ true → number < 30352) }
         ensures still { IfOk result (λ went. went ≡ false → (self.new ≡ self.old) × (lines.new.items ≡ [])) }
         ensures err { OnErr result (self.new ≡ self.old) }
         ensures none { OnErr result (lines.new.items ≡ []) }
         ensures scenario { self.new.scenario ≡ self.old.scenario }
-        ensures spare { self.new.spare ≡ self.old.spare }
         ensures done { is_done self.new ≡ is_done self.old }
     {
         let scenario = self.scenario;
-        let Some((lane, message)) = settlement(self.lanes.as_slice(), scenario.copies, number)
-        else {
+        let Some(step) = settlement(scenario, self.lanes.as_slice(), number) else {
             return Ok(false);
         };
-        let iso = dialect_at(scenario, lane);
-        let mut wire = Wire::new();
-        let mut reply = Message::new();
-        let sent = message.as_slice();
-        let _ = deliver(
-            iso,
-            Link::Sound,
-            sent,
-            &mut self.host,
-            &mut wire,
-            &mut reply,
-        )?;
-        add_settlement(lane, wire.call.as_slice(), wire.reply.as_slice(), lines);
-        Ok(true)
+        match step {
+            Settling::Opens(lane) => {
+                open_to_settle(&mut self.lanes[lane], &mut self.shelves[lane]);
+                Ok(true)
+            }
+            Settling::Sends(lane, message) => {
+                let iso = dialect_at(scenario, lane as u8);
+                send(iso, lane as u8, message.as_slice(), &mut self.host, lines)?;
+                Ok(true)
+            }
+            Settling::Drains(lane, drops) => {
+                let iso = dialect_at(scenario, lane as u8);
+                let shelf = &mut self.shelves[lane];
+                drain(iso, lane as u8, drops, shelf, &mut self.host, lines)?;
+                Ok(true)
+            }
+        }
     }
 
     /// The step of the audit of this number, from 0: each card with applications is powered up without a tear,
@@ -206,7 +221,6 @@ impl<'s, P: Pages> World<'s, P> {
         ensures next { result ≡ true → IsNext self.new (number + 1) }
         ensures done { is_done self.new ≡ true }
         ensures scenario { self.new.scenario ≡ self.old.scenario }
-        ensures spare { self.new.spare ≡ self.old.spare }
     {
         let scenario = self.scenario;
         let Some(step) = audit_step(scenario.cards.as_slice(), number) else {
@@ -260,22 +274,23 @@ impl<'s, P: Pages> World<'s, P> {
         all_ended(self.lanes.as_slice())
     }
 
-    /// Gives the pages back, each card's at its place and off, and the tally of all dialogues that were ended.
+    /// Gives the pages back, each card's and each store's at its place and off, and the tally of all dialogues that
+    /// were ended.
     pub fn into_bank(self) -> (Vec<P>, Tally)
-        ensures cards { (w : SpecWorld) → WorldStands self.entry w → BankStands self.entry.scenario w (map P.memory result.0.items) }
-        ensures spare { drop (length self.entry.scenario.cards) (map P.memory result.0.items) ≡ self.entry.spare }
+        ensures bank { (w : SpecWorld) → WorldStands self.entry w → BankStands self.entry.scenario w (map P.memory result.0.items) }
         ensures tally { result.1 ≡ self.entry.tally }
-        ensures length { length result.0.items ≡ length self.entry.slots + length self.entry.spare }
+        ensures length { length result.0.items ≡ 64 }
     {
         let World {
             scenario: _,
             slots,
             lanes: _,
+            shelves,
             host: _,
             tally,
             spare,
         } = self;
-        (give_pages(slots, spare), tally)
+        (give_stores(shelves, give_pages(slots, spare)), tally)
     }
 }
 

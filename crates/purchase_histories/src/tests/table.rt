@@ -24,9 +24,11 @@ pub struct History {
     pub counts: [u64; 4],
     /// How many decisions the first and the second card kept or began to keep.
     pub marks: [u32; 2],
+    /// How many captures the first terminal's store kept, began to keep or dropped.
+    pub stored: u32,
 }
 
-pub const HISTORIES: [History; 36] = [
+pub const HISTORIES: [History; 40] = [
     // The base payment.
     History {
         changes: &[],
@@ -40,6 +42,7 @@ done 1
 ",
         counts: [1, 0, 0, 10],
         marks: [4, 0],
+        stored: 0,
     },
     // Two terminals and two cards of one account, in rounds.
     History {
@@ -60,6 +63,7 @@ done 2
 ",
         counts: [1, 1, 0, 26],
         marks: [6, 6],
+        stored: 0,
     },
     // The second terminal comes first.
     History {
@@ -84,6 +88,7 @@ done 2
 ",
         counts: [1, 1, 0, 26],
         marks: [6, 6],
+        stored: 0,
     },
     // A card that two terminals want.
     History {
@@ -101,6 +106,7 @@ done 2
 ",
         counts: [2, 0, 0, 20],
         marks: [8, 0],
+        stored: 0,
     },
     // The issuer is asked.
     History {
@@ -115,6 +121,7 @@ done 1
 ",
         counts: [1, 0, 0, 13],
         marks: [6, 0],
+        stored: 0,
     },
     // The request is lost.
     History {
@@ -132,6 +139,7 @@ done 1
 ",
         counts: [0, 1, 0, 12],
         marks: [5, 0],
+        stored: 0,
     },
     // The reply is lost.
     History {
@@ -149,6 +157,7 @@ done 1
 ",
         counts: [0, 1, 0, 12],
         marks: [5, 0],
+        stored: 0,
     },
     // The request arrives twice.
     History {
@@ -166,6 +175,7 @@ done 1
 ",
         counts: [1, 0, 0, 13],
         marks: [6, 0],
+        stored: 0,
     },
     // Each settlement message is sent three times.
     History {
@@ -182,6 +192,7 @@ done 1
 ",
         counts: [1, 0, 0, 10],
         marks: [4, 0],
+        stored: 0,
     },
     // The same where the issuer was asked.
     History {
@@ -201,6 +212,7 @@ done 1
 ",
         counts: [1, 0, 0, 13],
         marks: [6, 0],
+        stored: 0,
     },
     // The repair of the first power-up is cut.
     History {
@@ -220,6 +232,7 @@ done 2
 ",
         counts: [1, 0, 1, 11],
         marks: [4, 0],
+        stored: 0,
     },
     // The first power-up is cut at its end.
     History {
@@ -239,6 +252,7 @@ done 2
 ",
         counts: [1, 0, 1, 11],
         marks: [4, 0],
+        stored: 0,
     },
     // The counter: cut before its first write.
     History {
@@ -258,6 +272,7 @@ done 2
 ",
         counts: [1, 0, 1, 13],
         marks: [5, 0],
+        stored: 0,
     },
     // The counter: cut within the list of its pages.
     History {
@@ -277,6 +292,7 @@ done 2
 ",
         counts: [1, 0, 1, 13],
         marks: [5, 0],
+        stored: 0,
     },
     // The counter: cut within the gate.
     History {
@@ -296,6 +312,7 @@ done 2
 ",
         counts: [1, 0, 1, 13],
         marks: [5, 0],
+        stored: 0,
     },
     // The counter: cut within the page behind the gate.
     History {
@@ -315,6 +332,7 @@ done 2
 ",
         counts: [1, 0, 1, 13],
         marks: [5, 0],
+        stored: 0,
     },
     // The counter: kept, and its answer cut.
     History {
@@ -334,6 +352,7 @@ done 2
 ",
         counts: [1, 0, 1, 13],
         marks: [5, 0],
+        stored: 0,
     },
     // The PIN try: cut before its first write.
     History {
@@ -353,6 +372,7 @@ done 2
 ",
         counts: [1, 0, 1, 17],
         marks: [6, 0],
+        stored: 0,
     },
     // The PIN try: cut within the list of its pages.
     History {
@@ -372,6 +392,7 @@ done 2
 ",
         counts: [1, 0, 1, 17],
         marks: [6, 0],
+        stored: 0,
     },
     // The PIN try: cut within the gate.
     History {
@@ -391,6 +412,7 @@ done 2
 ",
         counts: [1, 0, 1, 17],
         marks: [6, 0],
+        stored: 0,
     },
     // The PIN try: cut within the page behind the gate.
     History {
@@ -410,6 +432,7 @@ done 2
 ",
         counts: [1, 0, 1, 17],
         marks: [6, 0],
+        stored: 0,
     },
     // The PIN try: kept, and its answer cut.
     History {
@@ -429,6 +452,7 @@ done 2
 ",
         counts: [1, 0, 1, 17],
         marks: [6, 0],
+        stored: 0,
     },
     // The verified PIN: cut before its first write.
     History {
@@ -448,6 +472,7 @@ done 2
 ",
         counts: [1, 0, 1, 17],
         marks: [7, 0],
+        stored: 0,
     },
     // The verified PIN: cut within the list of its pages.
     History {
@@ -467,6 +492,7 @@ done 2
 ",
         counts: [1, 0, 1, 17],
         marks: [7, 0],
+        stored: 0,
     },
     // The verified PIN: cut within the gate.
     History {
@@ -486,6 +512,7 @@ done 2
 ",
         counts: [1, 0, 1, 17],
         marks: [7, 0],
+        stored: 0,
     },
     // The verified PIN: cut within the page behind the gate.
     History {
@@ -505,6 +532,7 @@ done 2
 ",
         counts: [1, 0, 1, 17],
         marks: [7, 0],
+        stored: 0,
     },
     // The verified PIN: kept, and its answer cut.
     History {
@@ -524,6 +552,7 @@ done 2
 ",
         counts: [1, 0, 1, 17],
         marks: [7, 0],
+        stored: 0,
     },
     // The first cryptogram: cut before its first write.
     History {
@@ -543,6 +572,7 @@ done 2
 ",
         counts: [1, 0, 1, 20],
         marks: [8, 0],
+        stored: 0,
     },
     // The first cryptogram: cut within the list of its pages.
     History {
@@ -562,6 +592,7 @@ done 2
 ",
         counts: [1, 0, 1, 20],
         marks: [8, 0],
+        stored: 0,
     },
     // The first cryptogram: cut within the gate.
     History {
@@ -581,6 +612,7 @@ done 2
 ",
         counts: [1, 0, 1, 20],
         marks: [8, 0],
+        stored: 0,
     },
     // The first cryptogram: cut within the page behind the gate.
     History {
@@ -600,6 +632,7 @@ done 2
 ",
         counts: [1, 0, 1, 20],
         marks: [8, 0],
+        stored: 0,
     },
     // The first cryptogram: kept, and its answer cut.
     History {
@@ -619,6 +652,7 @@ done 2
 ",
         counts: [1, 0, 1, 20],
         marks: [8, 0],
+        stored: 0,
     },
     // A card without a PIN whose tries are 0 answers VERIFY as one without a PIN, 6A88, which isn't the answer of
     // a card whose tries are used up: the signature verifies, and the terminal needn't go online.
@@ -634,6 +668,7 @@ done 1
 ",
         counts: [1, 0, 0, 10],
         marks: [2, 0],
+        stored: 0,
     },
     // An approval online is in the terminal's log too: with it the second amount is at the floor limit, for which
     // the terminal's code declines.
@@ -658,6 +693,7 @@ done 2
 ",
         counts: [1, 1, 0, 23],
         marks: [10, 0],
+        stored: 0,
     },
     // The PIN is wrong once, and PIN UNBLOCK restores the five tries of the card.
     History {
@@ -679,6 +715,7 @@ done 1
 ",
         counts: [1, 0, 0, 14],
         marks: [6, 0],
+        stored: 0,
     },
     // The eleventh terminal is lane 10.
     History {
@@ -710,5 +747,81 @@ done 2
 ",
         counts: [2, 0, 0, 23],
         marks: [4, 6],
+        stored: 0,
+    },
+    // The base payment at a terminal that keeps its capture on torn memory, and drops it behind the settlement.
+    History {
+        changes: &[("\"TERM0001\"", "\"TERM0001\"\ndurable = true")],
+        more: &[],
+        told: "L0 power c1 10,9,0,0,3,0
+L0 end 1 approved offline
+S0 < e2048a023030
+A c1 power 11,9,1,2500,3,0
+balance 4761739001010010 97500
+done 1
+",
+        counts: [1, 0, 0, 10],
+        marks: [4, 0],
+        stored: 2,
+    },
+    // Its terminal loses its power before the first write: nothing is captured.
+    History {
+        changes: &[
+            ("\"TERM0001\"", "\"TERM0001\"\ndurable = true"),
+            (
+                "word = 49",
+                "word = 49\nterminal_tear = { commit = 1, at = \"before\", write = 1 }",
+            ),
+        ],
+        more: &[],
+        told: "L0 power c1 10,9,0,0,3,0
+L0 end 1 lost
+A c1 power 11,9,1,2500,3,0
+balance 4761739001010010 100000
+done 1
+",
+        counts: [1, 0, 0, 10],
+        marks: [4, 0],
+        stored: 1,
+    },
+    // And behind the last one: what was captured goes to the settlement.
+    History {
+        changes: &[
+            ("\"TERM0001\"", "\"TERM0001\"\ndurable = true"),
+            (
+                "word = 49",
+                "word = 49\nterminal_tear = { commit = 1, at = \"release\" }",
+            ),
+        ],
+        more: &[],
+        told: "L0 power c1 10,9,0,0,3,0
+L0 end 1 lost
+S0 < e2048a023030
+A c1 power 11,9,1,2500,3,0
+balance 4761739001010010 97500
+done 1
+",
+        counts: [1, 0, 0, 10],
+        marks: [4, 0],
+        stored: 2,
+    },
+    // Its store is never opened: the card isn't powered up.
+    History {
+        changes: &[
+            ("\"TERM0001\"", "\"TERM0001\"\ndurable = true"),
+            (
+                "word = 49",
+                "word = 49\nterminal_tear = { commit = 0, at = \"release\" }",
+            ),
+        ],
+        more: &[],
+        told: "L0 end 1 lost
+A c1 power 10,9,0,0,3,0
+balance 4761739001010010 100000
+done 1
+",
+        counts: [0, 0, 0, 0],
+        marks: [0, 0],
+        stored: 0,
     },
 ];

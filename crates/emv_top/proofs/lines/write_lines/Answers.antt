@@ -4,10 +4,10 @@ use Rattle.emv_top.proofs.lines.write_lines.Goals as goal
 
 pub returns-in-Err-clause-front : goal.returns-in-Err-clause-front
 returns-in-Err-clause-front g c =
-    line_front c.args.lines.now c.loop-line.line-index c.line-item.result c.loop-line-test.true c.line-item.is _ _ _ _ c.loop-line.invariant.so_far c.in-Err.ensures.front
+    line_front _ _ _ c.in-Some.ensures _ _ _ _ c.loop-line.invariant.so_far c.in-Err.ensures.front
 
 pub loop-line-preserved : goal.loop-line-preserved
 loop-line-preserved g c = record {
-  so_far = line_more c.args.lines.now c.loop-line.line-index c.line-item.result c.loop-line-test.true c.line-item.is _ _ _ _ c.loop-line.invariant.so_far c.in-Ok.ensures.all;
+  so_far = line_more _ _ _ c.in-Some.ensures _ _ _ _ c.loop-line.invariant.so_far c.in-Ok.ensures.all;
   calm = c.in-Ok.ensures.stop ∙ c.loop-line.invariant.calm;
 }

@@ -8,7 +8,6 @@ abbrev pub invariant-loop-world : goal.invariant-loop-world
 invariant-loop-world g l = record {
   far : SoFar (ReadReached l.scenario) (WorldStands l.world) (g.K.Sink.held l.fn.sink) (g.K.Sink.held l.sink);
   told : l.world.scenario ≡ l.scenario;
-  spare : l.world.spare ≡ l.fn.world.spare;
   calm : g.K.Sink.faults l.sink ≡ g.K.Sink.faults l.fn.sink;
 }
 

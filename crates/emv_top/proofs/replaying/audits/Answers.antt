@@ -13,7 +13,6 @@ pub loop-number-init : goal.loop-number-init
 loop-number-init g c = record {
   far = λ first far. far;
   told = c.requires.told;
-  spare = refl;
   calm = refl;
   done = c.requires.done;
   next = first_next c.args.world.now;
@@ -29,7 +28,6 @@ loop-number-preserved g c =
           (Auditing c.loop-number.number) (Auditing (c.loop-number.number + 1)) (λ n cs ch ls made w next reached stands there step. auditing reached there.1 step) first _ _
           (λ w stands. c.in-Ok-true.ensures.there went w) c.in-Ok-true.ensures.ok (c.loop-number.invariant.far first far);
       told = c.audit.ensures.scenario ∙ c.loop-number.invariant.told;
-      spare = c.audit.ensures.spare ∙ c.loop-number.invariant.spare;
       calm = c.in-Ok-true.ensures.stop ∙ c.loop-number.invariant.calm;
       done = c.audit.ensures.done;
       next = c.in-Ok-true.ensures.next went;

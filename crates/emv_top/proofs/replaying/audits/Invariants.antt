@@ -8,7 +8,6 @@ abbrev pub invariant-loop-number : goal.invariant-loop-number
 invariant-loop-number g l = record {
   far : Carries l.fn.world l.world (g.K.Sink.held l.fn.sink) (g.K.Sink.held l.sink) (Reached l.scenario (Auditing 0)) (Reached l.scenario (Auditing l.number));
   told : l.world.scenario ≡ l.scenario;
-  spare : l.world.spare ≡ l.fn.world.spare;
   calm : g.K.Sink.faults l.sink ≡ g.K.Sink.faults l.fn.sink;
   done : is_done l.world ≡ true;
   next : IsNext l.world l.number;

@@ -3,19 +3,14 @@ use Rattle.emv_top.specs.Answers.{Plays}
 use Rattle.emv_top.specs.declared.status.Status.{Status}
 use Rattle.emv_top.specs.declared.words.Order.TheVariants.{Replay}
 use Rattle.emv_top.proofs.Answering.{decided_whole, cut_replay}
-use Rattle.emv_top.proofs.Banks.{are_spare}
 use Rattle.emv_top.proofs.replaying.replay_whole.Goals as goal
 
 pub returns-in-Ok-replay_through-clause-whole : goal.returns-in-Ok-replay_through-clause-whole
 returns-in-Ok-replay_through-clause-whole g c =
     decided_whole c.args.scenario.now c.replay_through.new.world _ _ c.runs_are_fair.ensures.whole c.runs_are_decided.ensures
-    c.losses_are_told.ensures.whole c.dialects_show.ensures.whole c.requires.rules
+    c.losses_are_told.ensures.whole c.dialects_show.ensures.whole c.captures_are_sent.ensures.sent
+    c.stores_are_emptied.ensures.emptied c.lanes_stand_alone.ensures.alone c.requires.rules
     c.in-Ok-replay_through.ensures.ok
-
-pub returns-in-Ok-replay_through-clause-spare : goal.returns-in-Ok-replay_through-clause-spare
-returns-in-Ok-replay_through-clause-spare g c =
-    are_spare g.P.Pages.memory c.args.bank.items c.requires.pages c.requires.blank c.args.scenario.now c.in-Ok.world c.replay_through.new.world c.requires.rules
-    c.in-Ok.ensures.spare c.replay_through.ensures.told c.replay_through.ensures.spare
 
 pub returns-in-Err-Sink-clause-cut : goal.returns-in-Err-Sink-clause-cut
 returns-in-Err-Sink-clause-cut g c =
@@ -30,13 +25,3 @@ returns-in-Err-OutOfMemory-clause-cut g c =
     (map g.P.Pages.memory c.end_world-in-Err-OutOfMemory.result.bank.items) c.end_world-in-Err-OutOfMemory.result.tally st) (sym c.end_world-in-Err-OutOfMemory.ensures.status)
     (inr (cut_replay c.args.scenario.now c.replay_through.new.world c.replay_through.ensures.told _ _ _ _ c.end_world-in-Err-OutOfMemory.ensures.leaves c.runs_are_fair.ensures.reached
     c.losses_are_told.ensures.reached c.requires.rules c.in-Err-OutOfMemory.ensures.err))
-
-pub end_world-requires : goal.end_world-requires
-end_world-requires g c =
-    are_spare g.P.Pages.memory c.args.bank.items c.requires.pages c.requires.blank c.args.scenario.now c.in-Ok.world c.replay_through.new.world c.requires.rules
-    c.in-Ok.ensures.spare c.replay_through.ensures.told c.replay_through.ensures.spare
-
-pub end_world-requires-in-Err-OutOfMemory : goal.end_world-requires-in-Err-OutOfMemory
-end_world-requires-in-Err-OutOfMemory g c =
-    are_spare g.P.Pages.memory c.args.bank.items c.requires.pages c.requires.blank c.args.scenario.now c.in-Ok.world c.replay_through.new.world c.requires.rules
-    c.in-Ok.ensures.spare c.replay_through.ensures.told c.replay_through.ensures.spare

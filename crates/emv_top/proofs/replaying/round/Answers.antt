@@ -19,7 +19,6 @@ loop-lane-preserved g c =
           (λ n cs ch ls made w next reached stands there step. round reached inside (λ zero. c.loop-lane.invariant.busy zero w stands) step) first _ _
           (λ w stands. tt) c.in-Ok.ensures.ok (c.loop-lane.invariant.far first far);
       told = c.turn.ensures.scenario ∙ c.loop-lane.invariant.told;
-      spare = c.turn.ensures.spare ∙ c.loop-lane.invariant.spare;
       calm = c.in-Ok.ensures.stop ∙ c.loop-lane.invariant.calm;
       within = omega arith;
       busy = λ none. absurd (omega arith);

@@ -10,7 +10,6 @@ abbrev pub invariant-loop-lane : goal.invariant-loop-lane
 invariant-loop-lane g l = record {
   far : Carries l.fn.world l.world (g.K.Sink.held l.fn.sink) (g.K.Sink.held l.sink) (Reached l.scenario (Round 0)) (Reached l.scenario (Round l.lane));
   told : l.world.scenario ≡ l.scenario;
-  spare : l.world.spare ≡ l.fn.world.spare;
   calm : g.K.Sink.faults l.sink ≡ g.K.Sink.faults l.fn.sink;
   within : l.lane ≤ length l.scenario.lanes;
   busy : l.lane ≡ 0 → (w : World) → WorldStands l.world w → all_over l.scenario w ≡ false;

@@ -10,7 +10,6 @@ pub loop-world-preserved : goal.loop-world-preserved
 loop-world-preserved g c = record {
   far = λ first far. c.in-Ok.ensures.ok first (c.loop-world.invariant.far first far);
   told = c.round.ensures.told;
-  spare = c.round.ensures.spare ∙ c.loop-world.invariant.spare;
   calm = c.in-Ok.ensures.stop ∙ c.loop-world.invariant.calm;
 }
 

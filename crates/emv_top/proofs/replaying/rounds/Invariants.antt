@@ -8,7 +8,6 @@ abbrev pub invariant-loop-world : goal.invariant-loop-world
 invariant-loop-world g l = record {
   far : Carries l.fn.world l.world (g.K.Sink.held l.fn.sink) (g.K.Sink.held l.sink) (Reached l.scenario (Round 0)) (Reached l.scenario (Round 0));
   told : l.world.scenario ≡ l.scenario;
-  spare : l.world.spare ≡ l.fn.world.spare;
   calm : g.K.Sink.faults l.sink ≡ g.K.Sink.faults l.fn.sink;
 }
 

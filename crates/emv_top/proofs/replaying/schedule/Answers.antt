@@ -25,7 +25,6 @@ loop-lane-preserved g c =
           (Scheduled c.loop-lane.lane-index) (Scheduled (c.loop-lane.lane-index + 1)) (λ n cs ch ls made w next reached stands there step. scheduled reached at step) first _ _
           (λ w stands. tt) c.in-Ok.ensures.ok (c.loop-lane.invariant.far first far);
       told = c.turn.ensures.scenario ∙ c.loop-lane.invariant.told;
-      spare = c.turn.ensures.spare ∙ c.loop-lane.invariant.spare;
       calm = c.in-Ok.ensures.stop ∙ c.loop-lane.invariant.calm;
     }
 

@@ -1,24 +1,44 @@
-use Rattle.std.proofs.Common.{◌≡◌, ◌+◌, None, refl, ap, ◌∙◌, slice_get, subst, arith}
+use Rattle.std.proofs.Common.{◌≡◌, ◌+◌, None, refl, sym, ap, ◌∙◌, slice_get, subst, arith}
 use Rattle.emv_top.proofs.Going.{passes}
-use Rattle.emv_top.proofs.Replays.{onward, cut_off, stays}
+use Rattle.emv_top.proofs.Replays.{onward_from, cut_off_from, stays}
 use Rattle.scenario.specs.Plan.{ScenarioData}
 use Rattle.txn_replay.specs.Run.{Reached, Settling, Auditing, settling, audit}
 use Rattle.txn_replay.specs.Steps.{settlements}
+use Rattle.txn_replay.specs.Stored.{IsSettledTo}
 use Rattle.txn_replay.specs.World.{World}
 use Rattle.txn_replay.specs.declared.event.Event.TheVariants.{Settle}
 use Rattle.txn_replay.specs.Seen.{WorldStands}
+use Rattle.txn_replay.proofs.Through.{goes_through}
 use Rattle.emv_top.proofs.replaying.settlement.Goals as goal
+
+pub settle-requires-clause-done : goal.settle-requires-clause-done
+settle-requires-clause-done g c = c.loop-number.invariant.done ∙ c.requires.done
+
+-- where the run has come to, the settlement has come to this step
+pub settle-requires-clause-next : goal.settle-requires-clause-next
+settle-requires-clause-next g c =
+    let far = c.loop-number.invariant.far c.requires.here.0 c.requires.here.1 in
+    record {
+      world = far.world;
+      stands = far.stands;
+      through = subst (λ (t : ScenarioData). IsSettledTo t far.world c.loop-number.number) (sym c.loop-number.invariant.told)
+          (goes_through c.args.scenario.now c.loop-number.number far.count far.choices far.lines far.world c.requires.rules.tables.one_copy far.reached);
+    }
 
 pub loop-number-preserved : goal.loop-number-preserved
 loop-number-preserved g c =
     let went = c.in-Ok-true.field-0-test in
     record {
       far = λ first far.
-          onward c.args.scenario.now (Settle c.loop-number.number) c.loop-number.world c.settle.new.world c.loop-number.invariant.told c.settle.ensures.scenario
+          onward_from c.args.scenario.now (Settle c.loop-number.number) c.loop-number.world c.settle.new.world c.loop-number.invariant.told c.settle.ensures.scenario
           (Settling c.loop-number.number) (Settling (c.loop-number.number + 1)) (λ n cs ch ls made w next reached stands there step. settling reached there.1 step) first _ _
-          (c.in-Ok-true.ensures.there went) c.in-Ok-true.ensures.ok (c.loop-number.invariant.far first far);
+          (c.in-Ok-true.ensures.there went)
+          (λ n cs ls w reached stands.
+          c.in-Ok-true.ensures.ok w stands
+          (subst (λ (t : ScenarioData). IsSettledTo t w c.loop-number.number) (sym c.loop-number.invariant.told)
+          (goes_through c.args.scenario.now c.loop-number.number n cs ls w c.requires.rules.tables.one_copy reached)))
+          (c.loop-number.invariant.far first far);
       told = c.settle.ensures.scenario ∙ c.loop-number.invariant.told;
-      spare = c.settle.ensures.spare ∙ c.loop-number.invariant.spare;
       calm = c.in-Ok-true.ensures.stop ∙ c.loop-number.invariant.calm;
       done = c.settle.ensures.done ∙ c.loop-number.invariant.done;
       few = omega (arith, c.in-Ok-true.ensures.few went);
@@ -36,6 +56,11 @@ returns-in-Ok-false-clause-ok g c = λ first far.
 
 pub returns-in-Err-clause-err : goal.returns-in-Err-clause-err
 returns-in-Err-clause-err g c = λ first far.
-    cut_off c.args.scenario.now (Settle c.loop-number.number) c.loop-number.world c.settle.new.world c.loop-number.invariant.told c.settle.ensures.scenario
+    cut_off_from c.args.scenario.now (Settle c.loop-number.number) c.loop-number.world c.settle.new.world c.loop-number.invariant.told c.settle.ensures.scenario
     (Settling c.loop-number.number) (Settling (c.loop-number.number + 1)) (λ n cs ch ls made w next reached stands there step. settling reached there.1 step) first _ _
-    (λ w. refl) (λ w. refl) c.in-Err.ensures.err (c.loop-number.invariant.far first far)
+    (λ w. refl) (λ w. refl)
+    (λ n cs ls w reached stands.
+    c.in-Err.ensures.err w stands
+    (subst (λ (t : ScenarioData). IsSettledTo t w c.loop-number.number) (sym c.loop-number.invariant.told)
+    (goes_through c.args.scenario.now c.loop-number.number n cs ls w c.requires.rules.tables.one_copy reached)))
+    (c.loop-number.invariant.far first far)

@@ -8,11 +8,10 @@ abbrev pub invariant-loop-number : goal.invariant-loop-number
 invariant-loop-number g l = record {
   far : Carries l.fn.world l.world (g.K.Sink.held l.fn.sink) (g.K.Sink.held l.sink) (Reached l.scenario (Settling 0)) (Reached l.scenario (Settling l.number));
   told : l.world.scenario ≡ l.scenario;
-  spare : l.world.spare ≡ l.fn.world.spare;
   calm : g.K.Sink.faults l.sink ≡ g.K.Sink.faults l.fn.sink;
   done : is_done l.world ≡ is_done l.fn.world;
-  few : l.number ≤ 30000;
+  few : l.number ≤ 30352;
 }
 
 abbrev pub decreases-loop-number : goal.decreases-loop-number
-decreases-loop-number g l = 30000 - l.number
+decreases-loop-number g l = 30352 - l.number

@@ -3,7 +3,6 @@ use Rattle.emv_top.specs.Answers.{Plays}
 use Rattle.emv_top.specs.declared.status.Status.{Status}
 use Rattle.emv_top.specs.declared.words.Order.TheVariants.{Read}
 use Rattle.emv_top.proofs.Answering.{whole_reading, cut_reading}
-use Rattle.emv_top.proofs.Banks.{are_spare}
 use Rattle.emv_top.proofs.top.read_card.Goals as goal
 
 pub returns-in-Ok-read_through-clause-plays : goal.returns-in-Ok-read_through-clause-plays
@@ -23,18 +22,3 @@ returns-in-Err-OutOfMemory-clause-plays g c = λ s same.
     subst (λ (st : Status). Plays Read s (g.K.Sink.held c.args.sink.now) (g.K.Sink.held c.read_through.new.sink)
     (map g.P.Pages.memory c.end_world-in-Err-OutOfMemory.result.bank.items) c.end_world-in-Err-OutOfMemory.result.tally st) (sym c.end_world-in-Err-OutOfMemory.ensures.status)
     (inr (cut_reading c.args.scenario.now c.read_through.new.world c.read_through.ensures.told _ _ _ _ c.end_world-in-Err-OutOfMemory.ensures.leaves s same c.runs_are_fair.ensures.reached c.in-Err-OutOfMemory.ensures.err))
-
-pub end_world-requires : goal.end_world-requires
-end_world-requires g c =
-    are_spare g.P.Pages.memory c.args.bank.items c.requires.pages c.requires.blank c.args.scenario.now c.in-Ok.world c.read_through.new.world c.requires.rules
-    c.in-Ok.ensures.spare c.read_through.ensures.told c.read_through.ensures.spare
-
-pub end_world-requires-in-Err-Sink : goal.end_world-requires-in-Err-Sink
-end_world-requires-in-Err-Sink g c =
-    are_spare g.P.Pages.memory c.args.bank.items c.requires.pages c.requires.blank c.args.scenario.now c.in-Ok.world c.read_through.new.world c.requires.rules
-    c.in-Ok.ensures.spare c.read_through.ensures.told c.read_through.ensures.spare
-
-pub end_world-requires-in-Err-OutOfMemory : goal.end_world-requires-in-Err-OutOfMemory
-end_world-requires-in-Err-OutOfMemory g c =
-    are_spare g.P.Pages.memory c.args.bank.items c.requires.pages c.requires.blank c.args.scenario.now c.in-Ok.world c.read_through.new.world c.requires.rules
-    c.in-Ok.ensures.spare c.read_through.ensures.told c.read_through.ensures.spare

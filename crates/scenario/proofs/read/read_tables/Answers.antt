@@ -6,6 +6,7 @@ use Rattle.scenario.specs.Scenario.{tables_of}
 use Rattle.scenario.specs.Seen.{seen_cards}
 use Rattle.toml.specs.View.{table_view}
 use Rattle.scenario.proofs.Apart.{plain_names}
+use Rattle.scenario.proofs.CardNames.{cards_count}
 use Rattle.scenario.proofs.read.read_tables.Goals as goal
 
 pub returns-clause-exact : goal.returns-clause-exact
@@ -25,6 +26,9 @@ returns-clause-rules c = record {
   some_lane = search rules;
   few_lanes = search rules;
   lanes = c.in_ok-lanes.ensures.rules;
+  rooms =
+      let count = cards_count c.in_ok-cards.cards.items in
+      rw (count, ← c.as_slice.ensures.value) c.in_ok-lanes.ensures.rooms;
   few_purchases = c.in_ok-lanes.ensures.few_purchases;
   pin_keys = rw (← c.bytes.ensures) c.in_ok-lanes.ensures.pins;
   few_turns = search rules;

@@ -3,7 +3,7 @@ use Rattle.std.proofs.lemmas.Result.{err_from_is_err_and}
 use Rattle.std.proofs.lemmas.List.Elements.{All-push}
 use Rattle.scenario_fields.proofs.Loops.{Fails-then}
 use Rattle.scenario_fields.specs.Place.{path}
-use Rattle.scenario_lanes.proofs.LaneLoop.{lanes_pushed, lanes_stopped, purchase_count-push}
+use Rattle.scenario_lanes.proofs.LaneLoop.{lanes_pushed, lanes_stopped, purchase_count-push, HaveRoom-push}
 use Rattle.scenario_lanes.specs.Plan.{IsLane}
 use Rattle.scenario_lanes.proofs.lane.read_lanes.Goals as goal
 
@@ -25,6 +25,10 @@ loop-value-preserved c =
       sum = rw (c.in_ok-push.ensures.items, purchase_count-push, size, ← c.loop-value.invariant.sum) refl;
       room = let within : c.loop-value.earlier + length c.in_ok-lane.lane.purchases ≤ 10000 = c.in_ok-lane.ensures.count in omega (arith, size);
       rules = rw c.in_ok-push.ensures.items (All-push IsLane _ _ c.loop-value.invariant.rules c.in_ok-lane.ensures.rules);
+      rooms =
+          rw c.in_ok-push.ensures.items
+          (HaveRoom-push (length c.args.cards.now) c.loop-value.lanes.items c.in_ok-lane.lane c.len.result (search rules)
+          c.loop-value.invariant.rooms c.in_ok-lane.ensures.room);
       pins = rw c.in_ok-push.ensures.items (All-push (λ lane. lane.settings.pin_key ≡ c.args.pin_key) _ _ c.loop-value.invariant.pins c.in_ok-lane.ensures.pin);
       read =
           lanes_pushed (path c.args.document.now.place) (map (λ name. name.now) c.args.cards.now) c.args.pin_key c.loop-value.value-index c.len.result c.loop-value.earlier

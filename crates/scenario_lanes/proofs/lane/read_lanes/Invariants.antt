@@ -4,7 +4,7 @@ use Rattle.toml.specs.View.{items_view}
 use Rattle.scenario_fields.specs.Fields.{with_front}
 use Rattle.scenario_fields.specs.Place.{path}
 use Rattle.scenario_lanes.specs.Lanes.{lanes_from}
-use Rattle.scenario_lanes.specs.Plan.{IsLane, purchase_count}
+use Rattle.scenario_lanes.specs.Plan.{IsLane, HaveRoom, purchase_count}
 use Rattle.scenario_lanes.proofs.lane.read_lanes.Given as goal
 
 abbrev pub invariant-loop-value : goal.invariant-loop-value
@@ -13,6 +13,7 @@ invariant-loop-value l = record {
   sum : l.earlier ≡ purchase_count l.lanes.items;
   room : l.earlier ≤ 10000;
   rules : All IsLane l.lanes.items;
+  rooms : HaveRoom (length l.cards) l.lanes.items;
   pins : All (λ lane. lane.settings.pin_key ≡ l.pin_key) l.lanes.items;
   read :
       with_front l.lanes.items (lanes_from (path l.document.place) l.value-index l.earlier (map (λ name. name.now) l.cards) l.pin_key (items_view (drop l.value-index l.values)))

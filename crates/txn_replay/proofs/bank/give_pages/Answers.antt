@@ -18,6 +18,7 @@ loop-slot-init g c = record {
   given = subst (λ n. AreGiven c.args.slots.items n (map g.P.Pages.memory c.args.spare.items)) (sym c.args.slots.ok.0)
       (none_given c.args.slots.items (map g.P.Pages.memory c.args.spare.items));
   spare = ap (λ n. drop n (map g.P.Pages.memory c.args.spare.items)) (let none : length c.args.slots.items - vec_len c.args.slots ≡ 0 = omega (arith, c.args.slots.ok.0) in none);
+  capacity = omega arith;
   count = omega (arith, c.args.slots.ok.0);
 }
 
@@ -52,6 +53,7 @@ loop-slot-preserved g c =
           (let more : length c.args.slots.items - vec_len c.pop.new.self ≡ suc (length c.args.slots.items - vec_len c.loop-slot.slots) =
           omega (arith, left, c.loop-slot.invariant.within) in more)
           ∙ c.loop-slot.invariant.spare;
+      capacity = omega (arith, c.loop-slot.invariant.capacity, c.insert.ensures.capacity);
       count = omega (arith, left, c.loop-slot.invariant.within, c.loop-slot.invariant.count, c.in-Ok.ensures.len);
     }
 

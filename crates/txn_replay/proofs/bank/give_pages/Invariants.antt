@@ -13,5 +13,6 @@ invariant-loop-slot g l = record {
   place : vec_len l.slots + vec_len l.bank ≤ vec_capacity l.bank;
   given : AreGiven l.fn.slots.items (vec_len l.slots) (map g.P.Pages.memory l.bank.items);
   spare : drop (length l.fn.slots.items - vec_len l.slots) (map g.P.Pages.memory l.bank.items) ≡ map g.P.Pages.memory l.fn.spare.items;
+  capacity : vec_capacity l.fn.spare ≤ vec_capacity l.bank;
   count : vec_len l.bank ≡ length l.fn.slots.items - vec_len l.slots + vec_len l.fn.spare;
 }

@@ -36,10 +36,10 @@ returns-clause-led g c = λ replies part runs stood.
     ∙ ap (λ (o : Option (List ℕ)). wire_lines p.lane (call_in p.iso message) o) wired in
     let more : List Reply = replies ++ from_host reply ∷ [] in
     let after : Part = sending p message part in
-    let on : PartRuns p c.hear.new.lane c.args.slot.now more after =
-    heard_on p c.args.lane.now c.hear.new.lane c.args.slot.now replies more part message runs stands in
+    let on : PartRuns p c.hear.new.lane c.args.shelf.now c.args.slot.now more after =
+    heard_on p c.args.lane.now c.hear.new.lane c.args.shelf.now c.args.slot.now replies more part message runs stands in
     record {
-      moved = subst (λ (xs : List Line). MovedTo p c.settle.new.lane c.settle.new.slot c.settle.new.lines.items (settled p more after xs)) lines
+      moved = subst (λ (xs : List Line). MovedTo p c.settle.new.lane c.settle.new.shelf c.settle.new.slot c.settle.new.lines.items (settled p more after xs)) lines
           (c.settle.ensures.moved p.issuer p.accounts more after on);
       counted = subst (λ (xs : List Line). IsCounted c.args.tally.now c.settle.new.tally part.lane.ended (settled p more after xs).part.lane.ended) lines
           (c.settle.ensures.counted p.issuer p.accounts more after on);

@@ -6,8 +6,8 @@ use Rattle.report_text.specs.declared.line.Line.{Line}
 use Rattle.report_text.specs.declared.line.Line.TheVariants.{PowerTorn}
 use Rattle.scenario.specs.Seen.{seen_card}
 use Rattle.txn_replay.specs.Called.{IsLost, powered_line}
-use Rattle.txn_replay.specs.Lines.{end_line}
-use Rattle.txn_replay.specs.Part.{Part, settled}
+use Rattle.txn_replay.specs.Lines.{outcome_line}
+use Rattle.txn_replay.specs.Part.{Part, loses, settled}
 use Rattle.txn_replay.specs.Slot.{IsSlotOf}
 use Rattle.txn_replay.specs.Standing.{LaneStands, PartRuns, MovedTo, IsCounted, seen_payment}
 use Rattle.txn_replay.proofs.Begins.{kept_on, begun_part, powered_runs, powered_led, cut_led}
@@ -21,17 +21,17 @@ returns-in-Ok-clause-led g c = λ issuer accounts part rests.
     let up = c.in-Ok.ensures.powered p.card part.card rests.is rests.off in
     let choice : Bool = up.0 in
     let ds : List Decided = found_of part.card.kept part.card.pending choice in
-    let after : Part = begun_part p c.args.lane.now c.args.slot.now c.power_up.new.self part rests is choice in
+    let after : Part = begun_part p c.args.lane.now c.args.shelf.now c.args.slot.now c.power_up.new.self part rests is choice in
     let lines : c.add_power.new.lines.items ≡ powered_line p.lane p.card ds p.card.canned ∷ [] =
     c.add_power.ensures.line p.card after.card p.planned.tear is (up.1.on after.card.holder) (sym c.as_slice.ensures.value)
     ∙ ap (λ (xs : List Line). xs ++ powered_line p.lane p.card ds p.card.canned ∷ []) c.requires.lines in
-    let runs : PartRuns p c.start.new.lane c.power_up.new.self [] after =
-    powered_runs p c.args.lane.now c.args.slot.now c.power_up.new.self part rests is c.start.new.lane choice up.1 (c.in-Ok.ensures.losses part.card.losses rests.losses)
+    let runs : PartRuns p c.start.new.lane c.args.shelf.now c.power_up.new.self [] after =
+    powered_runs p c.args.lane.now c.args.shelf.now c.args.slot.now c.power_up.new.self part rests is c.start.new.lane choice up.1 (c.in-Ok.ensures.losses part.card.losses rests.losses)
     c.start.ensures.same (c.start.ensures.told issuer accounts) in (
       choice,
-      powered_led p c.args.lane.now c.args.slot.now c.power_up.new.self part rests is c.settle.new.lane c.settle.new.slot
+      powered_led p c.args.lane.now c.args.shelf.now c.args.slot.now c.power_up.new.self part rests is c.settle.new.lane c.settle.new.shelf c.settle.new.slot
           c.args.tally.now c.settle.new.tally c.settle.new.lines.items choice up.1.spared
-          (subst (λ (xs : List Line). MovedTo p c.settle.new.lane c.settle.new.slot c.settle.new.lines.items (settled p [] after xs)) lines
+          (subst (λ (xs : List Line). MovedTo p c.settle.new.lane c.settle.new.shelf c.settle.new.slot c.settle.new.lines.items (settled p [] after xs)) lines
           (c.settle.ensures.moved issuer accounts [] after runs))
           (subst (λ (xs : List Line). IsCounted c.args.tally.now c.settle.new.tally part.lane.ended (settled p [] after xs).part.lane.ended) lines
           (c.settle.ensures.counted issuer accounts [] after runs)),
@@ -48,13 +48,14 @@ returns-in-Err-clause-led g c = λ issuer accounts part rests.
       keeps = kept_on c.start.new.lane c.lose.new.lane (record part.lane { running = Some [] }) c.lose.ensures.same keeps (CardGone ∷ []);
       running = c.lose.ensures.told p [] (c.start.ensures.told issuer accounts);
     } in
-    let done = c.finish.ensures.stands issuer accounts (CardGone ∷ []) part.lane lane in
+    let done = c.finish.ensures.stands issuer accounts (CardGone ∷ []) part.lane lane rests.shelf_is in
     let lines : c.add_power_torn.new.lines.items ≡ PowerTorn p.lane (record { items = c.args.at.now.card.now.name.items }) ∷ [] =
     c.add_power_torn.ensures
     ∙ ap (λ (xs : List Line). xs ++ PowerTorn p.lane (record { items = c.as_slice-in-Err.result.now }) ∷ []) c.requires.lines
     ∙ ap (λ (name : List ℕ). PowerTorn p.lane (record { items = name }) ∷ []) c.as_slice-in-Err.ensures.value in (
       false,
-      cut_led p c.args.lane.now c.args.slot.now c.power_up.new.self part rests is c.finish.new.lane c.args.tally.now c.finish.new.tally
-          c.finish.new.lines.items false done.0 cut done.1 done.2
-          (done.3 ∙ ap (λ (xs : List Line). xs ++ end_line p.lane (length part.lane.ended + 1) done.0 ∷ []) lines) done.4,
+      cut_led p c.args.lane.now c.args.shelf.now c.args.slot.now c.power_up.new.self part rests is c.finish.new.lane c.finish.new.shelf c.args.tally.now c.finish.new.tally
+          c.finish.new.lines.items false done.0 cut done.1 done.2 done.3
+          (done.4 ∙ ap (λ (xs : List Line). xs ++ outcome_line (loses p part.lane.store done.0.capture) p.lane (length part.lane.ended + 1) done.0 ∷ []) lines)
+          done.5,
     )

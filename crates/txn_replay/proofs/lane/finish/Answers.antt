@@ -1,7 +1,6 @@
-use Rattle.std.proofs.Common.{◌≡◌, ℕ, ◌+◌, ◌≤◌, List, [], ◌∷◌, ◌++◌, length, Option, Some, sym, ap, ◌∙◌, subst, arith, length-append}
+use Rattle.std.proofs.Common.{◌≡◌, ℕ, ◌+◌, ◌≤◌, Bool, true, false, List, [], ◌∷◌, ◌++◌, length, Option, Some, refl, sym, ap, ◌∙◌, subst, append-nil}
 use Rattle.std.specs.List.{All}
-use Rattle.std.proofs.lemmas.List.Elements.{All-append}
-use Rattle.std.specs.Prelude.{option_map, option_and_then, option_to_list}
+use Rattle.std.specs.Prelude.{if◌then◌else◌, option_map, option_to_list}
 use Rattle.auth_message.specs.Whole.{IsMessage}
 use Rattle.emv_dict.specs.Settings.{most_amount}
 use Rattle.emv_dict.specs.declared.ending.Ending.{Ending}
@@ -11,18 +10,29 @@ use Rattle.kernel.specs.Ended.{EndData, end_of}
 use Rattle.kernel.specs.Kernel.{deal_in}
 use Rattle.kernel.specs.Shown.{EndShown, shown}
 use Rattle.kernel.specs.Tally.{raised}
+use Rattle.report_text.specs.declared.line.EndParts.{EndParts}
+use Rattle.report_text.specs.declared.line.Line.TheVariants.{End, EndLost}
 use Rattle.terminal_state.specs.Terminal.{Deal}
-use Rattle.txn_replay.proofs.Endings.{last_past-push, some_shown, runs_as, rests_as}
-use Rattle.txn_replay.proofs.lane.finish.Goals as goal
-use Rattle.txn_replay.specs.Lines.{end_line}
-use Rattle.txn_replay.specs.Part.{approval}
+use Rattle.txn_replay.specs.Lines.{end_line, outcome_line}
+use Rattle.txn_replay.specs.Part.{approval, loses}
 use Rattle.txn_replay.specs.Payment.{end_at}
-use Rattle.txn_replay.specs.Reading.{past_card}
 use Rattle.txn_replay.specs.Standing.{seen_payment}
-use Rattle.txn_replay.specs.World.{Past}
+use Rattle.txn_replay.specs.Stocking.{is_lost, IsNoRequest, IsStoredBy}
+use Rattle.txn_replay.proofs.Endings.{some_shown, runs_as}
+use Rattle.txn_replay.proofs.Finishing.{Finishes, finished}
+use Rattle.txn_replay.proofs.Requests.{no_request, taken_as}
+use Rattle.txn_replay.proofs.Storings.{ending_shelf}
+use Rattle.txn_replay.proofs.lane.finish.Goals as goal
 
-pub returns-clause-stands : goal.returns-clause-stands
-returns-clause-stands c = λ issuer accounts replies row stands.
+pub keep_capture-requires-clause-settles : goal.keep_capture-requires-clause-settles
+keep_capture-requires-clause-settles g c =
+    let was = taken_as c.args.lane.now.running c.in-Some.kernel c.deref_mut.result.now (sym c.take.ensures.value ∙ c.in-Some.is) c.deref_mut.ensures.value c.requires.taken in
+    let one = some_shown (end_of (deal_in c.deref_mut.result.now) (dialogue (deal_in c.deref_mut.result.now) was.0)) c.end-ended.result (c.end-ended.ensures.ends.end was.0 was.1) in
+    let capture : c.ended.inside.capture ≡ one.0.capture = ap (λ (x : EndShown). x.capture) c.ended.view_is ∙ ap (λ (x : EndShown). x.capture) (sym one.2) in
+    subst IsNoRequest (sym capture) (no_request (deal_in c.deref_mut.result.now) (dialogue (deal_in c.deref_mut.result.now) was.0) one.0 one.1)
+
+pub returns-in-Told-clause-stands : goal.returns-in-Told-clause-stands
+returns-in-Told-clause-stands g c = λ issuer accounts replies row stands shelf_is.
     let p = seen_payment issuer accounts c.args.at.now in
     let running : c.args.lane.now.running ≡ Some c.in-Some.kernel = sym c.take.ensures.value ∙ c.in-Some.is in
     let runs = runs_as c.args.lane.now.running c.in-Some.kernel c.deref_mut.result.now p replies running c.deref_mut.ensures.value stands.running in
@@ -31,7 +41,6 @@ returns-clause-stands c = λ issuer accounts replies row stands.
     let one = some_shown (end_at p replies) c.end-ended.result given in
     let end : EndData = one.0 in
     let same : shown end ≡ c.end-ended.result = one.2 in
-    let past : Past = record { began = row.began; replies = replies; end = end } in
     let view : (shown end).ending ≡ c.end-ended.result.ending = ap (λ (x : EndShown). x.ending) same in
     let ending : c.ended.inside.ending ≡ end.ending = ap (λ (x : EndShown). x.ending) c.ended.view_is ∙ ap (λ (x : EndShown). x.ending) (sym same) in
     let pan : c.ended.inside.pan ≡ option_map (λ card. card.pan) end.card = ap (λ (x : EndShown). x.pan) c.ended.view_is ∙ ap (λ (x : EndShown). x.pan) (sym same) in
@@ -39,33 +48,85 @@ returns-clause-stands c = λ issuer accounts replies row stands.
     ap (λ (d : Deal). end_of d (dialogue d replies)) runs.1 ∙ one.1 in
     let card : c.end-ended.new.self.card ≡ end.card = c.end-ended.ensures.spent.card_is ∙ sym (c.end-ended.ensures.ends.card replies end runs.0 ends) in
     let capture : c.ended.inside.capture ≡ end.capture = ap (λ (x : EndShown). x.capture) c.ended.view_is ∙ ap (λ (x : EndShown). x.capture) (sym same) in
-    let amount : c.args.at.now.planned.now.purchase.amount ≡ c.amount_of-amount.result = sym c.amount_of-amount.ensures in
-    let log : c.add_approval.new.log.items ≡ row.log ++ approval c.args.at.now.planned.now.purchase end.ending end.card =
+    let amount : c.args.at.now.planned.now.purchase.amount ≡ c.amount_of.result = sym c.amount_of.ensures in
+    let shelf = ending_shelf p row replies end c.args.shelf.now c.keep_capture.new.shelf c.keep_capture.result shelf_is c.requires.room
+    (λ durable. subst (λ (o : Option (List ℕ)). IsStoredBy c.args.shelf.now c.keep_capture.new.shelf p.planned.terminal_tear o c.keep_capture.result) capture
+    (c.keep_capture.ensures.stored durable)) c.keep_capture.ensures.told in
+    let told : false ≡ loses p row.store end.capture = ap is_lost (sym c.in-Told.is) ∙ shelf.1 in
+    let log : c.add_approval.new.log.items ≡ row.log ++ (if loses p row.store end.capture then [] else approval c.args.at.now.planned.now.purchase end.ending end.card) =
     c.add_approval.ensures.appended c.args.at.now.planned.now.purchase end.card amount pan
     ∙ ap (λ (xs : List Logged). xs ++ approval c.args.at.now.planned.now.purchase c.ended.inside.ending end.card) stands.keeps.log
-    ∙ ap (λ (e : Ending). row.log ++ approval c.args.at.now.planned.now.purchase e end.card) ending in (
+    ∙ ap (λ (e : Ending). row.log ++ approval c.args.at.now.planned.now.purchase e end.card) ending
+    ∙ ap (λ (b : Bool). row.log ++ (if b then [] else approval c.args.at.now.planned.now.purchase end.ending end.card)) told in
+    let so : Finishes p c.args.lane.now _ row end = record {
+      rests = c.take.ensures.after;
+      ended = refl;
+      log = log;
+      amounts = subst (λ (xs : List Logged). All (λ logged. logged.amount ≤ most_amount) xs) refl (c.add_approval.ensures.amounts c.requires.amounts (subst (λ n. n ≤ most_amount) amount c.requires.amount));
+      captures =
+          c.keep_capture.ensures.waits
+          ∙ ap (λ (xs : List (List ℕ)). xs ++ (if p.durable then [] else option_to_list c.ended.inside.capture)) stands.keeps.captures
+          ∙ ap (λ (o : Option (List ℕ)). row.captures ++ (if p.durable then [] else option_to_list o)) capture;
+      read = subst (λ (o : Option (List ℕ)). All IsMessage (option_to_list o)) capture c.keep_capture.ensures.read;
+      card = card;
+      ending = ap (λ (e : Ending). Some e) ending;
+      found = refl;
+    } in (
       end,
       one.1,
-      record {
-        keeps = record {
-          ended = (let more : length (row.ended ++ past ∷ []) ≡ length row.ended + 1 = length-append row.ended (past ∷ []) in
-              let before : c.args.lane.now.ended ≡ length row.ended = stands.keeps.ended in omega arith);
-          log = log;
-          amounts = subst (λ (xs : List Logged). All (λ logged. logged.amount ≤ most_amount) xs) log
-              (c.add_approval.ensures.amounts c.requires.amounts (subst (λ n. n ≤ most_amount) amount c.requires.amount));
-          captures =
-              c.add_capture.ensures.added
-              ∙ ap (λ (xs : List (List ℕ)). xs ++ option_to_list c.ended.inside.capture) stands.keeps.captures
-              ∙ ap (λ (o : Option (List ℕ)). row.captures ++ option_to_list o) capture;
-          messages = All-append IsMessage row.captures (option_to_list end.capture) stands.keeps.messages
-              (subst (λ (o : Option (List ℕ)). All IsMessage (option_to_list o)) capture c.add_capture.ensures.read);
-          card = λ none. card ∙ ap (λ (o : Option Past). option_and_then past_card o) (sym (last_past-push row.ended past));
-          ending =
-              ap (λ (e : Ending). Some e) ending
-              ∙ ap (λ (o : Option Past). option_map (λ past. past.end.ending) o) (sym (last_past-push row.ended past));
-        };
-        running = rests_as c.take.new.self p c.take.ensures.after;
-      },
-      c.add_end.ensures end (sym same) ∙ ap (λ n. c.args.lines.now.items ++ end_line c.args.at.now.lane (n + 1) end ∷ []) stands.keeps.ended,
+      finished p c.args.lane.now _ row replies end stands.keeps c.args.shelf.now shelf_is c.requires.room so,
+      shelf.0,
+      c.end.ensures
+          ∙ ap (λ (parts : EndParts). c.args.lines.now.items ++ End c.args.at.now.lane (c.args.lane.now.ended + 1) parts ∷ []) (c.end_parts-parts.ensures end (sym same))
+          ∙ ap (λ n. c.args.lines.now.items ++ end_line c.args.at.now.lane n end ∷ []) (ap (λ n. n + 1) stands.keeps.ended)
+          ∙ ap (λ (b : Bool). c.args.lines.now.items ++ outcome_line b c.args.at.now.lane (length row.ended + 1) end ∷ []) told,
+      c.end-ended.ensures.ends.tally replies runs.0 ∙ ap (λ (e : Ending). raised c.args.tally.now e (length replies)) (sym view),
+    )
+
+pub returns-in-Lost-clause-stands : goal.returns-in-Lost-clause-stands
+returns-in-Lost-clause-stands g c = λ issuer accounts replies row stands shelf_is.
+    let p = seen_payment issuer accounts c.args.at.now in
+    let running : c.args.lane.now.running ≡ Some c.in-Some.kernel = sym c.take.ensures.value ∙ c.in-Some.is in
+    let runs = runs_as c.args.lane.now.running c.in-Some.kernel c.deref_mut.result.now p replies running c.deref_mut.ensures.value stands.running in
+    let given : option_map shown (end_at p replies) ≡ Some c.end-ended.result =
+    ap (λ (d : Deal). option_map shown (end_of d (dialogue d replies))) (sym runs.1) ∙ c.end-ended.ensures.ends.end replies runs.0 in
+    let one = some_shown (end_at p replies) c.end-ended.result given in
+    let end : EndData = one.0 in
+    let same : shown end ≡ c.end-ended.result = one.2 in
+    let view : (shown end).ending ≡ c.end-ended.result.ending = ap (λ (x : EndShown). x.ending) same in
+    let ending : c.ended.inside.ending ≡ end.ending = ap (λ (x : EndShown). x.ending) c.ended.view_is ∙ ap (λ (x : EndShown). x.ending) (sym same) in
+    let pan : c.ended.inside.pan ≡ option_map (λ card. card.pan) end.card = ap (λ (x : EndShown). x.pan) c.ended.view_is ∙ ap (λ (x : EndShown). x.pan) (sym same) in
+    let ends : end_of (deal_in c.deref_mut.result.now) (dialogue (deal_in c.deref_mut.result.now) replies) ≡ Some end =
+    ap (λ (d : Deal). end_of d (dialogue d replies)) runs.1 ∙ one.1 in
+    let card : c.end-ended.new.self.card ≡ end.card = c.end-ended.ensures.spent.card_is ∙ sym (c.end-ended.ensures.ends.card replies end runs.0 ends) in
+    let capture : c.ended.inside.capture ≡ end.capture = ap (λ (x : EndShown). x.capture) c.ended.view_is ∙ ap (λ (x : EndShown). x.capture) (sym same) in
+    let shelf = ending_shelf p row replies end c.args.shelf.now c.keep_capture.new.shelf c.keep_capture.result shelf_is c.requires.room
+    (λ durable. subst (λ (o : Option (List ℕ)). IsStoredBy c.args.shelf.now c.keep_capture.new.shelf p.planned.terminal_tear o c.keep_capture.result) capture
+    (c.keep_capture.ensures.stored durable)) c.keep_capture.ensures.told in
+    let told : true ≡ loses p row.store end.capture = ap is_lost (sym c.in-Lost.is) ∙ shelf.1 in
+    let log : c.args.lane.now.log.items ≡ row.log ++ (if loses p row.store end.capture then [] else approval c.args.at.now.planned.now.purchase end.ending end.card) =
+    stands.keeps.log ∙ sym (append-nil row.log)
+    ∙ ap (λ (b : Bool). row.log ++ (if b then [] else approval c.args.at.now.planned.now.purchase end.ending end.card)) told in
+    let so : Finishes p c.args.lane.now _ row end = record {
+      rests = c.take.ensures.after;
+      ended = refl;
+      log = log;
+      amounts = c.requires.amounts;
+      captures =
+          c.keep_capture.ensures.waits
+          ∙ ap (λ (xs : List (List ℕ)). xs ++ (if p.durable then [] else option_to_list c.ended.inside.capture)) stands.keeps.captures
+          ∙ ap (λ (o : Option (List ℕ)). row.captures ++ (if p.durable then [] else option_to_list o)) capture;
+      read = subst (λ (o : Option (List ℕ)). All IsMessage (option_to_list o)) capture c.keep_capture.ensures.read;
+      card = card;
+      ending = ap (λ (e : Ending). Some e) ending;
+      found = refl;
+    } in (
+      end,
+      one.1,
+      finished p c.args.lane.now _ row replies end stands.keeps c.args.shelf.now shelf_is c.requires.room so,
+      shelf.0,
+      c.end_lost.ensures
+          ∙ ap (λ n. c.args.lines.now.items ++ EndLost c.args.at.now.lane n ∷ []) (ap (λ n. n + 1) stands.keeps.ended)
+          ∙ ap (λ (b : Bool). c.args.lines.now.items ++ outcome_line b c.args.at.now.lane (length row.ended + 1) end ∷ []) told,
       c.end-ended.ensures.ends.tally replies runs.0 ∙ ap (λ (e : Ending). raised c.args.tally.now e (length replies)) (sym view),
     )

@@ -4,7 +4,6 @@ use Rattle.std.specs.Iterator.Adapters.{zip_first, zip_second}
 use Rattle.std.specs.List.{zip}
 use Rattle.std.specs.Slice.Iter.{iter_rest}
 use Rattle.report_text.specs.declared.line.Shown.{Shown}
-use Rattle.txn_replay.specs.Lines.{shown_state}
 use Rattle.txn_replay.proofs.Showing.{shown_pairs, shows_more, shows_all}
 use Rattle.txn_replay.proofs.lines.shown_all.Goals as goal
 

@@ -6,6 +6,7 @@ use Rattle.scenario.specs.Plan.{ScenarioData}
 use Rattle.scenario.specs.Seen.{seen_card, seen_cards}
 use Rattle.scenario_lanes.specs.Plan.{LaneData}
 use Rattle.scenario_lanes.specs.declared.plan.Planned.{Planned}
+use Rattle.txn_replay.specs.Payment.{payment_with}
 use Rattle.txn_replay.proofs.Checked.{short_name}
 use Rattle.txn_replay.proofs.Checks.{seen_at}
 use Rattle.txn_replay.proofs.Lists.{found_at, is_within, is_past}
@@ -14,7 +15,7 @@ use Rattle.txn_replay.proofs.payment.payment_at.Goals as goal
 
 pub returns-in-Some-clause-payment : goal.returns-in-Some-clause-payment
 returns-in-Some-clause-payment c =
-    let terminal : LaneData = record { settings = c.terminal.inside.settings; purchases = c.terminal.inside.purchases.items; iso = c.terminal.inside.iso } in
+    let terminal : LaneData = record { settings = c.terminal.inside.settings; purchases = c.terminal.inside.purchases.items; iso = c.terminal.inside.iso; durable = c.terminal.inside.durable } in
     let lanes : c.scenario.inside.lanes.items ≡ c.args.scenario.now.lanes = ap (λ (s : ScenarioData). s.lanes) c.scenario.view_is in
     let cards : seen_cards c.scenario.inside.cards.items ≡ c.args.scenario.now.cards = ap (λ (s : ScenarioData). s.cards) c.scenario.view_is in
     let within : c.args.lane < length c.scenario.inside.lanes.items = subst (λ (xs : List LaneData). c.args.lane < length xs) (sym lanes) c.requires.lane in
@@ -33,12 +34,14 @@ returns-in-Some-clause-payment c =
     ap (λ (cs : List CardData). slice_get cs c.in-Some.planned.now.card) (sym cards)
     ∙ seen_at c.scenario.inside.cards.items c.in-Some.planned.now.card c.index.result.now
     (found_at c.scenario.inside.cards.items c.in-Some.planned.now.card c.index.result.now (omega (arith, below, count)) c.index.ensures) in
-    sym (payment_is c.args.scenario.now c.args.lane c.args.number terminal c.in-Some.planned.now (seen_card c.index.result.now) lane_there planned_there card_there)
+    let copies : c.scenario.inside.copies ≡ c.args.scenario.now.copies = ap (λ (s : ScenarioData). s.copies) c.scenario.view_is in
+    ap (λ n. Some (record (payment_with c.args.scenario.now c.args.lane terminal c.in-Some.planned.now (seen_card c.index.result.now)) { copies = n })) copies
+    ∙ sym (payment_is c.args.scenario.now c.args.lane c.args.number terminal c.in-Some.planned.now (seen_card c.index.result.now) lane_there planned_there card_there)
 
 pub returns-in-Some-clause-name : goal.returns-in-Some-clause-name
 unfolding seen_card
 returns-in-Some-clause-name c =
-    let terminal : LaneData = record { settings = c.terminal.inside.settings; purchases = c.terminal.inside.purchases.items; iso = c.terminal.inside.iso } in
+    let terminal : LaneData = record { settings = c.terminal.inside.settings; purchases = c.terminal.inside.purchases.items; iso = c.terminal.inside.iso; durable = c.terminal.inside.durable } in
     let lanes : c.scenario.inside.lanes.items ≡ c.args.scenario.now.lanes = ap (λ (s : ScenarioData). s.lanes) c.scenario.view_is in
     let cards : seen_cards c.scenario.inside.cards.items ≡ c.args.scenario.now.cards = ap (λ (s : ScenarioData). s.cards) c.scenario.view_is in
     let within : c.args.lane < length c.scenario.inside.lanes.items = subst (λ (xs : List LaneData). c.args.lane < length xs) (sym lanes) c.requires.lane in
@@ -61,7 +64,7 @@ returns-in-Some-clause-name c =
 
 pub returns-in-None-clause-payment : goal.returns-in-None-clause-payment
 returns-in-None-clause-payment c =
-    let terminal : LaneData = record { settings = c.terminal.inside.settings; purchases = c.terminal.inside.purchases.items; iso = c.terminal.inside.iso } in
+    let terminal : LaneData = record { settings = c.terminal.inside.settings; purchases = c.terminal.inside.purchases.items; iso = c.terminal.inside.iso; durable = c.terminal.inside.durable } in
     let lanes : c.scenario.inside.lanes.items ≡ c.args.scenario.now.lanes = ap (λ (s : ScenarioData). s.lanes) c.scenario.view_is in
     let cards : seen_cards c.scenario.inside.cards.items ≡ c.args.scenario.now.cards = ap (λ (s : ScenarioData). s.cards) c.scenario.view_is in
     let within : c.args.lane < length c.scenario.inside.lanes.items = subst (λ (xs : List LaneData). c.args.lane < length xs) (sym lanes) c.requires.lane in

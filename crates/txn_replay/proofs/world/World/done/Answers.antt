@@ -11,6 +11,7 @@ returns-clause-over g c = λ w stands.
       scenario = c.self.inside.scenario.now;
       slots = c.self.inside.slots.items;
       lanes = c.self.inside.lanes.items;
+      shelves = c.self.inside.shelves.items;
       host = c.self.inside.host;
       tally = c.self.inside.tally;
       spare = map g.P.Pages.memory c.self.inside.spare.items;

@@ -1,15 +1,19 @@
-use Rattle.std.proofs.Common.{◌≡◌, ◌≤◌, List, length, map, drop, sym, ap, ◌∙◌, subst, arith}
+use Rattle.std.proofs.Common.{◌≡◌, ◌≤◌, List, length, map, sym, ap, ◌∙◌, subst, arith}
 use Rattle.std.specs.List.{All}
 use Rattle.std.proofs.lemmas.List.{length-map}
+use Rattle.std.proofs.lemmas.List.Elements.{All-drop}
+use Rattle.emv_ports.specs.Memory.{Memory, IsBlank}
 use Rattle.scenario.specs.CardRules.{IsKind}
 use Rattle.scenario.specs.Cards.{CardData}
 use Rattle.scenario.specs.Plan.{ScenarioData}
 use Rattle.scenario.specs.Seen.{seen_card, seen_cards}
 use Rattle.scenario.specs.declared.plan.NamedCard.{NamedCard}
-use Rattle.txn_replay.specs.Banked.{AreNew}
+use Rattle.scenario_lanes.specs.Plan.{LaneData, HaveRoom}
+use Rattle.txn_replay.specs.Banked.{AreNew, AreNewStores}
 use Rattle.txn_replay.specs.Seen.{WorldSeen, WorldStands}
 use Rattle.txn_replay.specs.World.{first_world}
 use Rattle.txn_replay.proofs.Founding.{first_stands, fit_all}
+use Rattle.txn_replay.proofs.Giving.{all_stores}
 use Rattle.txn_replay.proofs.world.World.new.Goals as goal
 
 pub take_pages-requires-clause-kinds : goal.take_pages-requires-clause-kinds
@@ -25,7 +29,10 @@ take_pages-requires-clause-pages g c =
     let count : length c.args.scenario.now.cards ≡ length c.as_slice-cards.result.now =
     ap (λ (cs : List CardData). length cs) (sym cards) ∙ length-map c.as_slice-cards.result.now seen_card in
     let few : length c.args.scenario.now.cards ≤ 64 = c.requires.scenario.tables.cards.few in
-    omega (arith, count, few, c.requires.pages, c.args.bank.ok.0)
+    let lanes : c.as_slice-2.result.now ≡ c.args.scenario.now.lanes = c.as_slice-2.ensures.value ∙ ap (λ (s : ScenarioData). s.lanes) c.scenario.view_is in
+    let room : HaveRoom (length c.args.scenario.now.cards) c.as_slice-2.result.now =
+    subst (λ (ls : List LaneData). HaveRoom (length c.args.scenario.now.cards) ls) (sym lanes) c.requires.scenario.tables.rooms in
+    omega (arith, count, few, c.take_stores.ensures.left (length c.args.scenario.now.cards) few room)
 
 pub invariant_of-result : goal.invariant_of-result
 invariant_of-result g c =
@@ -33,29 +40,39 @@ invariant_of-result g c =
       scenario = c.args.scenario.now;
       slots = c.take_pages.new.slots.items;
       lanes = c.in-Ok-new_lanes.lanes.items;
+      shelves = c.take_stores.new.shelves.items;
       host = c.in-Ok.host;
       tally = c.new-2.result;
       spare = map g.P.Pages.memory c.take_pages.new.bank.items;
     } in
     let cards : seen_cards c.as_slice-cards.result.now ≡ c.args.scenario.now.cards =
     ap (λ (xs : List NamedCard). seen_cards xs) c.as_slice-cards.ensures.value ∙ ap (λ (s : ScenarioData). s.cards) c.scenario.view_is in
+    let lanes : c.as_slice-2.result.now ≡ c.args.scenario.now.lanes = c.as_slice-2.ensures.value ∙ ap (λ (s : ScenarioData). s.lanes) c.scenario.view_is in
+    let shelf_count : length v.shelves ≡ length v.scenario.lanes =
+    sym c.take_stores.new.shelves.ok.0 ∙ c.take_stores.ensures.count ∙ ap (λ (ls : List LaneData). length ls) lanes in
     let stands : WorldStands v (first_world v.scenario) =
     first_stands v (subst (λ (xs : List CardData). AreNew xs c.take_pages.new.slots.items) cards c.take_pages.ensures.new) c.in-Ok-new_lanes.ensures.new
+    shelf_count (subst (λ (xs : List LaneData). AreNewStores xs c.take_stores.new.shelves.items) lanes c.take_stores.ensures.new)
     c.in-Ok.ensures.stands c.new-2.ensures in
     let count : length v.scenario.cards ≡ length c.as_slice-cards.result.now =
-    ap (λ (cs : List CardData). length cs) (sym cards) ∙ length-map c.as_slice-cards.result.now seen_card in (
+    ap (λ (cs : List CardData). length cs) (sym cards) ∙ length-map c.as_slice-cards.result.now seen_card in
+    let spare : length v.spare ≡ length c.take_pages.new.bank.items = length-map c.take_pages.new.bank.items g.P.Pages.memory in (
       record {
         scenario = c.requires.scenario;
         slot_count = sym c.take_pages.new.slots.ok.0 ∙ c.take_pages.ensures.count ∙ sym count;
         lane_count =
             sym c.in-Ok-new_lanes.lanes.ok.0 ∙ c.in-Ok-new_lanes.ensures.count ∙ c.len.ensures ∙ c.scenario.inside.lanes.ok.0
             ∙ ap (λ (s : ScenarioData). length s.lanes) c.scenario.view_is;
+        shelf_count = shelf_count;
         fits = fit_all c.in-Ok-new_lanes.lanes.items c.in-Ok-new_lanes.ensures.new;
         keys = c.in-Ok.ensures.keys ∙ c.keys_of-keys.ensures ∙ ap (λ (s : ScenarioData). s.issuer) c.scenario.view_is;
         accounts = c.in-Ok.ensures.accounts ∙ c.as_slice.ensures.value ∙ ap (λ (s : ScenarioData). s.accounts) c.scenario.view_is;
+        blank = subst (λ (ms : List Memory). All IsBlank ms) (sym c.take_pages.ensures.spare)
+            (All-drop IsBlank (length c.as_slice-cards.result.now) (map g.P.Pages.memory c.take_stores.new.bank.items) c.take_stores.ensures.blank);
+        pages = omega (arith, count, spare, all_stores v (first_world v.scenario) stands shelf_count, c.take_stores.ensures.pages, c.take_pages.ensures.place, c.take_pages.new.bank.ok.0);
         standing = (first_world v.scenario, stands);
       },
-      omega (arith, c.take_pages.ensures.count, c.take_pages.ensures.place, c.take_pages.ensures.capacity, c.args.bank.ok.1),
+      omega (arith, c.take_pages.ensures.capacity, c.take_stores.ensures.capacity, c.requires.pages, c.args.bank.ok.0, c.args.bank.ok.1),
     )
 
 pub returns-clause-stands : goal.returns-clause-stands
@@ -64,21 +81,18 @@ returns-clause-stands g c =
       scenario = c.args.scenario.now;
       slots = c.take_pages.new.slots.items;
       lanes = c.in-Ok-new_lanes.lanes.items;
+      shelves = c.take_stores.new.shelves.items;
       host = c.in-Ok.host;
       tally = c.new-2.result;
       spare = map g.P.Pages.memory c.take_pages.new.bank.items;
     } in
     let cards : seen_cards c.as_slice-cards.result.now ≡ c.args.scenario.now.cards =
     ap (λ (xs : List NamedCard). seen_cards xs) c.as_slice-cards.ensures.value ∙ ap (λ (s : ScenarioData). s.cards) c.scenario.view_is in
+    let lanes : c.as_slice-2.result.now ≡ c.args.scenario.now.lanes = c.as_slice-2.ensures.value ∙ ap (λ (s : ScenarioData). s.lanes) c.scenario.view_is in
+    let shelf_count : length v.shelves ≡ length v.scenario.lanes =
+    sym c.take_stores.new.shelves.ok.0 ∙ c.take_stores.ensures.count ∙ ap (λ (ls : List LaneData). length ls) lanes in
     let stands : WorldStands v (first_world v.scenario) =
     first_stands v (subst (λ (xs : List CardData). AreNew xs c.take_pages.new.slots.items) cards c.take_pages.ensures.new) c.in-Ok-new_lanes.ensures.new
+    shelf_count (subst (λ (xs : List LaneData). AreNewStores xs c.take_stores.new.shelves.items) lanes c.take_stores.ensures.new)
     c.in-Ok.ensures.stands c.new-2.ensures in
     stands
-
-pub returns-clause-spare : goal.returns-clause-spare
-returns-clause-spare g c =
-    let cards : seen_cards c.as_slice-cards.result.now ≡ c.args.scenario.now.cards =
-    ap (λ (xs : List NamedCard). seen_cards xs) c.as_slice-cards.ensures.value ∙ ap (λ (s : ScenarioData). s.cards) c.scenario.view_is in
-    let count : length c.args.scenario.now.cards ≡ length c.as_slice-cards.result.now =
-    ap (λ (cs : List CardData). length cs) (sym cards) ∙ length-map c.as_slice-cards.result.now seen_card in
-    c.take_pages.ensures.spare ∙ ap (λ n. drop n (map g.P.Pages.memory c.args.bank.items)) (sym count)

@@ -1,208 +1,98 @@
-use Rattle.std.proofs.Common.{◌≡◌, ℕ, Bool, true, List, [], ◌∷◌, ◌++◌, map, slice_get, Some, refl, sym, ap, ◌∙◌, subst}
-use Rattle.std.specs.Prelude.{option_map}
+use Rattle.std.proofs.Common.{◌≤◌, List, sym, subst, arith}
+use Rattle.std.specs.Vec.{vec_len}
+use Rattle.txn_replay.specs.declared.lane.Lane.{Lane}
+use Rattle.std.specs.List.{All}
 use Rattle.auth_message.specs.Whole.{IsMessage}
-use Rattle.host_link.specs.Delivery.{reply_if}
-use Rattle.host_link.specs.Dialect.{call_in, reply_in}
-use Rattle.issuer_host.specs.History.{HostStands, host_reply}
-use Rattle.report_text.specs.declared.line.Line.{Line}
-use Rattle.scenario.specs.Plan.{ScenarioData}
-use Rattle.txn_replay.specs.Lines.{settle_wire_lines, settle_lines}
-use Rattle.txn_replay.specs.Payment.{dialect_of}
-use Rattle.txn_replay.specs.Seen.{WorldSeen, WorldStands, Goes, captured, settlement_by}
-use Rattle.txn_replay.specs.Steps.{Settlement, settlements, settlements_from}
-use Rattle.txn_replay.specs.declared.event.Event.TheVariants as event
-use Rattle.txn_replay.proofs.Replies.{came_back}
-use Rattle.txn_replay.proofs.Settlements.{settlements_are, none_settles, one_settles, settled_few, settles_message}
+use Rattle.txn_replay.specs.declared.settlement.Settling.TheVariants as settling
+use Rattle.txn_replay.proofs.Reaching.{past_it, past_goes, step_there, step_few, lane_inside, lane_fits, opens_off, opens_so, opens_done, opens_whole, sends_message, sends_so, sends_whole, drains_from, drains_so, drains_whole}
+use Rattle.txn_replay.proofs.Settlements.{captured_few}
 use Rattle.txn_replay.proofs.world.World.settle.Goals as goal
 
+pub settlement-requires-clause-captures : goal.settlement-requires-clause-captures
+settlement-requires-clause-captures g c =
+    subst (λ (lanes : List Lane). All (λ lane. vec_len lane.captures ≤ 10000) lanes) (sym c.as_slice.ensures.value)
+    (captured_few _ c.self.invariant.0.standing.0 c.self.invariant.0.standing.1 c.self.invariant.0.scenario)
+
 pub returns-in_default-clause-past : goal.returns-in_default-clause-past
-returns-in_default-clause-past g c = λ one w stands.
-    let v : WorldSeen = record {
-      scenario = c.self.inside.scenario.now;
-      slots = c.self.inside.slots.items;
-      lanes = c.self.inside.lanes.items;
-      host = c.self.inside.host;
-      tally = c.self.inside.tally;
-      spare = map g.P.Pages.memory c.self.inside.spare.items;
-    } in
-    let seen : WorldStands v w = subst (λ (x : WorldSeen). WorldStands x w) (sym c.self.view_is) stands in
-    let copies : c.scenario.inside.copies ≡ v.scenario.copies = ap (λ (s : ScenarioData). s.copies) c.scenario.view_is in
-    let same : slice_get (settlements_from c.scenario.inside.copies 0 (map captured c.as_slice.result.now)) c.args.number ≡ slice_get (settlements v.scenario w) c.args.number =
-    (λ i. slice_get (settlements_from (copies i) 0 (map captured (c.as_slice.ensures.value i))) c.args.number)
-    ∙ ap (λ (xs : List Settlement). slice_get xs c.args.number) (settlements_are v w seen c.self.invariant.0.lane_count) in
-    ap (λ (x : WorldSeen). slice_get (settlements x.scenario w) c.args.number) (sym c.self.view_is) ∙ sym same ∙ sym c.in_default.ensures
+returns-in_default-clause-past g c = λ one. past_it _ _ c.self.invariant.0 c.self.view_is _ c.as_slice.ensures.value c.args.number (λ rows are. c.in_default.ensures rows are)
 
 pub returns-in_default-clause-ok : goal.returns-in_default-clause-ok
-returns-in_default-clause-ok g c = λ w stands.
-    let v : WorldSeen = record {
-      scenario = c.self.inside.scenario.now;
-      slots = c.self.inside.slots.items;
-      lanes = c.self.inside.lanes.items;
-      host = c.self.inside.host;
-      tally = c.self.inside.tally;
-      spare = map g.P.Pages.memory c.self.inside.spare.items;
-    } in
-    let seen : WorldStands v w = subst (λ (x : WorldSeen). WorldStands x w) (sym c.self.view_is) stands in
-    let copies : c.scenario.inside.copies ≡ v.scenario.copies = ap (λ (s : ScenarioData). s.copies) c.scenario.view_is in
-    let same : slice_get (settlements_from c.scenario.inside.copies 0 (map captured c.as_slice.result.now)) c.args.number ≡ slice_get (settlements v.scenario w) c.args.number =
-    (λ i. slice_get (settlements_from (copies i) 0 (map captured (c.as_slice.ensures.value i))) c.args.number)
-    ∙ ap (λ (xs : List Settlement). slice_get xs c.args.number) (settlements_are v w seen c.self.invariant.0.lane_count) in
-    subst (λ (ls : List Line). Goes c.args.self.now w (event.Settle c.args.number) ls) (sym c.requires.empty)
-    (subst (λ (x : WorldSeen). Goes x w (event.Settle c.args.number) []) c.self.view_is
-    (none_settles v w seen c.self.invariant.0.lane_count c.args.number (sym same ∙ sym c.in_default.ensures)))
+returns-in_default-clause-ok g c = λ w stands through. past_goes _ _ c.self.invariant.0 c.self.view_is _ c.as_slice.ensures.value c.args.number (λ rows are. c.in_default.ensures rows are) w stands _ c.requires.empty
 
-pub invariant_of-self-2 : goal.invariant_of-self-2
-invariant_of-self-2 g c =
-    let w = c.self.invariant.0.standing.0 in
-    let v : WorldSeen = record {
-      scenario = c.self.inside.scenario.now;
-      slots = c.self.inside.slots.items;
-      lanes = c.self.inside.lanes.items;
-      host = c.self.inside.host;
-      tally = c.self.inside.tally;
-      spare = map g.P.Pages.memory c.self.inside.spare.items;
-    } in
-    let seen : WorldStands v w = c.self.invariant.0.standing.1 in
-    let copies : c.scenario.inside.copies ≡ v.scenario.copies = ap (λ (s : ScenarioData). s.copies) c.scenario.view_is in
-    let same : slice_get (settlements_from c.scenario.inside.copies 0 (map captured c.as_slice.result.now)) c.args.number ≡ slice_get (settlements v.scenario w) c.args.number =
-    (λ i. slice_get (settlements_from (copies i) 0 (map captured (c.as_slice.ensures.value i))) c.args.number)
-    ∙ ap (λ (xs : List Settlement). slice_get xs c.args.number) (settlements_are v w seen c.self.invariant.0.lane_count) in
-    let here : slice_get (settlements v.scenario w) c.args.number ≡ Some (settlement_by c.in-Some.lane c.in-Some.message.now.items) =
-    sym same ∙ sym c.in-Some.ensures in
-    let message : List ℕ = c.in-Some.message.now.items in
-    let messages : HostStands c.deliver.new.host (w.messages ++ message ∷ []) =
-    subst (λ (m : List ℕ). HostStands c.deliver.new.host (w.messages ++ m ∷ [])) c.as_slice-sent.ensures.value
-    (c.in_ok-deliver.ensures.stands w.messages seen.messages) in
-    let reply : List ℕ = host_reply v.scenario.issuer v.scenario.accounts w.messages message in
-    let back : reply_if c.in_ok-deliver.field-0 c.deliver.new.reply.items ≡ Some reply =
-    c.in_ok-deliver.ensures.heard w.messages seen.messages
-    ∙ (λ i. Some (host_reply (c.self.invariant.0.keys i) (c.self.invariant.0.accounts i) w.messages (c.as_slice-sent.ensures.value i))) in
-    let shown : c.deliver.new.wire.reply.items ≡ reply_in (dialect_of v.scenario c.in-Some.lane) message reply =
-    came_back c.in_ok-deliver.field-0 c.deliver.new.reply.items c.deliver.new.wire.reply.items reply
-    (reply_in (dialect_of v.scenario c.in-Some.lane) message) back
-    (c.in_ok-deliver.ensures.shown
-    ∙ (λ i. option_map (reply_in (c.dialect_at-iso.ensures i) (c.as_slice-sent.ensures.value i)) (reply_if c.in_ok-deliver.field-0 c.deliver.new.reply.items))) in
-    let call : c.deliver.new.wire.call.items ≡ call_in (dialect_of v.scenario c.in-Some.lane) message =
-    c.deliver.ensures.call ∙ (λ i. call_in (c.dialect_at-iso.ensures i) (c.as_slice-sent.ensures.value i)) in
-    let lines : c.add_settlement.new.lines.items ≡ settle_lines (dialect_of v.scenario c.in-Some.lane) c.in-Some.lane message reply =
-    c.add_settlement.ensures
-    ∙ ap (λ (xs : List Line). xs ++ settle_wire_lines c.in-Some.lane c.as_slice-2.result.now c.as_slice-3.result.now) c.requires.empty
-    ∙ (λ i. settle_wire_lines c.in-Some.lane ((c.as_slice-2.ensures.value ∙ call) i) ((c.as_slice-3.ensures.value ∙ shown) i)) in
-    let goes : Goes (record v { host = c.deliver.new.host }) w (event.Settle c.args.number) c.add_settlement.new.lines.items =
-    one_settles v w seen c.self.invariant.0.lane_count c.deliver.new.host c.in-Some.lane message messages c.args.number
-    here reply c.add_settlement.new.lines.items refl lines in (
-      record {
-        scenario = c.self.invariant.0.scenario;
-        slot_count = c.self.invariant.0.slot_count;
-        lane_count = c.self.invariant.0.lane_count;
-        fits = c.self.invariant.0.fits;
-        keys = c.deliver.ensures.keys ∙ c.self.invariant.0.keys;
-        accounts = c.deliver.ensures.accounts ∙ c.self.invariant.0.accounts;
-        standing = (goes.after, goes.stands);
-      },
-      c.self.invariant.1,
-    )
+pub returns-in-Opens-clause-there : goal.returns-in-Opens-clause-there
+returns-in-Opens-clause-there g c = λ one. step_there _ _ c.self.invariant.0 c.self.view_is _ c.as_slice.ensures.value c.args.number c.in-Some.step (λ rows are. c.in-Some.ensures rows are)
 
-pub returns-clause-ok : goal.returns-clause-ok
-returns-clause-ok g c = λ w stands.
-    let v : WorldSeen = record {
-      scenario = c.self.inside.scenario.now;
-      slots = c.self.inside.slots.items;
-      lanes = c.self.inside.lanes.items;
-      host = c.self.inside.host;
-      tally = c.self.inside.tally;
-      spare = map g.P.Pages.memory c.self.inside.spare.items;
-    } in
-    let seen : WorldStands v w = subst (λ (x : WorldSeen). WorldStands x w) (sym c.self.view_is) stands in
-    let copies : c.scenario.inside.copies ≡ v.scenario.copies = ap (λ (s : ScenarioData). s.copies) c.scenario.view_is in
-    let same : slice_get (settlements_from c.scenario.inside.copies 0 (map captured c.as_slice.result.now)) c.args.number ≡ slice_get (settlements v.scenario w) c.args.number =
-    (λ i. slice_get (settlements_from (copies i) 0 (map captured (c.as_slice.ensures.value i))) c.args.number)
-    ∙ ap (λ (xs : List Settlement). slice_get xs c.args.number) (settlements_are v w seen c.self.invariant.0.lane_count) in
-    let here : slice_get (settlements v.scenario w) c.args.number ≡ Some (settlement_by c.in-Some.lane c.in-Some.message.now.items) =
-    sym same ∙ sym c.in-Some.ensures in
-    let message : List ℕ = c.in-Some.message.now.items in
-    let messages : HostStands c.deliver.new.host (w.messages ++ message ∷ []) =
-    subst (λ (m : List ℕ). HostStands c.deliver.new.host (w.messages ++ m ∷ [])) c.as_slice-sent.ensures.value
-    (c.in_ok-deliver.ensures.stands w.messages seen.messages) in
-    let reply : List ℕ = host_reply v.scenario.issuer v.scenario.accounts w.messages message in
-    let back : reply_if c.in_ok-deliver.field-0 c.deliver.new.reply.items ≡ Some reply =
-    c.in_ok-deliver.ensures.heard w.messages seen.messages
-    ∙ (λ i. Some (host_reply (c.self.invariant.0.keys i) (c.self.invariant.0.accounts i) w.messages (c.as_slice-sent.ensures.value i))) in
-    let shown : c.deliver.new.wire.reply.items ≡ reply_in (dialect_of v.scenario c.in-Some.lane) message reply =
-    came_back c.in_ok-deliver.field-0 c.deliver.new.reply.items c.deliver.new.wire.reply.items reply
-    (reply_in (dialect_of v.scenario c.in-Some.lane) message) back
-    (c.in_ok-deliver.ensures.shown
-    ∙ (λ i. option_map (reply_in (c.dialect_at-iso.ensures i) (c.as_slice-sent.ensures.value i)) (reply_if c.in_ok-deliver.field-0 c.deliver.new.reply.items))) in
-    let call : c.deliver.new.wire.call.items ≡ call_in (dialect_of v.scenario c.in-Some.lane) message =
-    c.deliver.ensures.call ∙ (λ i. call_in (c.dialect_at-iso.ensures i) (c.as_slice-sent.ensures.value i)) in
-    let lines : c.add_settlement.new.lines.items ≡ settle_lines (dialect_of v.scenario c.in-Some.lane) c.in-Some.lane message reply =
-    c.add_settlement.ensures
-    ∙ ap (λ (xs : List Line). xs ++ settle_wire_lines c.in-Some.lane c.as_slice-2.result.now c.as_slice-3.result.now) c.requires.empty
-    ∙ (λ i. settle_wire_lines c.in-Some.lane ((c.as_slice-2.ensures.value ∙ call) i) ((c.as_slice-3.ensures.value ∙ shown) i)) in
-    let goes : Goes (record v { host = c.deliver.new.host }) w (event.Settle c.args.number) c.add_settlement.new.lines.items =
-    one_settles v w seen c.self.invariant.0.lane_count c.deliver.new.host c.in-Some.lane message messages c.args.number
-    here reply c.add_settlement.new.lines.items refl lines in
-    goes
+pub returns-in-Opens-clause-few : goal.returns-in-Opens-clause-few
+returns-in-Opens-clause-few g c = λ one. step_few _ _ c.self.invariant.0 c.self.view_is _ c.as_slice.ensures.value c.args.number c.in-Some.step (λ rows are. c.in-Some.ensures rows are)
 
-pub returns-clause-there : goal.returns-clause-there
-returns-clause-there g c = λ one w stands.
-    let v : WorldSeen = record {
-      scenario = c.self.inside.scenario.now;
-      slots = c.self.inside.slots.items;
-      lanes = c.self.inside.lanes.items;
-      host = c.self.inside.host;
-      tally = c.self.inside.tally;
-      spare = map g.P.Pages.memory c.self.inside.spare.items;
-    } in
-    let seen : WorldStands v w = subst (λ (x : WorldSeen). WorldStands x w) (sym c.self.view_is) stands in
-    let copies : c.scenario.inside.copies ≡ v.scenario.copies = ap (λ (s : ScenarioData). s.copies) c.scenario.view_is in
-    let same : slice_get (settlements_from c.scenario.inside.copies 0 (map captured c.as_slice.result.now)) c.args.number ≡ slice_get (settlements v.scenario w) c.args.number =
-    (λ i. slice_get (settlements_from (copies i) 0 (map captured (c.as_slice.ensures.value i))) c.args.number)
-    ∙ ap (λ (xs : List Settlement). slice_get xs c.args.number) (settlements_are v w seen c.self.invariant.0.lane_count) in
-    let here : slice_get (settlements v.scenario w) c.args.number ≡ Some (settlement_by c.in-Some.lane c.in-Some.message.now.items) =
-    sym same ∙ sym c.in-Some.ensures in (
-      settlement_by c.in-Some.lane c.in-Some.message.now.items,
-      ap (λ (x : WorldSeen). slice_get (settlements x.scenario w) c.args.number) (sym c.self.view_is) ∙ here,
-    )
+pub returns-in_ok-send-in-Sends-clause-there : goal.returns-in_ok-send-in-Sends-clause-there
+returns-in_ok-send-in-Sends-clause-there g c = λ one. step_there _ _ c.self.invariant.0 c.self.view_is _ c.as_slice.ensures.value c.args.number c.in-Some.step (λ rows are. c.in-Some.ensures rows are)
 
-pub returns-clause-few : goal.returns-clause-few
-returns-clause-few g c = λ one.
-    let w = c.self.invariant.0.standing.0 in
-    let v : WorldSeen = record {
-      scenario = c.self.inside.scenario.now;
-      slots = c.self.inside.slots.items;
-      lanes = c.self.inside.lanes.items;
-      host = c.self.inside.host;
-      tally = c.self.inside.tally;
-      spare = map g.P.Pages.memory c.self.inside.spare.items;
-    } in
-    let seen : WorldStands v w = c.self.invariant.0.standing.1 in
-    let copies : c.scenario.inside.copies ≡ v.scenario.copies = ap (λ (s : ScenarioData). s.copies) c.scenario.view_is in
-    let same : slice_get (settlements_from c.scenario.inside.copies 0 (map captured c.as_slice.result.now)) c.args.number ≡ slice_get (settlements v.scenario w) c.args.number =
-    (λ i. slice_get (settlements_from (copies i) 0 (map captured (c.as_slice.ensures.value i))) c.args.number)
-    ∙ ap (λ (xs : List Settlement). slice_get xs c.args.number) (settlements_are v w seen c.self.invariant.0.lane_count) in
-    let here : slice_get (settlements v.scenario w) c.args.number ≡ Some (settlement_by c.in-Some.lane c.in-Some.message.now.items) =
-    sym same ∙ sym c.in-Some.ensures in
-    settled_few v w seen c.self.invariant.0.lane_count c.self.invariant.0.scenario c.args.number (settlement_by c.in-Some.lane c.in-Some.message.now.items) here
+pub returns-in_ok-send-in-Sends-clause-few : goal.returns-in_ok-send-in-Sends-clause-few
+returns-in_ok-send-in-Sends-clause-few g c = λ one. step_few _ _ c.self.invariant.0 c.self.view_is _ c.as_slice.ensures.value c.args.number c.in-Some.step (λ rows are. c.in-Some.ensures rows are)
 
--- what was captured is a message
-pub deliver-requires-clause-message : goal.deliver-requires-clause-message
-deliver-requires-clause-message g c = λ iso.
-    let w = c.self.invariant.0.standing.0 in
-    let v : WorldSeen = record {
-      scenario = c.self.inside.scenario.now;
-      slots = c.self.inside.slots.items;
-      lanes = c.self.inside.lanes.items;
-      host = c.self.inside.host;
-      tally = c.self.inside.tally;
-      spare = map g.P.Pages.memory c.self.inside.spare.items;
-    } in
-    let seen : WorldStands v w = c.self.invariant.0.standing.1 in
-    let copies : c.scenario.inside.copies ≡ v.scenario.copies = ap (λ (s : ScenarioData). s.copies) c.scenario.view_is in
-    let same : slice_get (settlements_from c.scenario.inside.copies 0 (map captured c.as_slice.result.now)) c.args.number ≡ slice_get (settlements v.scenario w) c.args.number =
-    (λ i. slice_get (settlements_from (copies i) 0 (map captured (c.as_slice.ensures.value i))) c.args.number)
-    ∙ ap (λ (xs : List Settlement). slice_get xs c.args.number) (settlements_are v w seen c.self.invariant.0.lane_count) in
-    let here : slice_get (settlements v.scenario w) c.args.number ≡ Some (settlement_by c.in-Some.lane c.in-Some.message.now.items) =
-    sym same ∙ sym c.in-Some.ensures in
-    subst IsMessage (sym c.as_slice-sent.ensures.value)
-    (settles_message v w seen c.self.invariant.0.lane_count c.args.number (settlement_by c.in-Some.lane c.in-Some.message.now.items) here)
+pub returns-in_ok-drain-in-Drains-clause-there : goal.returns-in_ok-drain-in-Drains-clause-there
+returns-in_ok-drain-in-Drains-clause-there g c = λ one. step_there _ _ c.self.invariant.0 c.self.view_is _ c.as_slice.ensures.value c.args.number c.in-Some.step (λ rows are. c.in-Some.ensures rows are)
+
+pub returns-in_ok-drain-in-Drains-clause-few : goal.returns-in_ok-drain-in-Drains-clause-few
+returns-in_ok-drain-in-Drains-clause-few g c = λ one. step_few _ _ c.self.invariant.0 c.self.view_is _ c.as_slice.ensures.value c.args.number c.in-Some.step (λ rows are. c.in-Some.ensures rows are)
+
+-- a store is opened
+pub index_mut-requires : goal.index_mut-requires
+index_mut-requires g c = omega (arith, lane_inside _ _ c.self.invariant.0 c.self.view_is _ c.as_slice.ensures.value c.args.number c.in-Some.step (λ rows are. c.in-Some.ensures rows are) (settling.Opens c.in-Opens.lane) c.in-Opens.is, c.self.invariant.0.lane_count, c.self.inside.lanes.ok.0)
+
+pub index_mut-requires-in-Opens : goal.index_mut-requires-in-Opens
+index_mut-requires-in-Opens g c = omega (arith, lane_inside _ _ c.self.invariant.0 c.self.view_is _ c.as_slice.ensures.value c.args.number c.in-Some.step (λ rows are. c.in-Some.ensures rows are) (settling.Opens c.in-Opens.lane) c.in-Opens.is, c.self.invariant.0.shelf_count, c.self.inside.shelves.ok.0)
+
+pub open_to_settle-requires : goal.open_to_settle-requires
+open_to_settle-requires g c = record { off = opens_off _ _ c.self.invariant.0 c.self.view_is _ c.as_slice.ensures.value c.args.number c.in-Some.step (λ rows are. c.in-Some.ensures rows are) c.requires.done c.in-Opens.lane c.in-Opens.is _ _ c.index_mut.ensures.value c.index_mut-in-Opens.ensures.value c.requires.next }
+
+pub returns-in-Opens-clause-ok : goal.returns-in-Opens-clause-ok
+returns-in-Opens-clause-ok g c = λ w stands through. opens_so _ _ c.self.invariant.0 c.self.view_is _ c.as_slice.ensures.value c.args.number c.in-Some.step (λ rows are. c.in-Some.ensures rows are) c.requires.done c.in-Opens.lane c.in-Opens.is _ _ c.index_mut.ensures.value c.index_mut-in-Opens.ensures.value c.open_to_settle.new.lane c.open_to_settle.new.shelf c.open_to_settle.ensures.opened c.open_to_settle.ensures.losses c.open_to_settle.ensures.same w stands through _ c.requires.empty
+
+pub returns-in-Opens-clause-done : goal.returns-in-Opens-clause-done
+returns-in-Opens-clause-done g c = opens_done _ _ c.self.invariant.0 c.self.view_is _ c.as_slice.ensures.value c.args.number c.in-Some.step (λ rows are. c.in-Some.ensures rows are) c.requires.done c.in-Opens.lane c.in-Opens.is _ _ c.index_mut.ensures.value c.index_mut-in-Opens.ensures.value c.open_to_settle.new.lane c.open_to_settle.new.shelf c.open_to_settle.ensures.opened c.open_to_settle.ensures.losses c.open_to_settle.ensures.same
+
+pub invariant_of-self : goal.invariant_of-self
+invariant_of-self g c = (opens_whole _ _ c.self.invariant.0 c.self.view_is _ c.as_slice.ensures.value c.args.number c.in-Some.step (λ rows are. c.in-Some.ensures rows are) c.requires.done c.in-Opens.lane c.in-Opens.is _ _ c.index_mut.ensures.value c.index_mut-in-Opens.ensures.value c.open_to_settle.new.lane c.open_to_settle.new.shelf c.open_to_settle.ensures.opened c.open_to_settle.ensures.losses c.open_to_settle.ensures.same c.requires.next, c.self.invariant.1)
+
+-- a message that a lane has captured is sent
+pub overflow_cast-lane : goal.overflow_cast-lane
+overflow_cast-lane g c = omega (arith, lane_fits _ _ c.self.invariant.0 c.self.view_is _ c.as_slice.ensures.value c.args.number c.in-Some.step (λ rows are. c.in-Some.ensures rows are) (settling.Sends c.in-Sends.lane c.in-Sends.message) c.in-Sends.is)
+
+pub overflow_cast-lane-in-Sends : goal.overflow_cast-lane-in-Sends
+overflow_cast-lane-in-Sends g c = omega (arith, lane_fits _ _ c.self.invariant.0 c.self.view_is _ c.as_slice.ensures.value c.args.number c.in-Some.step (λ rows are. c.in-Some.ensures rows are) (settling.Sends c.in-Sends.lane c.in-Sends.message) c.in-Sends.is)
+
+pub send-requires-clause-message : goal.send-requires-clause-message
+send-requires-clause-message g c = λ iso. subst IsMessage (sym c.as_slice-in-Sends.ensures.value) (sends_message _ _ c.self.invariant.0 c.self.view_is _ c.as_slice.ensures.value c.args.number c.in-Some.step (λ rows are. c.in-Some.ensures rows are) c.requires.done c.in-Sends.lane c.in-Sends.message c.in-Sends.is)
+
+pub send-requires-clause-stands : goal.send-requires-clause-stands
+send-requires-clause-stands g c = (c.self.invariant.0.standing.0.messages, c.self.invariant.0.standing.1.messages)
+
+pub returns-in_ok-send-in-Sends-clause-ok : goal.returns-in_ok-send-in-Sends-clause-ok
+returns-in_ok-send-in-Sends-clause-ok g c = λ w stands through. sends_so _ _ c.self.invariant.0 c.self.view_is _ c.as_slice.ensures.value c.args.number c.in-Some.step (λ rows are. c.in-Some.ensures rows are) c.requires.done c.in-Sends.lane c.in-Sends.message c.in-Sends.is _ c.as_slice-in-Sends.ensures.value _ c.dialect_at-iso.ensures _ c.send.new.lines.items c.requires.empty c.send.new.host (λ messages stands. c.in_ok-send-in-Sends.ensures.stands messages stands) (λ messages stands. c.in_ok-send-in-Sends.ensures.lines messages stands) w stands
+
+pub invariant_of-self-in-Sends : goal.invariant_of-self-in-Sends
+invariant_of-self-in-Sends g c = (sends_whole _ _ c.self.invariant.0 c.self.view_is _ c.as_slice.ensures.value c.args.number c.in-Some.step (λ rows are. c.in-Some.ensures rows are) c.requires.done c.in-Sends.lane c.in-Sends.message c.in-Sends.is _ c.as_slice-in-Sends.ensures.value _ c.dialect_at-iso.ensures _ c.send.new.lines.items c.requires.empty c.send.new.host (λ messages stands. c.in_ok-send-in-Sends.ensures.stands messages stands) (λ messages stands. c.in_ok-send-in-Sends.ensures.lines messages stands) c.send.ensures.keys c.send.ensures.accounts, c.self.invariant.1)
+
+-- a message of a store is sent
+pub overflow_cast-lane-in-Drains : goal.overflow_cast-lane-in-Drains
+overflow_cast-lane-in-Drains g c = omega (arith, lane_fits _ _ c.self.invariant.0 c.self.view_is _ c.as_slice.ensures.value c.args.number c.in-Some.step (λ rows are. c.in-Some.ensures rows are) (settling.Drains c.in-Drains.lane c.in-Drains.drops) c.in-Drains.is)
+
+pub overflow_cast-lane-in-Drains-2 : goal.overflow_cast-lane-in-Drains-2
+overflow_cast-lane-in-Drains-2 g c = omega (arith, lane_fits _ _ c.self.invariant.0 c.self.view_is _ c.as_slice.ensures.value c.args.number c.in-Some.step (λ rows are. c.in-Some.ensures rows are) (settling.Drains c.in-Drains.lane c.in-Drains.drops) c.in-Drains.is)
+
+pub index_mut-shelf-requires : goal.index_mut-shelf-requires
+index_mut-shelf-requires g c = omega (arith, lane_inside _ _ c.self.invariant.0 c.self.view_is _ c.as_slice.ensures.value c.args.number c.in-Some.step (λ rows are. c.in-Some.ensures rows are) (settling.Drains c.in-Drains.lane c.in-Drains.drops) c.in-Drains.is, c.self.invariant.0.shelf_count, c.self.inside.shelves.ok.0)
+
+pub drain-requires-clause-on : goal.drain-requires-clause-on
+drain-requires-clause-on g c = drains_from _ _ c.self.invariant.0 c.self.view_is _ c.as_slice.ensures.value c.args.number c.in-Some.step (λ rows are. c.in-Some.ensures rows are) c.requires.done c.in-Drains.lane c.in-Drains.drops c.in-Drains.is _ c.index_mut-shelf.ensures.value c.requires.next
+
+pub drain-requires-clause-stands : goal.drain-requires-clause-stands
+drain-requires-clause-stands g c = (c.self.invariant.0.standing.0.messages, c.self.invariant.0.standing.1.messages)
+
+pub returns-in_ok-drain-in-Drains-clause-ok : goal.returns-in_ok-drain-in-Drains-clause-ok
+returns-in_ok-drain-in-Drains-clause-ok g c = λ w stands through. drains_so _ _ c.self.invariant.0 c.self.view_is _ c.as_slice.ensures.value c.args.number c.in-Some.step (λ rows are. c.in-Some.ensures rows are) c.requires.done c.in-Drains.lane c.in-Drains.drops c.in-Drains.is _ c.index_mut-shelf.ensures.value c.drain.new.shelf c.drain.new.host _ c.dialect_at-iso-in-Drains.ensures c.drain.new.lines.items (λ row on. c.in_ok-drain-in-Drains.ensures.drained row on) (λ row message messages on first stands. c.in_ok-drain-in-Drains.ensures.lines row message messages on first stands) c.drain.ensures.losses w stands through
+
+pub invariant_of-self-in-Drains : goal.invariant_of-self-in-Drains
+invariant_of-self-in-Drains g c = (drains_whole _ _ c.self.invariant.0 c.self.view_is _ c.as_slice.ensures.value c.args.number c.in-Some.step (λ rows are. c.in-Some.ensures rows are) c.requires.done c.in-Drains.lane c.in-Drains.drops c.in-Drains.is _ c.index_mut-shelf.ensures.value c.drain.new.shelf c.drain.new.host _ c.dialect_at-iso-in-Drains.ensures c.drain.new.lines.items (λ row on. c.in_ok-drain-in-Drains.ensures.drained row on) (λ row message messages on first stands. c.in_ok-drain-in-Drains.ensures.lines row message messages on first stands) c.drain.ensures.losses c.requires.next c.drain.ensures.keys c.drain.ensures.accounts, c.self.invariant.1)

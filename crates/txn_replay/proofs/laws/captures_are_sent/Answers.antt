@@ -1,0 +1,9 @@
+use Rattle.txn_replay.proofs.Capturing.{captures_sent}
+use Rattle.txn_replay.proofs.Losing.{lost_are_told}
+use Rattle.txn_replay.proofs.laws.captures_are_sent.Goals as goal
+
+pub returns-clause-sent : goal.returns-clause-sent
+returns-clause-sent c = captures_sent
+
+pub returns-clause-lost : goal.returns-clause-lost
+returns-clause-lost c = lost_are_told
