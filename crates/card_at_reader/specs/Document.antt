@@ -1,0 +1,43 @@
+-- The cards that a document holds, or the document's first fault.
+use Rattle.std.specs.Prelude.{ℕ, Bool, true, if◌then◌else◌, List, [], ◌∷◌, Option, Some, None, Result, Ok, Err}
+use Rattle.std.specs.Str.{IsUtf8, bytes_eq}
+use Rattle.toml.specs.Data.{Members}
+use Rattle.toml.specs.Parse.{parse_document}
+use Rattle.card_files.specs.Views.{ImageData}
+use Rattle.scenario.specs.Cards.{CardData, cards_at}
+use Rattle.scenario.specs.Issuer.{issuer_at}
+use Rattle.scenario.specs.Scenario.{top_keys}
+use Rattle.scenario.specs.Seen.{image_there, seen_cards}
+use Rattle.scenario.specs.declared.plan.NamedCard.{NamedCard}
+use Rattle.scenario_fields.specs.Fault.{◌>>=◌, Gives}
+use Rattle.scenario_fields.specs.Fields.{only}
+use Rattle.scenario_fields.specs.Place.{at_top}
+use Rattle.scenario_fields.specs.declared.fault.ScenarioFault.{ScenarioFault}
+use Rattle.scenario_fields.specs.declared.fault.ScenarioFault.TheVariants.{Toml}
+
+-- the issuer's keys and the cards of a scenario; its other tables are not read
+unfoldable pub cards_of : Members → Result (List CardData) ScenarioFault
+cards_of ms = do
+  issuer ← issuer_at at_top ms
+  cards ← cards_at issuer ms
+  _ ← only at_top top_keys ms
+  Ok cards
+
+abbrev pub of_document : Option Members → Result (List CardData) ScenarioFault
+of_document None = Err Toml
+of_document (Some ms) = cards_of ms
+
+-- what the bytes give
+pub record IsReading (bytes : List ℕ) (result : Result (List NamedCard) ScenarioFault) : Type 0 where
+  pub text : IsUtf8 bytes → Gives seen_cards result (of_document (parse_document bytes))
+  pub other : (IsUtf8 bytes → ⊥) → Gives seen_cards result (Err Toml)
+
+-- a card of this name, or any where none is said
+abbrev pub is_wanted : Option (List ℕ) → List ℕ → Bool
+is_wanted None name = true
+is_wanted (Some wanted) name = bytes_eq name wanted
+
+-- the applications of the first card that is wanted, where it has some
+abbrev pub image_in : Option (List ℕ) → List NamedCard → Option ImageData
+image_in wanted [] = None
+image_in wanted (card ∷ cards) = if is_wanted wanted card.name.items then image_there card.kind else image_in wanted cards

@@ -1,0 +1,67 @@
+-- What the program answers.
+use Rattle.std.specs.Prelude.{◌≡◌, ◌⊎◌, ℕ, List, [], ◌∷◌, ◌++◌, length, codes, Option, Some, None, Ok, Err}
+use Rattle.std.specs.Io.KnownBytes.{Appends, Consumes}
+use Rattle.card_files.specs.Views.{ImageData}
+use Rattle.reader_lines.specs.Coming.{OfFirstLine}
+use Rattle.reader_lines.specs.Given.{IsDocument, NoDocument, length_in}
+use Rattle.scenario.specs.declared.plan.NamedCard.{NamedCard}
+use Rattle.scenario_fields.specs.Line.{refused_line}
+use Rattle.scenario_fields.specs.declared.fault.ScenarioFault.{ScenarioFault}
+use Rattle.card_at_reader.specs.Desk.{new_card}
+use Rattle.card_at_reader.specs.Document.{image_in, IsReading}
+use Rattle.card_at_reader.specs.Talk.{IsAnswered, IsCut, IsFull}
+
+-- the card's name, where one is said
+abbrev pub name_in : List (List ℕ) → Option (List ℕ)
+name_in [] = None
+name_in (name ∷ words) = Some name
+
+-- a document was read, and a card in it of this name, which answered each line from the day that it was made
+pub record IsHeld (name : Option (List ℕ)) (first left before held : Option (List ℕ)) : Type 0 where
+  pub line : List ℕ
+  pub bytes : List ℕ
+  pub says : length_in line ≡ Some (length bytes)
+  pub cards : List NamedCard
+  pub reading : IsReading bytes (Ok cards)
+  pub image : ImageData
+  pub image_is : image_in name cards ≡ Some image
+  pub between : Option (List ℕ)
+  pub document : Consumes first between ((line ++ 10 ∷ []) ++ bytes)
+  pub talk : IsAnswered image new_card between left before held
+
+-- the line of a document's fault was written
+pub record IsFault (bytes : List ℕ) (before held : Option (List ℕ)) : Type 0 where
+  pub fault : ScenarioFault
+  pub reading : IsReading bytes (Err fault)
+  pub words : List ℕ
+  pub named : refused_line fault ≡ Some words
+  pub told : Appends before held words
+
+-- a document was read that is refused, and its fault's line was written
+pub record IsRefused (first left before held : Option (List ℕ)) : Type 0 where
+  pub line : List ℕ
+  pub bytes : List ℕ
+  pub says : length_in line ≡ Some (length bytes)
+  pub document : Consumes first left ((line ++ 10 ∷ []) ++ bytes)
+  pub fault : IsFault bytes before held
+
+-- a new card's answers to lines, and the line that answers what is no line of a talk
+pub record IsOverfull (image : ImageData) (first before held : Option (List ℕ)) : Type 0 where
+  pub between : Option (List ℕ)
+  pub full : IsFull image new_card first before between
+  pub told : Appends between held (codes "?" ++ 10 ∷ [])
+
+-- there is no such card with applications, which one line answers; or it answered lines before one that is too long
+pub data IsUnserved (name : Option (List ℕ)) (cards : List NamedCard) (first before held : Option (List ℕ)) : Type 0 where
+  Lacking : image_in name cards ≡ None → Appends before held (codes "?" ++ 10 ∷ []) → IsUnserved name cards first before held
+  Overfull : (image : ImageData) → image_in name cards ≡ Some image → IsOverfull image first before held → IsUnserved name cards first before held
+
+-- no document stands first, which one line answers; or one was read
+pub data IsOdd (name : Option (List ℕ)) (first before held : Option (List ℕ)) : Type 0 where
+  NoneFirst : OfFirstLine NoDocument first → Appends before held (codes "?" ++ 10 ∷ []) → IsOdd name first before held
+  Unserved : (bytes : List ℕ) (between : Option (List ℕ)) → IsDocument first between bytes → (cards : List NamedCard) → IsReading bytes (Ok cards)
+      → IsUnserved name cards between before held → IsOdd name first before held
+
+-- the talk was broken off: nothing was written, or a front of a card's answers to some lines
+abbrev pub IsBroken : Option (List ℕ) → Option (List ℕ) → Type 0
+IsBroken before held = (held ≡ before) ⊎ ((image : ImageData) × IsCut image new_card before held)

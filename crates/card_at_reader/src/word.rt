@@ -1,0 +1,135 @@
+//! What a line asks of a card in a reader.
+ghost use Rattle.std.specs.Prelude.{◌≡◌, ◌≤◌, IfOk, IfSome, IsTrue};
+ghost use Rattle.hex.specs.Hex.{decode_of};
+ghost use Rattle.emv_ports.specs.Cut.{is_place};
+ghost use Rattle.card_at_reader.specs.Desk.{IsAsked};
+ghost use Rattle.card_at_reader.specs.Words as spec;
+
+use arrayvec::ArrayVec;
+use ber_tlv::append;
+use emv_ports::{Tear, TearAt};
+use hex::FromHexError;
+use reader_lines::number_of;
+use report_lines::split_word;
+use std::alloc::{AllocError, Global};
+
+/// A command has at most so many bytes (ISO/IEC 7816-3 section 12.1.1).
+const MOST_COMMAND: usize = 261;
+
+/// What a line asks.
+#[derive(Drop)]
+pub enum Word {
+    /// The card is turned on, and where it was on, off before.
+    Power,
+    /// It is turned off.
+    Off,
+    /// A command.
+    Command(ArrayVec<u8, MOST_COMMAND>),
+    /// The power is cut so, once, from its next power-up on.
+    Pull(Tear),
+    /// Something else.
+    Other,
+}
+
+/// The number of a write, from 1.
+fn write_in(digits: &[u8]) -> Option<u8>
+    ensures exact { result ≡ spec.write_in digits.now }
+    ensures one { IfSome result (λ n. 1 ≤ n) }
+{
+    match number_of(255, digits) {
+        Some(number) => {
+            if number == 0 {
+                None
+            } else {
+                Some(number as u8)
+            }
+        }
+        None => None,
+    }
+}
+
+/// The place in a commit.
+fn place_in(text: &[u8]) -> Option<TearAt>
+    ensures exact { result ≡ spec.place_in text.now }
+    ensures place { IfSome result (λ at. IsTrue (is_place at)) }
+{
+    if text == b"release".as_slice() {
+        return Some(TearAt::Release);
+    }
+    if let Some(digits) = text.strip_prefix(b"before ") {
+        return Some(TearAt::Before(write_in(digits)?));
+    }
+    if let Some(digits) = text.strip_prefix(b"within ") {
+        return Some(TearAt::Within(write_in(digits)?));
+    }
+    None
+}
+
+/// The tear that `C before N`, `C within N` or `C release` plans, C from 0 and N from 1 to 255.
+#[tactic(auto, unfolding(crate::specs::Words::tear_in))]
+fn tear_in(text: &[u8]) -> Option<Tear>
+    ensures exact { result ≡ spec.tear_in text.now }
+    ensures place { IfSome result (λ tear. IsTrue (is_place tear.at)) }
+{
+    let (commit, place) = split_word(text);
+    let commit = number_of(255, commit)?;
+    let at = place_in(place)?;
+    Some(Tear {
+        commit: commit as u8,
+        at,
+    })
+}
+
+/// A command of 1 to 261 bytes.
+fn command_of(bytes: &[u8]) -> Word
+    ensures exact { result ≡ spec.command_of bytes.now }
+    ensures asked { IsAsked result }
+{
+    if bytes.is_empty() || bytes.len() > MOST_COMMAND {
+        return Word::Other;
+    }
+    let mut command = ArrayVec::new();
+    append(&mut command, bytes);
+    Word::Command(command)
+}
+
+/// The command that a text spells in hexadecimal.
+fn command_in(alloc: Global, text: &[u8]) -> Result<Word, AllocError>
+    ensures exact { IfOk result (λ word. word ≡ spec.command_in (decode_of text.now)) }
+    ensures asked { IfOk result IsAsked }
+{
+    match hex::decode(alloc, text) {
+        Ok(bytes) => Ok(command_of(&bytes)),
+        Err(FromHexError::OutOfMemory) => Err(AllocError),
+        Err(_) => Ok(Word::Other),
+    }
+}
+
+/// What a `pull` asks.
+fn pull_in(text: &[u8]) -> Word
+    ensures exact { result ≡ spec.pull_of (spec.tear_in text.now) }
+    ensures asked { IsAsked result }
+{
+    match tear_in(text) {
+        Some(tear) => Word::Pull(tear),
+        None => Word::Other,
+    }
+}
+
+/// What a line asks.
+#[tactic(auto, unfolding(crate::specs::Words::word_of))]
+pub fn word_of(alloc: Global, line: &[u8]) -> Result<Word, AllocError>
+    ensures exact { IfOk result (λ word. word ≡ spec.word_of line.now) }
+    ensures asked { IfOk result IsAsked }
+{
+    if line == b"power".as_slice() {
+        return Ok(Word::Power);
+    }
+    if line == b"off".as_slice() {
+        return Ok(Word::Off);
+    }
+    if let Some(text) = line.strip_prefix(b"pull ") {
+        return Ok(pull_in(text));
+    }
+    command_in(alloc, line)
+}

@@ -1,0 +1,44 @@
+-- The document that stands before a talk.
+use Rattle.std.specs.Prelude.{◌≡◌, ℕ, ◌<◌, List, [], ◌∷◌, ◌++◌, length, take, drop, codes, Option, Some, None, if◌then◌else◌}
+use Rattle.std.specs.Str.{bytes_eq}
+use Rattle.std.specs.Io.KnownBytes.{Consumes}
+use Rattle.reader_lines.specs.Coming.{OfFirstLine}
+use Rattle.reader_lines.specs.Numbers.{number_of}
+use Rattle.reader_lines.specs.declared.document.Given.{Given}
+use Rattle.reader_lines.specs.declared.document.Given.TheVariants.{Document, Other}
+
+-- what stands behind a mark
+abbrev pub behind : List ℕ → List ℕ → Option (List ℕ)
+behind mark text = (if bytes_eq (take (length mark) text) mark then Some (drop (length mark) text) else None)
+
+abbrev pub number_behind : Option (List ℕ) → Option ℕ
+number_behind None = None
+number_behind (Some digits) = number_of 4194304 digits
+
+-- the length that a line says
+unfoldable pub length_in : List ℕ → Option ℕ
+length_in line = number_behind (behind (codes "document ") line)
+
+-- a line that says the document's length, and the document
+pub record IsDocument (old new : Option (List ℕ)) (bytes : List ℕ) : Type 0 where
+  pub line : List ℕ
+  pub says : length_in line ≡ Some (length bytes)
+  pub taken : Consumes old new ((line ++ 10 ∷ []) ++ bytes)
+
+-- fewer bytes are left, where these are known
+abbrev pub HasFewer : ℕ → Option (List ℕ) → Type 0
+HasFewer count None = Unit {0}
+HasFewer count (Some text) = length text < count
+
+-- a line that says no document's length, or has no such document behind it
+abbrev pub NoDocument : List ℕ → List ℕ → Type 0
+NoDocument line rest = (bytes more : List ℕ) → rest ≡ bytes ++ more → length_in line ≡ Some (length bytes) → ⊥
+
+-- a document of this length
+abbrev pub IsCounted : ℕ → Option (List ℕ) → Option (List ℕ) → Given → Type 0
+IsCounted count old new (Document bytes) = Consumes old new bytes.items × (length bytes.items ≡ count)
+IsCounted count old new Other = HasFewer count old
+
+abbrev pub IsGiven : Option (List ℕ) → Option (List ℕ) → Given → Type 0
+IsGiven old new (Document bytes) = IsDocument old new bytes.items
+IsGiven old new Other = OfFirstLine NoDocument old

@@ -1,0 +1,33 @@
+-- The terminal that a document holds, or the document's first fault.
+use Rattle.std.specs.Prelude.{ℕ, List, [], ◌∷◌, codes, Option, Some, None, Result, Ok, Err}
+use Rattle.std.specs.Str.{IsUtf8}
+use Rattle.toml.specs.Data.{Members}
+use Rattle.toml.specs.Parse.{parse_document}
+use Rattle.scenario_fields.specs.Fault.{◌>>=◌, Gives}
+use Rattle.scenario_fields.specs.Fields.{bytes_at, table_at, only}
+use Rattle.scenario_fields.specs.Place.{at_top}
+use Rattle.scenario_fields.specs.declared.fault.ScenarioFault.{ScenarioFault}
+use Rattle.scenario_fields.specs.declared.fault.ScenarioFault.TheVariants.{Toml}
+use Rattle.scenario_lanes.specs.Lanes.{traced_lane}
+use Rattle.scenario_lanes.specs.Plan.{LaneData}
+
+unfoldable pub lane_keys : List (List ℕ)
+lane_keys = codes "pin_key" ∷ codes "lane" ∷ []
+
+-- the document of a trace without its entries
+unfoldable pub lane_of : Members → Result LaneData ScenarioFault
+lane_of ms = do
+  pin_key ← bytes_at at_top (codes "pin_key") 16 16 ms
+  table ← table_at at_top (codes "lane") ms
+  lane ← traced_lane pin_key table
+  _ ← only at_top lane_keys ms
+  Ok lane
+
+abbrev pub of_document : Option Members → Result LaneData ScenarioFault
+of_document None = Err Toml
+of_document (Some ms) = lane_of ms
+
+-- what the bytes give
+pub record IsReading (bytes : List ℕ) (result : Result LaneData ScenarioFault) : Type 0 where
+  pub text : IsUtf8 bytes → Gives (λ l. l) result (of_document (parse_document bytes))
+  pub other : (IsUtf8 bytes → ⊥) → Gives (λ l. l) result (Err Toml)

@@ -1,0 +1,240 @@
+use crate::top::run;
+use emv_ports::{MemorySink, MemorySource};
+use std::alloc::{AllocError, Global};
+use std::process::Abort;
+use std::test::Fail;
+
+/// The key of a document.
+const KEY: &str = "pin_key = \"6789ABCDEF0123459876543210FEDCBA\"\n";
+
+/// A terminal that can ask the issuer, with one purchase.
+const LANE: &str = r#"kind = 22
+country = "840"
+caps = "E0B8C8"
+id = "TERM0001"
+[[lane.aid]]
+name = "A0000000031010"
+version = "0096"
+denial = "0010000000"
+online = "7068BC9800"
+default = "7068BCF800"
+floor = 10000
+threshold = 5000
+target = 10
+max_target = 50
+[[lane.purchase]]
+card = "c1"
+amount = 2500
+currency = "840"
+date = "240615"
+time = "120000"
+number = 16909060
+word = 49
+pins = ["1234"]
+"#;
+
+/// A terminal's document, with more keys at its top, in its lane and in its purchase.
+fn terminal(alloc: Global, more: (&str, &str, &str)) -> Result<String, AllocError> {
+    let mut text = String::from_str(alloc, KEY)?;
+    text.push_str(more.0)?;
+    text.push_str("[lane]\n")?;
+    text.push_str(more.1)?;
+    text.push_str(LANE)?;
+    text.push_str(more.2)?;
+    Ok(text)
+}
+
+/// The card's answers in a purchase that is approved offline.
+const REPLIES: &str = "\
+< 6f168407a0000000031010a50b50064352454449548701019000
+< 6f168407a0000000031010a50b50064352454449548701019000
+< 80061c00080103009000
+< 702e5a0847617390010100105f3401015f24032612315f25032401015f280208409f420208409f0702ff009f080200969000
+< 70308c159f02069f03069f1a0295055f2a029a039c019f37048d178a029f02069f03069f1a0295055f2a029a039c019f37049000
+< 70308e0e000000000000000041035e031f009f0d057068bcf8009f0e0500100000009f0f057068bc98009f1401059f2301099000
+< 9000
+< 9f3602000b9000
+< 9f130200099000
+< 801140000b6114ff966d2fd2320140000103019000
+";
+
+/// What the terminal asks, and how it ends.
+const ASKED: &str = "\
+> 00a4040007a000000003101000
+> 00a4040007a000000003101000
+> 80a8000002830000
+> 00b2010c00
+> 00b2020c00
+> 00b2030c00
+> 0020008008241234ffffffffff
+> 80ca9f3600
+> 80ca9f1300
+> 80ae40001d000000002500000000000000084080000000000840240615000102030400
+end approved offline tvr=8000000000 tsi=6800 cvm=410302 arc=Y1 atc=000b ac=6114ff966d2fd232 scripts=-
+";
+
+/// A document behind its line, and what comes behind it.
+fn talk(alloc: Global, document: &str, replies: &str) -> Result<String, AllocError> {
+    let mut text = String::new(alloc);
+    text.push_str("document ")?;
+    text.push_str(document.len().to_string(alloc)?.as_str())?;
+    text.push_str("\n")?;
+    text.push_str(document)?;
+    text.push_str(replies)?;
+    Ok(text)
+}
+
+/// The exit status, and what the sink holds. The calls of source and sink with these numbers fail.
+fn run_of(alloc: Global, text: &str, fails: (&[u32], &[u32])) -> Result<(u8, Vec<u8>), Fail> {
+    let bytes = text.as_bytes().to_vec(alloc)?;
+    let mut source = MemorySource::slow(bytes, fails.0.to_vec(alloc)?, 5);
+    let mut sink = MemorySink::new(alloc, 10_000, fails.1.to_vec(alloc)?)?;
+    let status = run(alloc, &mut source, &mut sink);
+    Ok((status, sink.bytes().to_vec(alloc)?))
+}
+
+/// Tries what becomes of these replies.
+fn hold(
+    rt: &impl Abort,
+    alloc: Global,
+    replies: &str,
+    status: u8,
+    wanted: &str,
+) -> Result<(), Fail> {
+    let document = terminal(alloc, ("", "", ""))?;
+    let text = talk(alloc, document.as_str(), replies)?;
+    let (found, told) = run_of(alloc, text.as_str(), (&[], &[]))?;
+    assert_eq!(rt; found, status, "{replies}");
+    assert!(rt; told.as_slice() == wanted.as_bytes(), "{replies}");
+    Ok(())
+}
+
+#[test]
+fn a_dialogue_is_the_kernels(rt: HostRuntime) -> Result<(), Fail> {
+    hold(&rt, rt.alloc(), REPLIES, 0, ASKED)
+}
+
+/// What is asked first, and how it ends where the card is gone.
+const FIRST: &str = "> 00a4040007a000000003101000\n";
+
+const GONE: &str = "\
+> 00a4040007a000000003101000
+end cut power tvr=0000000000 tsi=0000 cvm=000000 arc=-- atc=---- ac=---------------- scripts=-
+";
+
+const OTHER: &str = "> 00a4040007a000000003101000\n?\n";
+
+#[test]
+fn a_card_that_is_gone_ends_it(rt: HostRuntime) -> Result<(), Fail> {
+    hold(&rt, rt.alloc(), "< gone\n< 9000\n", 0, GONE)
+}
+
+#[test]
+fn other_lines_break_it_off(rt: HostRuntime) -> Result<(), Fail> {
+    for other in [
+        "",
+        "\n",
+        "9000\n",
+        "< 9000",
+        "< 900\n",
+        "< 9F\n",
+        "<9000\n",
+        " < 9000\n",
+        "< 9000 \n",
+        "< 9000\r\n",
+        "host < none\n",
+        "host < 9000\n",
+        "> 00a40400\n",
+        "end approved offline\n",
+        "< torn\n",
+        "document 3\n",
+        "\0\n",
+        "< \u{e9}\n",
+    ] {
+        hold(&rt, rt.alloc(), other, 2, OTHER)?;
+    }
+    Ok(())
+}
+
+#[test]
+fn too_long_a_line_breaks_it_off(rt: HostRuntime) -> Result<(), Fail> {
+    let mut long = String::from_str(rt.alloc(), "< ")?;
+    for _ in 0..259 {
+        long.push_str("90")?;
+    }
+    long.push_str("\n")?;
+    hold(&rt, rt.alloc(), long.as_str(), 2, OTHER)?;
+    for _ in 0..9000 {
+        long.push_str("0")?;
+    }
+    hold(&rt, rt.alloc(), long.as_str(), 2, OTHER)
+}
+
+/// Documents that are refused, and what is answered.
+const REFUSED: [(&str, u8, &str); 7] = [
+    ("document 3\npin", 1, "refused 1 Toml\n"),
+    ("document 0\n", 1, "refused 2 MissingKey pin_key\n"),
+    ("document 4\npin", 2, "?\n"),
+    ("document\n", 2, "?\n"),
+    ("< 9000\n", 2, "?\n"),
+    ("", 2, "?\n"),
+    ("document 4194305\n", 2, "?\n"),
+];
+
+#[test]
+fn a_document_is_refused(rt: HostRuntime) -> Result<(), Fail> {
+    for (text, status, wanted) in REFUSED {
+        let (found, told) = run_of(rt.alloc(), text, (&[], &[]))?;
+        assert_eq!(rt; found, status, "{text}");
+        assert!(rt; told.as_slice() == wanted.as_bytes(), "{text}");
+    }
+    Ok(())
+}
+
+/// A tear of a purchase.
+const TORN: &str = "tear = { commit = 1, at = \"release\" }\n";
+
+const TERMINAL_TORN: &str = "terminal_tear = { commit = 1, at = \"release\" }\n";
+
+/// Keys that no terminal at a reader has, at the top, in the lane and in the purchase, and what is answered.
+const OTHER_KEYS: [((&str, &str, &str), &str); 5] = [
+    (("trace = []\n", "", ""), "refused 5 UnknownKey trace\n"),
+    (
+        ("", "durable = true\n", ""),
+        "refused 3 BadValue lane.durable\n",
+    ),
+    (
+        ("", "dialect = \"iso\"\n", ""),
+        "refused 3 BadValue lane.dialect\n",
+    ),
+    (("", "", TORN), "refused 3 BadValue lane.purchase[0].tear\n"),
+    (
+        ("", "", TERMINAL_TORN),
+        "refused 3 BadValue lane.purchase[0].terminal_tear\n",
+    ),
+];
+
+#[test]
+fn other_keys_are_refused(rt: HostRuntime) -> Result<(), Fail> {
+    for (more, wanted) in OTHER_KEYS {
+        let document = terminal(rt.alloc(), more)?;
+        let text = talk(rt.alloc(), document.as_str(), "")?;
+        let (found, told) = run_of(rt.alloc(), text.as_str(), (&[], &[]))?;
+        assert_eq!(rt; found, 1, "{wanted}");
+        assert!(rt; told.as_slice() == wanted.as_bytes(), "{wanted}");
+    }
+    Ok(())
+}
+
+#[test]
+fn faults_have_their_status(rt: HostRuntime) -> Result<(), Fail> {
+    let document = terminal(rt.alloc(), ("", "", ""))?;
+    let text = talk(rt.alloc(), document.as_str(), "< gone\n")?;
+    let (status, told) = run_of(rt.alloc(), text.as_str(), (&[1], &[]))?;
+    assert_eq!(rt; status, 3);
+    assert!(rt; told.is_empty());
+    let (status, told) = run_of(rt.alloc(), text.as_str(), (&[], &[2]))?;
+    assert_eq!(rt; status, 4);
+    assert_eq!(rt; told.as_slice(), FIRST.as_bytes());
+    Ok(())
+}
