@@ -13,7 +13,7 @@ use apdu_core::Answer;
 use card_app::{Card, Chip};
 use card_files::Image;
 use emv_ports::{Gone, Pages, Tear};
-pub use law::phases_are_told;
+pub use law::{phases_are_told, tries_come_first};
 use torn_store::Lost;
 
 /// Turns on pages of a card of this image, under a plan to cut the power once, or none. Behind a loss
