@@ -1,5 +1,5 @@
 -- A PIN block to compare (EMV 4.3 Book 3 section 6.5.12): the try is decided before the comparison.
-use Rattle.std.specs.Prelude.{◌≡◌, ℕ, ◌+◌, ◌-◌, ◌<◌, not, Bool, if◌then◌else◌, [], ◌∷◌, length, replicate, slice_get}
+use Rattle.std.specs.Prelude.{◌≡◌, ℕ, ◌+◌, ◌-◌, ◌<◌, not, Bool, true, if◌then◌else◌, [], ◌∷◌, length, replicate, slice_get}
 use Rattle.std.specs.Option.{ForSome}
 use Rattle.std.specs.Str.{bytes_eq}
 use Rattle.card_state.specs.declared.decision.Decision.TheVariants.{PinTry, PinRight}
@@ -27,9 +27,10 @@ is_equal k = bytes_eq k.block k.pin
 abbrev pub comparison_reply : Comparison → ReplyData
 comparison_reply k = compared k.app k.limit k.tries (is_equal k)
 
--- an application that is there, and that has this PIN and so many tries left
+-- an application that is there and has a PIN, this one, and so many tries left
 pub record MayCompare (state : CardState) (k : Comparison) : Type 0 where
   pub app : k.app < length state.apps.items
+  pub there : ForSome (slice_get state.apps.items k.app) (λ s. has_pin s ≡ true)
   pub pin : ForSome (slice_get state.apps.items k.app) (λ s. s.pin ≡ k.pin)
   pub tries : ForSome (slice_get state.apps.items k.app) (λ s. s.tries ≡ k.tries)
   pub allowed : MayTake state k.app PinTry

@@ -60,6 +60,18 @@ impl Env {
         self.places.clear();
     }
 
+    /// Takes out all objects, and puts in copies of another map's.
+    pub fn copy_from(&mut self, other: &Env)
+        ensures { self.new ≡ other.now }
+    {
+        self.bytes.clear();
+        self.places.clear();
+        append(&mut self.bytes, &other.bytes);
+        if self.places.try_extend_from_slice(&other.places).is_err() {
+            unreachable!();
+        }
+    }
+
     /// The value of a tag.
     pub fn get(&self, tag: Tag) -> Option<&[u8]>
         ensures { option_map (λ value. value.now) result ≡ value_of tag.0 self.now }

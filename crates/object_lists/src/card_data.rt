@@ -1,4 +1,6 @@
-ghost use Rattle.std.specs.Prelude.{◌≡◌, option_map};
+ghost use Rattle.std.specs.Prelude.{◌≡◌, Some, option_and_then, option_map};
+ghost use Rattle.std.specs.Result.{result_ok};
+ghost use Rattle.emv_dict.specs.Pan.{pan_of};
 ghost use Rattle.env_map.specs.Entries.{value_of};
 ghost use Rattle.object_lists.specs.CardRead.{IsRead, card_of};
 ghost use Rattle.object_lists.specs.Forms.{HasForms};
@@ -36,17 +38,19 @@ impl CardData {
         ensures card { result ≡ card_of env }
         ensures read { IsRead result }
     {
-        let Some([high, low]) = env.get(Tag(0x82)) else {
-            unreachable!();
-        };
-        let aip = [*high, *low];
-        let Some(field) = env.get(Tag(0x5a)) else {
-            unreachable!();
-        };
-        let Ok(pan) = pan_digits(field) else {
-            unreachable!();
-        };
+        let (aip, pan) = named_data(&env);
         CardData { env, aip, pan }
+    }
+
+    /// Makes of these data what the objects make, in their place.
+    pub fn refill(&mut self, objects: &Env)
+        requires { HasForms objects.now }
+        ensures { self.new ≡ card_of objects.now }
+    {
+        let (aip, pan) = named_data(objects);
+        self.aip = aip;
+        self.pan = pan;
+        self.env.copy_from(objects);
     }
 
     /// The objects.
@@ -64,4 +68,23 @@ impl CardData {
     {
         self.env.get(tag)
     }
+}
+
+/// The profile and the digits of the account number that are in these objects.
+fn named_data(objects: &Env) -> ([u8; 2], Digits)
+    requires { HasForms objects.now }
+    ensures profile { value_of 0x82 objects.now ≡ Some result.0 }
+    ensures digits { option_and_then (λ field. result_ok (pan_of field)) (value_of 0x5A objects.now) ≡ Some result.1 }
+{
+    let Some([high, low]) = objects.get(Tag(0x82)) else {
+        unreachable!();
+    };
+    let aip = [*high, *low];
+    let Some(field) = objects.get(Tag(0x5a)) else {
+        unreachable!();
+    };
+    let Ok(pan) = pan_digits(field) else {
+        unreachable!();
+    };
+    (aip, pan)
 }

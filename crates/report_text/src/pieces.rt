@@ -43,32 +43,20 @@ pub fn amount(out: &mut Text, amount: i128)
     append(out, buffer.format(amount).as_bytes());
 }
 
-fn hex_within<const ROOM: usize>(out: &mut Text, bytes: &[u8])
-    requires small { ROOM ≤ 4096 }
-    requires few { 2 * length bytes.now ≤ ROOM }
-    requires room { array_vec_len out.old + 2 * length bytes.now ≤ 8192 }
-    ensures text { out.new.items ≡ out.old.items ++ encode_lower bytes.now }
-    ensures len { array_vec_len out.new ≡ array_vec_len out.old + 2 * length bytes.now }
-{
-    let mut room = [0u8; ROOM];
-    let count = 2 * bytes.len();
-    if hex::encode_to_slice(bytes, &mut room[..count]).is_err() {
-        unreachable!();
-    }
-    append(out, &room[..count]);
-}
+/// The characters of the sixteen digits.
+const DIGITS: &[u8; 16] = b"0123456789abcdef";
 
-/// At most 2,048 bytes in hexadecimal. Most have little, and little room is zeroed for them.
+/// At most 2,048 bytes in hexadecimal: each byte's two digits go straight to their place.
 pub(crate) fn hex(out: &mut Text, bytes: &[u8])
     requires few { length bytes.now ≤ 2048 }
     requires room { array_vec_len out.old + 2 * length bytes.now ≤ 8192 }
     ensures text { out.new.items ≡ out.old.items ++ encode_lower bytes.now }
     ensures len { array_vec_len out.new ≡ array_vec_len out.old + 2 * length bytes.now }
 {
-    if bytes.len() <= 256 {
-        hex_within::<512>(out, bytes);
-    } else {
-        hex_within::<4096>(out, bytes);
+    for byte in bytes {
+        let high = DIGITS[usize::from(byte / 16)];
+        let low = DIGITS[usize::from(byte % 16)];
+        append(out, &[high, low]);
     }
 }
 

@@ -6,7 +6,6 @@ ghost use Rattle.object_lists.specs.Forms.{HasForms};
 use env_map::Env;
 use object_lists::CardData;
 use std::marker::Model;
-use std::mem;
 
 /// The card's data, where reading is finished. Where they are let go their place stays as it is, since it has
 /// 20 KB to clear.
@@ -48,11 +47,18 @@ impl HeldCard {
     }
 
     /// Keeps what these objects make.
-    pub fn keep(&mut self, objects: &mut Env)
-        requires { HasForms objects.old }
-        ensures { self.new ≡ Some (card_of objects.old) }
+    pub fn keep(&mut self, objects: &Env)
+        requires { HasForms objects.now }
+        ensures { self.new ≡ Some (card_of objects.now) }
     {
-        self.card = Some(CardData::new(mem::replace(objects, Env::new())));
+        match &mut self.card {
+            Some(card) => card.refill(objects),
+            None => {
+                let mut first = Env::new();
+                first.copy_from(objects);
+                self.card = Some(CardData::new(first));
+            }
+        }
         self.is_held = true;
     }
 

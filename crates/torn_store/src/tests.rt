@@ -8,7 +8,7 @@ mod by_hand;
 
 use super::*;
 use arrayvec::ArrayVec;
-use emv_ports::{MemoryPages, Pages, Tear, TearAt};
+use emv_ports::{Gone, MemoryPages, Pages, Tear, TearAt};
 use std::process::Abort;
 
 /// Commits and releases.
@@ -320,4 +320,30 @@ fn a_torn_conversion_is_made_in_the_end(rt: HostRuntime) {
             check_conversion(&rt, first, second);
         }
     }
+}
+
+/// Each second byte is 01, from the first on.
+fn every_second() -> [u8; 64] {
+    let mut bytes = [0; 64];
+    for i in 0..32 {
+        bytes[2 * i] = 1;
+    }
+    bytes
+}
+
+/// A cell that a write tore is settled in turn, half of a page at each power-up.
+#[test]
+fn a_format_turns_the_pages_on_once(rt: HostRuntime) {
+    let mut pages = MemoryPages::blank();
+    pages.plan(Some(Tear {
+        commit: 0,
+        at: TearAt::Within(1),
+    }));
+    pages.power_up();
+    let Err(Gone) = pages.write(40, &[1; 64]) else {
+        panic!(rt; "a tear is planned");
+    };
+    let mut place = Place::new(pages);
+    place.format(&[1, 2]);
+    assert_eq!(rt; place.into_pages().read(40), every_second());
 }
