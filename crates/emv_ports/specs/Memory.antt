@@ -20,6 +20,8 @@ pub record Memory : Type 0 where
   pub writes : ℕ
   -- how often the power was lost, up to 2 ^ 64 - 1
   pub losses : ℕ
+  -- how often it was turned on, up to 2 ^ 64 - 1
+  pub power_ups : ℕ
 
 -- the number behind this one, up to 255
 abbrev pub next : ℕ → ℕ
@@ -31,7 +33,7 @@ planned m tear = record m { plan = tear }
 
 -- turned on: what unsure cells give is chosen anew
 pub record PowersUp (old new : Memory) : Type 0 where
-  pub turned_on : new ≡ record old { shown = new.shown; on = true; commit = 0; writes = 0 }
+  pub turned_on : new ≡ record old { shown = new.shown; on = true; commit = 0; writes = 0; power_ups = one_more old.power_ups }
   pub pages : length new.cells ≡ 64
   pub page_cells : (page : ℕ) → page < 64 → length (slice_index_or new.cells page []) ≡ 64
   pub reading : Reading new.cells new.shown
@@ -103,4 +105,5 @@ blank_memory = record {
   commit = 0;
   writes = 0;
   losses = 0;
+  power_ups = 0;
 }

@@ -14,12 +14,13 @@ memory_of pages = record {
   commit = pages.commit;
   writes = pages.writes_of_commit;
   losses = pages.losses;
+  power_ups = pages.power_ups;
 }
 
 abbrev pub workings_of : Inside → Workings
 workings_of pages = record {
   cells = pages.cells;
-  power_ups = pages.power_ups;
+  turn = pages.turn;
   marks = pages.marks;
   writes = pages.writes;
 }

@@ -10,7 +10,7 @@ pub record Workings : Type 0 where
   -- each page's cells, with what a torn write left in them
   pub cells : List (List Cell)
   -- how often the pages were turned on since they were made, modulo 2
-  pub power_ups : ℕ
+  pub turn : ℕ
   -- how often `mark` was called since they were made, up to 2 ^ 32 - 1
   pub marks : ℕ
   -- how often `write` was called since they were made, up to 2 ^ 32 - 1
@@ -27,8 +27,8 @@ next_call calls = min (calls + 1) (2 ^ 32 - 1)
 
 -- behind one more power-up: each page's cells take their turn
 abbrev pub turned_on : Workings → Workings
-turned_on w = let power_up = (w.power_ups + 1) % 2 in
-    record w { cells = map (settled_from power_up 0) w.cells; power_ups = power_up }
+turned_on w = let turn = (w.turn + 1) % 2 in
+    record w { cells = map (settled_from turn 0) w.cells; turn = turn }
 
 -- behind one more mark
 abbrev pub marked_once : Workings → Workings
@@ -52,4 +52,4 @@ torn_once w page bytes = torn_workings (called_once w) page bytes
 
 -- no call was made yet
 abbrev pub blank_workings : Workings
-blank_workings = record { cells = replicate 64 (replicate 64 (Sure 0)); power_ups = 0; marks = 0; writes = 0 }
+blank_workings = record { cells = replicate 64 (replicate 64 (Sure 0)); turn = 0; marks = 0; writes = 0 }

@@ -244,7 +244,9 @@ pub struct MemoryPages {
     commit: u8,
     writes_of_commit: u8,
     losses: u64,
-    power_ups: u8,
+    power_ups: u64,
+    /// The number of power-ups modulo 2: which unsure cells give their torn write's byte.
+    turn: u8,
     marks: u32,
     writes: u32,
 }
@@ -262,7 +264,7 @@ impl Model for MemoryPages {
 
     ghost view = { λ pages. record { memory = memory_of pages; workings = workings_of pages } };
 
-    ghost invariant = { λ pages. (pages.power_ups < 2) × IsTrue (is_plan pages.plan)
+    ghost invariant = { λ pages. (pages.turn < 2) × IsTrue (is_plan pages.plan)
         × (pages.torn ≡ false → IsTrue (list_all is_sure_page pages.cells)) };
 }
 
@@ -286,6 +288,7 @@ impl MemoryPages {
             writes_of_commit: 0,
             losses: 0,
             power_ups: 0,
+            turn: 0,
             marks: 0,
             writes: 0,
         }
@@ -363,8 +366,9 @@ impl Pages for MemoryPages {
         ensures memory { PowersUp self.old.memory self.new.memory }
         ensures workings { self.new.workings ≡ turned_on self.old.workings }
     {
-        self.power_ups = (self.power_ups + 1) % 2;
-        let torn = settle_if(self.torn, &mut self.cells, self.power_ups);
+        self.power_ups = self.power_ups.saturating_add(1);
+        self.turn = (self.turn + 1) % 2;
+        let torn = settle_if(self.torn, &mut self.cells, self.turn);
         self.torn = torn;
         self.on = true;
         self.commit = 0;
