@@ -22,7 +22,7 @@ use card_cryptogram::{
     has_issuer_auth, is_of_list, kind_asked, phase_behind, sale_of, write_body,
 };
 use card_files::{AppImage, Image};
-use card_policy::{first, second};
+use card_policy::{OnlineResult, first, second};
 use card_state::{AppState, Auth, CardState, Decision, How, changed};
 use emv_dict::Kind;
 
@@ -163,9 +163,11 @@ fn second_of(
         at.card_blocked,
         sale.which,
         sale.amount,
-        auth_of(sent),
-        code,
-        has_issuer_auth(app.aip),
+        OnlineResult {
+            auth: auth_of(sent),
+            code,
+            issuer_auth: has_issuer_auth(app.aip),
+        },
     )
 }
 

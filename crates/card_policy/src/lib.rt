@@ -20,6 +20,17 @@ use emv_dict::Kind;
 /// 4.3 Book 4 Annex A6).
 pub const UNABLE_TO_GO_ONLINE: [u8; 2] = *b"Y3";
 
+/// What came of the way to the issuer before the second GENERATE AC.
+#[derive(Clone, Copy)]
+pub struct OnlineResult {
+    /// How the issuer was authenticated in this transaction.
+    pub auth: Auth,
+    /// The authorisation response code.
+    pub code: [u8; 2],
+    /// Whether the application interchange profile has issuer authentication.
+    pub issuer_auth: bool,
+}
+
 /// Whether a transaction may start: neither the card nor the application is blocked, and a transaction
 /// counter is left.
 pub fn may_start(state: &AppState, card_blocked: bool) -> bool
@@ -110,9 +121,8 @@ fn is_within(sum: u64, amount: u64, limit: u64) -> bool
 }
 
 /// The kind of the second cryptogram where `asked` is asked for, and on what it rests. A card that is
-/// blocked, isn't asked for TC or is told by its issuer to decline declines. `auth` tells how the issuer was
-/// authenticated in this transaction, `code` is the authorisation response code, and `issuer_auth` tells
-/// whether the application interchange profile has issuer authentication; the rest is as for `first`.
+/// blocked, isn't asked for TC or is told by its issuer to decline declines. `online` tells what came of the way
+/// to the issuer; the rest is as for `first`.
 #[tactic(auto, unfolding(crate::specs::Policy::second_kind))]
 pub fn second(
     asked: Kind,
@@ -120,35 +130,33 @@ pub fn second(
     card_blocked: bool,
     which: Which,
     amount: u64,
-    auth: Auth,
-    code: [u8; 2],
-    issuer_auth: bool,
+    online: OnlineResult,
 ) -> (Kind, How)
     ensures exact { result
-        ≡ second_kind asked state.now card_blocked which amount auth code issuer_auth }
+        ≡ second_kind asked state.now card_blocked which amount online.auth online.code online.issuer_auth }
     ensures allowed { (sale : SaleOf) → sale.which ≡ which → sale.amount ≡ amount
         → MayDecide state.now (Second result.0 result.1 sale) }
     ensures blocked { IsTrue (card_blocked || state.now.blocked) → result.0 ≡ Aac }
-    ensures declined { spec.is_declined auth ≡ true → result.0 ≡ Aac }
-    ensures online { is_absent auth ≡ false → result.1 ≡ spec.online_how auth }
-    ensures alone { is_absent auth ≡ true → (result.1 ≢ ByIssuer) × (result.1 ≢ Held) }
+    ensures declined { spec.is_declined online.auth ≡ true → result.0 ≡ Aac }
+    ensures online { is_absent online.auth ≡ false → result.1 ≡ spec.online_how online.auth }
+    ensures alone { is_absent online.auth ≡ true → (result.1 ≢ ByIssuer) × (result.1 ≢ Held) }
     ensures approved { result.0 ≡ Tc → result.1 ≡ Offline → ApprovesAlone state.now which amount }
     ensures not_above { is_above result.0 asked ≡ false }
     ensures decides { result.0 ≢ Arqc }
 {
     if asked != Kind::Tc || (card_blocked || state.blocked) {
-        return declined(auth);
+        return declined(online.auth);
     }
-    if is_declined(auth) {
-        return declined(auth);
+    if is_declined(online.auth) {
+        return declined(online.auth);
     }
-    if !is_absent(auth) {
-        return (Kind::Tc, online_how(auth));
+    if !is_absent(online.auth) {
+        return (Kind::Tc, online_how(online.auth));
     }
-    if code == UNABLE_TO_GO_ONLINE {
+    if online.code == UNABLE_TO_GO_ONLINE {
         return (alone(state, which, amount, Kind::Aac), How::Offline);
     }
-    (unauthenticated(issuer_auth), How::Alone)
+    (unauthenticated(online.issuer_auth), How::Alone)
 }
 
 /// A second cryptogram that declines.

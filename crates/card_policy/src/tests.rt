@@ -328,9 +328,11 @@ fn second_cryptograms_by_the_policy(rt: HostRuntime) {
             blocked,
             Which::One,
             amount,
-            auth,
-            code,
-            issuer_auth,
+            OnlineResult {
+                auth,
+                code,
+                issuer_auth,
+            },
         );
         assert_eq!(rt; made, wanted);
     }
@@ -349,9 +351,11 @@ fn second_cryptograms_in_other_currencies(rt: HostRuntime) {
             false,
             which,
             amount,
-            Auth::Absent,
-            *b"Y3",
-            false,
+            OnlineResult {
+                auth: Auth::Absent,
+                code: *b"Y3",
+                issuer_auth: false,
+            },
         );
         assert_eq!(rt; made, (wanted, How::Offline));
     }
