@@ -1,6 +1,5 @@
 -- Where a kernel begins.
 use Rattle.std.proofs.Common.{◌≡◌, ◌≤◌, ◌+◌, ◌*◌, refl, ap, [], length, arith, Option, false, None}
-use Rattle.env_map.specs.Entries.{Entries}
 use Rattle.kernel.specs.BeginEnd.{HasBegun}
 use Rattle.kernel.specs.Dialogue.{dialogue}
 use Rattle.kernel.specs.Kernel.{opening_next}
@@ -15,15 +14,15 @@ use Rattle.terminal_state.specs.Table.{deal_of}
 use Rattle.terminal_state.specs.Terminal.{Deal}
 use Rattle.terminal_state.specs.declared.table.Table.{Table}
 
-pub has_begun : (deal : Deal) (t : Table) (objects : Entries) (held : Option ReadCard) (s : Opening) → held ≡ None → deal_of t ≡ deal → objects ≡ []
-    → OpeningStands t [] s [] (dialogue (deal_of t)) → opening_next s ≡ next.ToCard
+pub has_begun : (deal : Deal) (t : Table) (held : Option ReadCard) (s : Opening) → held ≡ None → deal_of t ≡ deal
+    → OpeningStands t s [] (dialogue (deal_of t)) → opening_next s ≡ next.ToCard
     → t.candidates ≡ [] → ((t : Table) → t.candidates ≡ [] → opening_rank t s ≤ 2 * 768 + (most_records + rank_behind t))
-    → HasBegun deal (record { table = t; objects = objects; card = held; stage = stage.Opening s; taken = 0; is_spent = false })
-has_begun deal t objects held s unread is none stands waits empty few =
+    → HasBegun deal (record { table = t; card = held; stage = stage.Opening s; taken = 0; is_spent = false })
+has_begun deal t held s unread is stands waits empty few =
     let pins : length t.purchase.now.pins ≡ length deal.purchase.pins = ap (λ (d : Deal). length d.purchase.pins) is in
     let rank = few t empty in
     record {
-      stands = record { count = refl; log = []; goes = rw none stands };
+      stands = record { count = refl; log = []; goes = stands };
       deal_is = is;
       waits = waits;
       fresh = refl;

@@ -7,7 +7,6 @@ use Rattle.std.specs.declared.option.Option.{Option}
 use Rattle.emv_dict.specs.declared.ending.Ending.{Ending}
 use Rattle.emv_dict.specs.declared.ending.Ending.TheVariants.{Approved, Declined, Terminated, CutOff}
 use Rattle.emv_dict.specs.declared.purchase.Logged.{Logged}
-use Rattle.env_map.specs.Entries.{Entries}
 use Rattle.kernel.proofs.Showing.{opening_deed, trading_deed, opening_shows, trading_shows}
 use Rattle.kernel.specs.Course.{Standing, stands}
 use Rattle.kernel.specs.Dialogue.{Trade, dialogue}
@@ -54,10 +53,10 @@ record EndsAt (k : KernelData) (ending : Ending) (standing : Standing Mark) : Ty
   read : latest card_of None marks ≡ k.card
   tied : k.table.moment ≡ moment marks
 
-stage_ends_at : (k : KernelData) → (s : Stage) → (log : List Logged) → (rest : List Reply → Standing Mark) → (ending : Ending) → StageFits k.table k.objects k.card s → StageGoes k.table k.objects k.card s log rest → stage_over s ≡ Some ending → EndsAt k ending (rest [])
+stage_ends_at : (k : KernelData) → (s : Stage) → (log : List Logged) → (rest : List Reply → Standing Mark) → (ending : Ending) → StageFits k.table k.card s → StageGoes k.table k.card s log rest → stage_over s ≡ Some ending → EndsAt k ending (rest [])
 stage_ends_at k (stage.Opening s) log rest ending fits goes over = record {
   marks = [];
-  is = opening_shows k.table k.objects s log rest goes ∙ ap (λ (deed : Deed). stands [] deed) (opening_ends k.table s ending over);
+  is = opening_shows k.table s log rest goes ∙ ap (λ (deed : Deed). stands [] deed) (opening_ends k.table s ending over);
   read = sym fits.1;
   tied = goes.tied;
 }
@@ -80,12 +79,12 @@ kernel_ends k replies ending fits is over =
     ends_with (deal_in k) (dialogue (deal_in k) replies) at.marks ending k.card k.table.moment (ap (λ (all : List Reply). dialogue (deal_in k) all) (sym (append-nil replies)) ∙ at.is) at.read at.tied
 
 -- a stage that is over takes nothing from further replies
-opening_stays : (t : Table) → (objects : Entries) → (s : Opening) → (log : List Logged) → (rest : List Reply → Standing Mark) → (ending : Ending) → OpeningStands t objects s log rest → opening_over s ≡ Some ending → (later : List Reply) → rest later ≡ rest []
-opening_stays t objects (opening.Directory s) log rest ending stands over later = cc
-opening_stays t objects (opening.Select s) log rest ending stands over later = cc
-opening_stays t objects (opening.Initiate s) log rest ending stands over later = cc
-opening_stays t objects (opening.Read s) log rest ending stands over later = cc
-opening_stays t objects (opening.Over at) log rest ending stands over later = stands.passed later ∙ sym (stands.passed [])
+opening_stays : (t : Table) → (s : Opening) → (log : List Logged) → (rest : List Reply → Standing Mark) → (ending : Ending) → OpeningStands t s log rest → opening_over s ≡ Some ending → (later : List Reply) → rest later ≡ rest []
+opening_stays t (opening.Directory s) log rest ending stands over later = cc
+opening_stays t (opening.Select s) log rest ending stands over later = cc
+opening_stays t (opening.Initiate s) log rest ending stands over later = cc
+opening_stays t (opening.Read s) log rest ending stands over later = cc
+opening_stays t (opening.Over at) log rest ending stands over later = stands.passed later ∙ sym (stands.passed [])
 
 trading_stays : (t : Table) → (trade : Trade) → (s : Trading) → (log : List Logged) → (rest : List Reply → Standing Mark) → (ending : Ending) → TradingStands t trade s log rest → trading_over s ≡ Some ending → (later : List Reply) → rest later ≡ rest []
 trading_stays t trade (trading.Verify v) log rest ending stands over later = cc
@@ -98,8 +97,8 @@ trading_stays t trade (trading.Second s) log rest ending stands over later = cc
 trading_stays t trade (trading.ScriptBehind s at) log rest ending stands over later = cc
 trading_stays t trade (trading.Over at) log rest ending stands over later = stands.passed later ∙ sym (stands.passed [])
 
-stage_stays : (k : KernelData) → (s : Stage) → (log : List Logged) → (rest : List Reply → Standing Mark) → (ending : Ending) → StageGoes k.table k.objects k.card s log rest → stage_over s ≡ Some ending → (later : List Reply) → rest later ≡ rest []
-stage_stays k (stage.Opening s) log rest ending goes over later = opening_stays k.table k.objects s log rest ending goes over later
+stage_stays : (k : KernelData) → (s : Stage) → (log : List Logged) → (rest : List Reply → Standing Mark) → (ending : Ending) → StageGoes k.table k.card s log rest → stage_over s ≡ Some ending → (later : List Reply) → rest later ≡ rest []
+stage_stays k (stage.Opening s) log rest ending goes over later = opening_stays k.table s log rest ending goes over later
 stage_stays k (stage.Trading at) log rest ending goes over later = trading_stays k.table (record { deal = deal_in k; row = at.row.now; card = goes.card }) at.trading log rest ending goes.stands over later
 
 pub kernel_stays : (k : KernelData) → (replies more : List Reply) → (ending : Ending) → KernelStands k replies → stage_over k.stage ≡ Some ending → dialogue (deal_in k) (replies ++ more) ≡ dialogue (deal_in k) replies

@@ -2,7 +2,7 @@ pub mod Beginning
 pub mod Courses
 pub mod Left
 pub mod Following
-pub mod Analysis
+pub mod Analysing
 pub mod Taking
 pub mod NextOf
 pub mod Showing

@@ -5,7 +5,6 @@ use Rattle.app_select.specs.Leading.{rest_with}
 use Rattle.cvm_list.specs.Waiting.{rest_of as verifying_rest}
 use Rattle.emv_dict.specs.declared.ending.Step.TheVariants as step
 use Rattle.emv_dict.specs.declared.purchase.Logged.{Logged}
-use Rattle.env_map.specs.Entries.{Entries}
 use Rattle.kernel.proofs.Courses.{wants}
 use Rattle.kernel.specs.Course.{Standing, stands, cut_off, host_step}
 use Rattle.kernel.specs.Dialogue.{Trade, dialogue, left_script}
@@ -50,16 +49,16 @@ abbrev pub stage_deed : Table → Stage → Deed
 stage_deed t (stage.Opening s) = opening_deed t s
 stage_deed t (stage.Trading at) = trading_deed t at.trading
 
-pub opening_shows : (t : Table) → (objects : Entries) → (s : Opening) → (log : List Logged) → (rest : List Reply → Standing Mark) → OpeningStands t objects s log rest → rest [] ≡ stands [] (opening_deed t s)
-opening_shows t objects (opening.Directory s) log rest is =
+pub opening_shows : (t : Table) → (s : Opening) → (log : List Logged) → (rest : List Reply → Standing Mark) → OpeningStands t s log rest → rest [] ≡ stands [] (opening_deed t s)
+opening_shows t (opening.Directory s) log rest is =
     is.passed [] ∙ wants (cut_off []) (cut_of s.begun) step.Select [] (directory_rest s.listing) _ log t.command.items is.shows
-opening_shows t objects (opening.Select s) log rest is =
+opening_shows t (opening.Select s) log rest is =
     is.passed [] ∙ wants (cut_off []) (cut_of s.begun) step.Select [] (rest_with s.search t.candidates) _ log t.command.items is.shows
-opening_shows t objects (opening.Initiate s) log rest is =
+opening_shows t (opening.Initiate s) log rest is =
     is.passed [] ∙ wants (cut_off []) step.Initiate step.Initiate [] (initiated s.initiating) _ log t.command.items is.shows
-opening_shows t objects (opening.Read s) log rest is =
-    is.passed [] ∙ wants (cut_off []) step.Read step.Read [] (reading (record { entries = objects; left = s.course })) _ log t.command.items is.shows
-opening_shows t objects (opening.Over ending) log rest is = is.passed []
+opening_shows t (opening.Read s) log rest is =
+    is.passed [] ∙ wants (cut_off []) step.Read step.Read [] (reading (record { entries = t.objects; left = s.course })) _ log t.command.items is.shows
+opening_shows t (opening.Over ending) log rest is = is.passed []
 
 pub trading_shows : (t : Table) → (trade : Trade) → (s : Trading) → (log : List Logged) → (rest : List Reply → Standing Mark) → (is : TradingStands t trade s log rest) → rest [] ≡ stands is.marks (trading_deed t s)
 unfolding host_step
@@ -86,10 +85,10 @@ pub record ShownAt (k : KernelData) (s : Stage) (standing : Standing Mark) : Typ
   pub is : standing ≡ stands marks (stage_deed k.table s)
   pub read : latest card_of None marks ≡ k.card
 
-pub stage_shows : (k : KernelData) → (s : Stage) → (log : List Logged) → (rest : List Reply → Standing Mark) → StageFits k.table k.objects k.card s → StageGoes k.table k.objects k.card s log rest → ShownAt k s (rest [])
+pub stage_shows : (k : KernelData) → (s : Stage) → (log : List Logged) → (rest : List Reply → Standing Mark) → StageFits k.table k.card s → StageGoes k.table k.card s log rest → ShownAt k s (rest [])
 stage_shows k (stage.Opening s) log rest fits goes = record {
   marks = [];
-  is = opening_shows k.table k.objects s log rest goes;
+  is = opening_shows k.table s log rest goes;
   read = sym fits.1;
 }
 stage_shows k (stage.Trading at) log rest fits goes = record {

@@ -3,7 +3,6 @@ use Rattle.std.proofs.Common.{◌≡◌, ap, sym, ◌∙◌, ◌+◌, ◌-◌, �
 use Rattle.std.proofs.lemmas.List.{append_assoc, length-append}
 use Rattle.std.specs.declared.option.Option.{Option}
 use Rattle.emv_dict.specs.declared.purchase.Logged.{Logged}
-use Rattle.env_map.specs.Entries.{Entries}
 use Rattle.kernel.specs.Course.{Standing}
 use Rattle.kernel.specs.Dialogue.{dialogue}
 use Rattle.kernel.specs.Kernel.{KernelData, KernelFits, KernelStands, StageGoes, deal_in, next_of}
@@ -18,13 +17,13 @@ use Rattle.terminal_state.specs.Terminal.{Deal}
 use Rattle.terminal_state.specs.declared.table.Table.{Table}
 
 -- what is left of a dialogue is known by what it makes of all replies
-goes_alike : (t : Table) → (objects : Entries) → (held : Option ReadCard) → (s : Stage) → (log : List Logged) → (rest other : List Reply → Standing Mark) → ((later : List Reply) → other later ≡ rest later) → StageGoes t objects held s log rest → StageGoes t objects held s log other
-goes_alike t objects held (stage.Opening s) log rest other alike goes = record {
+goes_alike : (t : Table) → (held : Option ReadCard) → (s : Stage) → (log : List Logged) → (rest other : List Reply → Standing Mark) → ((later : List Reply) → other later ≡ rest later) → StageGoes t held s log rest → StageGoes t held s log other
+goes_alike t held (stage.Opening s) log rest other alike goes = record {
   passed = λ later. alike later ∙ goes.passed later;
   tied = goes.tied;
   shows = goes.shows;
 }
-goes_alike t objects held (stage.Trading at) log rest other alike goes = record {
+goes_alike t held (stage.Trading at) log rest other alike goes = record {
   card = goes.card;
   card_is = goes.card_is;
   stands = record {
@@ -43,12 +42,12 @@ count_more most n taken now is more = omega arith
 -- the reply joins those that were taken
 pub kernel_took : (k k2 : KernelData) → (reply : Reply) → (log : List Logged → List Logged) → (replies : List Reply)
     → deal_in k2 ≡ deal_in k → k2.taken ≡ min (k.taken + 1) (2 ^ 64 - 1)
-    → ((before : List Logged) → (rest : List Reply → Standing Mark) → StageGoes k.table k.objects k.card k.stage before rest → StageGoes k2.table k2.objects k2.card k2.stage (log before) (λ later. rest (reply ∷ later)))
+    → ((before : List Logged) → (rest : List Reply → Standing Mark) → StageGoes k.table k.card k.stage before rest → StageGoes k2.table k2.card k2.stage (log before) (λ later. rest (reply ∷ later)))
     → KernelStands k replies → KernelStands k2 (replies ++ reply ∷ [])
 kernel_took k k2 reply log replies same taken goes is = record {
   count = rw (length-append replies (reply ∷ [])) (count_more (2 ^ 64 - 1) (length replies) k.taken k2.taken is.count taken);
   log = log is.log;
-  goes = goes_alike k2.table k2.objects k2.card k2.stage (log is.log) (λ later. dialogue (deal_in k) (replies ++ reply ∷ later)) (λ later. dialogue (deal_in k2) ((replies ++ reply ∷ []) ++ later))
+  goes = goes_alike k2.table k2.card k2.stage (log is.log) (λ later. dialogue (deal_in k) (replies ++ reply ∷ later)) (λ later. dialogue (deal_in k2) ((replies ++ reply ∷ []) ++ later))
       (λ later. ap (λ (deal : Deal). dialogue deal ((replies ++ reply ∷ []) ++ later)) same ∙ ap (λ (all : List Reply). dialogue (deal_in k) all) (append_assoc replies (reply ∷ []) later))
       (goes is.log (λ later. dialogue (deal_in k) (replies ++ later)) is.goes);
 }

@@ -1,6 +1,20 @@
--- The whole dialogue of a terminal, its last step first: selection, initiation, reading, restrictions, verification,
--- risk management, action analysis, the first GENERATE AC, the issuer, its scripts and the second one (EMV 4.3 Book 3
--- section 8 and Book 4 section 6).
+-- The whole dialogue of a terminal (EMV 4.3 Book 3 section 8 and Book 4 section 6). The definitions stand with the last
+-- step first, since each names the one behind it. From the first to the last:
+--
+--   Section of Book 3      Step                                           Definition
+--   Book 1 section 12      application selection                          dialogue, candidates_left
+--   10.1                   GET PROCESSING OPTIONS                         initiation
+--   10.2                   READ RECORD                                    read
+--   10.4                   processing restrictions                        restrictions
+--   10.5                   cardholder verification                        verification
+--   10.6                   terminal risk management                       risk
+--   10.7                   terminal action analysis                       analysis
+--   10.8                   card action analysis: the first GENERATE AC    first, first_answered
+--   10.9                   the request to the issuer, and the reply       online, replied, unable_online
+--   10.9                   EXTERNAL AUTHENTICATE                          authentication
+--   10.10                  the issuer's scripts, templates 71             scripts_before
+--   10.11                  completion: the second GENERATE AC             second, decision
+--   10.10                  the issuer's scripts, templates 72             scripts_behind
 use Rattle.std.specs.Prelude.{ℕ, Bool, true, false, ◌==◌, ◌||◌, if◌then◌else◌, List, [], ◌∷◌, bit_and, slice_index, Option, Some, None, Result, Ok, Err}
 use Rattle.std.specs.Str.{bytes_eq}
 use Rattle.action_analysis.specs.Analysed.{codes_of, wanted, unable}

@@ -1,16 +1,15 @@
--- What holds of the table and the card's objects before the card is read, whatever was said.
+-- What holds of the table before the card is read, whatever was said.
 use Rattle.std.specs.Prelude.{◌≡◌, ⊤, List, []}
 use Rattle.app_select.specs.Leading.{HasRoom}
 use Rattle.emv_dict.specs.Settings.{IsAidRow}
 use Rattle.emv_dict.specs.declared.purchase.AidRow.{AidRow}
 use Rattle.emv_dict.specs.declared.purchase.Logged.{Logged}
-use Rattle.env_map.specs.Entries.{Entries}
 use Rattle.kernel.specs.Course.{Standing}
 use Rattle.kernel.specs.Dialogue.{restrictions}
 use Rattle.kernel.specs.Reply.{Reply}
 use Rattle.kernel.specs.Stages.{OpeningStands}
-use Rattle.kernel.specs.declared.opening.OpeningNext.{OpeningNext}
-use Rattle.kernel.specs.declared.opening.OpeningNext.TheVariants as next
+use Rattle.kernel.specs.declared.stage.OpeningNext.{OpeningNext}
+use Rattle.kernel.specs.declared.stage.OpeningNext.TheVariants as next
 use Rattle.kernel.specs.declared.stage.AtRead.{AtRead}
 use Rattle.kernel.specs.declared.stage.AtSelect.{AtSelect}
 use Rattle.kernel.specs.declared.stage.Opening.{Opening}
@@ -23,41 +22,41 @@ use Rattle.terminal_state.specs.Table.{deal_of}
 use Rattle.terminal_state.specs.declared.table.Table.{Table}
 
 -- no object is read yet, and there is room for the applications that are still to be found
-pub record SelectFits (t : Table) (objects : Entries) (s : AtSelect) : Type 0 where
-  pub empty : objects ≡ []
+pub record SelectFits (t : Table) (s : AtSelect) : Type 0 where
+  pub empty : t.objects ≡ []
   pub room : HasRoom s.search t.candidates
   pub fresh : t.moment ≡ moment []
 
 -- no object is read yet
-pub record IsUnread (t : Table) (objects : Entries) : Type 0 where
-  pub empty : objects ≡ []
+pub record IsUnread (t : Table) : Type 0 where
+  pub empty : t.objects ≡ []
   pub fresh : t.moment ≡ moment []
 
 -- the answer to GET PROCESSING OPTIONS was read
-pub record ReadFits (t : Table) (objects : Entries) (s : AtRead) : Type 0 where
-  pub options : HasOptions objects
+pub record ReadFits (t : Table) (s : AtRead) : Type 0 where
+  pub options : HasOptions t.objects
   pub row : IsAidRow s.row.now
   pub fresh : t.moment ≡ moment []
 
-abbrev pub OpeningFits : Table → Entries → Opening → Type 0
-OpeningFits t objects (opening.Directory s) = IsUnread t objects
-OpeningFits t objects (opening.Select s) = SelectFits t objects s
-OpeningFits t objects (opening.Initiate s) = IsUnread t objects
-OpeningFits t objects (opening.Read s) = ReadFits t objects s
-OpeningFits t objects (opening.Over ending) = ⊤
+abbrev pub OpeningFits : Table → Opening → Type 0
+OpeningFits t (opening.Directory s) = IsUnread t
+OpeningFits t (opening.Select s) = SelectFits t s
+OpeningFits t (opening.Initiate s) = IsUnread t
+OpeningFits t (opening.Read s) = ReadFits t s
+OpeningFits t (opening.Over ending) = ⊤
 
 -- the card is read
-pub record HasReadCard (t : Table) (objects : Entries) (row : AidRow) : Type 0 where
-  pub forms : HasForms objects
+pub record HasReadCard (t : Table) (row : AidRow) : Type 0 where
+  pub forms : HasForms t.objects
   pub row_rules : IsAidRow row
   pub fresh : t.moment ≡ moment []
 
-abbrev pub NextFits : Table → Entries → OpeningNext → Type 0
-NextFits t objects (next.On s) = OpeningFits t objects s
-NextFits t objects (next.Read row) = HasReadCard t objects row.now
+abbrev pub NextFits : Table → OpeningNext → Type 0
+NextFits t (next.On s) = OpeningFits t s
+NextFits t (next.Read row) = HasReadCard t row.now
 
 -- what is left of the dialogue is what this stage leaves, or the processing restrictions of the card that is read
-abbrev pub NextStands : Table → Entries → OpeningNext → List Logged → (List Reply → Standing Mark) → Type 0
-NextStands t objects (next.On s) log rest = OpeningStands t objects s log rest
-NextStands t objects (next.Read row) log rest =
-    (later : List Reply) → rest later ≡ restrictions (record { deal = deal_of t; row = row.now; card = card_of objects }) log later
+abbrev pub NextStands : Table → OpeningNext → List Logged → (List Reply → Standing Mark) → Type 0
+NextStands t (next.On s) log rest = OpeningStands t s log rest
+NextStands t (next.Read row) log rest =
+    (later : List Reply) → rest later ≡ restrictions (record { deal = deal_of t; row = row.now; card = card_of t.objects }) log later

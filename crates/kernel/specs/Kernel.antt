@@ -2,7 +2,6 @@
 use Rattle.std.specs.Prelude.{◌≡◌, ℕ, ◌-◌, ◌^◌, min, Bool, true, List, [], ◌++◌, length, Option, Some, None, IsSome}
 use Rattle.emv_dict.specs.Settings.{IsAidRow}
 use Rattle.emv_dict.specs.declared.purchase.Logged.{Logged}
-use Rattle.env_map.specs.Entries.{Entries}
 use Rattle.kernel.specs.Course.{Standing}
 use Rattle.kernel.specs.Dialogue.{dialogue}
 use Rattle.kernel.specs.Fits.{OpeningFits}
@@ -26,7 +25,6 @@ use Rattle.terminal_state.specs.declared.table.Table.{Table}
 -- the parts of a kernel
 pub record KernelData : Type 0 where
   pub table : Table
-  pub objects : Entries
   pub card : Option ReadCard
   pub stage : Stage
   pub taken : ℕ
@@ -92,13 +90,13 @@ pub record TradingFits (t : Table) (held : Option ReadCard) (at : AtTrading) : T
   pub room : HasRoom t (scripts_left t.reply.scripts at.trading)
   pub asked : HasMessage t at.trading
 
-abbrev pub StageFits : Table → Entries → Option ReadCard → Stage → Type 0
-StageFits t objects held (stage.Opening s) = OpeningFits t objects s × (held ≡ None)
-StageFits t objects held (stage.Trading at) = TradingFits t held at
+abbrev pub StageFits : Table → Option ReadCard → Stage → Type 0
+StageFits t held (stage.Opening s) = OpeningFits t s × (held ≡ None)
+StageFits t held (stage.Trading at) = TradingFits t held at
 
 pub record KernelFits (k : KernelData) : Type 0 where
   pub deal : IsDeal (deal_in k)
-  pub stage : StageFits k.table k.objects k.card k.stage
+  pub stage : StageFits k.table k.card k.stage
   pub over : k.is_spent ≡ true → next_of k ≡ next.Ended
 
 -- what is left of the dialogue is what the stage leaves
@@ -107,12 +105,12 @@ pub record TradingGoes (t : Table) (held : Option ReadCard) (at : AtTrading) (lo
   pub card_is : held ≡ Some card
   pub stands : TradingStands t (record { deal = deal_of t; row = at.row.now; card = card }) at.trading log rest
 
-abbrev pub StageGoes : Table → Entries → Option ReadCard → Stage → List Logged → (List Reply → Standing Mark) → Type 0
-StageGoes t objects held (stage.Opening s) log rest = OpeningStands t objects s log rest
-StageGoes t objects held (stage.Trading at) log rest = TradingGoes t held at log rest
+abbrev pub StageGoes : Table → Option ReadCard → Stage → List Logged → (List Reply → Standing Mark) → Type 0
+StageGoes t held (stage.Opening s) log rest = OpeningStands t s log rest
+StageGoes t held (stage.Trading at) log rest = TradingGoes t held at log rest
 
 -- the kernel has taken these replies
 pub record KernelStands (k : KernelData) (replies : List Reply) : Type 0 where
   pub count : k.taken ≡ min (length replies) (2 ^ 64 - 1)
   pub log : List Logged
-  pub goes : StageGoes k.table k.objects k.card k.stage log (λ later. dialogue (deal_in k) (replies ++ later))
+  pub goes : StageGoes k.table k.card k.stage log (λ later. dialogue (deal_in k) (replies ++ later))

@@ -6,8 +6,8 @@ use Rattle.app_select.specs.declared.search.SearchNext.{SearchNext}
 use Rattle.app_select.specs.declared.search.SearchNext.TheVariants as search
 use Rattle.kernel.specs.Kernel.{KernelData}
 use Rattle.kernel.specs.Stages.{behind_if}
-use Rattle.kernel.specs.declared.opening.OpeningNext.{OpeningNext}
-use Rattle.kernel.specs.declared.opening.OpeningNext.TheVariants as next
+use Rattle.kernel.specs.declared.stage.OpeningNext.{OpeningNext}
+use Rattle.kernel.specs.declared.stage.OpeningNext.TheVariants as next
 use Rattle.kernel.specs.declared.stage.Opening.{Opening}
 use Rattle.kernel.specs.declared.stage.Opening.TheVariants as opening
 use Rattle.kernel.specs.declared.stage.Stage.{Stage}

@@ -4,8 +4,8 @@ use Rattle.emv_dict.specs.declared.ending.Ending.TheVariants.{Terminated}
 use Rattle.emv_dict.specs.declared.ending.Step.TheVariants as step
 use Rattle.read_records.specs.declared.reading.CourseStep.{CourseStep}
 use Rattle.read_records.specs.declared.reading.CourseStep.TheVariants as course
-use Rattle.kernel.specs.declared.opening.OpeningNext.{OpeningNext}
-use Rattle.kernel.specs.declared.opening.OpeningNext.TheVariants as next
+use Rattle.kernel.specs.declared.stage.OpeningNext.{OpeningNext}
+use Rattle.kernel.specs.declared.stage.OpeningNext.TheVariants as next
 use Rattle.kernel.specs.declared.stage.AtRead.{AtRead}
 use Rattle.kernel.specs.declared.stage.Opening.{Opening}
 use Rattle.kernel.specs.declared.stage.Opening.TheVariants as opening

@@ -9,7 +9,6 @@ use Rattle.emv_dict.specs.declared.ending.Kind.{Kind}
 use Rattle.emv_dict.specs.declared.ending.Step.{Step}
 use Rattle.emv_dict.specs.declared.ending.Step.TheVariants as step
 use Rattle.emv_dict.specs.declared.purchase.Logged.{Logged}
-use Rattle.env_map.specs.Entries.{Entries}
 use Rattle.kernel.specs.Course.{Standing, Rest, over, card_step, cut_off, host_step}
 use Rattle.kernel.specs.Dialogue.{Trade, selected_then, granted, candidates_left, read_then, verified_then, judged_then, first_then, replied, authenticated_then, scripts_before, scripts_behind, second_then, left_script}
 use Rattle.kernel.specs.Reply.{Reply}
@@ -100,31 +99,31 @@ pub record Begins (t : Table) (card : ReadCard) (marks : List Mark) (rest start 
 abbrev pub cut_of : Bool → Step
 cut_of begun = (if begun then step.Select else step.Power)
 
--- before the card is read, with its objects so far
-abbrev pub opening_rest : Table → Entries → Opening → Rest Mark
-opening_rest t objects (opening.Directory s) =
+-- before the card is read
+abbrev pub opening_rest : Table → Opening → Rest Mark
+opening_rest t (opening.Directory s) =
     card_step (cut_off []) (cut_of s.begun) step.Select [] (directory_rest s.listing) (selected_then (deal_of t))
-opening_rest t objects (opening.Select s) =
+opening_rest t (opening.Select s) =
     card_step (cut_off []) (cut_of s.begun) step.Select [] (rest_with s.search t.candidates) (selected_then (deal_of t))
-opening_rest t objects (opening.Initiate s) =
+opening_rest t (opening.Initiate s) =
     card_step (cut_off []) step.Initiate step.Initiate [] (initiated s.initiating)
     (granted (deal_of t) s.choice.row (candidates_left (deal_of t) t.candidates))
-opening_rest t objects (opening.Read s) =
-    card_step (cut_off []) step.Read step.Read [] (reading (record { entries = objects; left = s.course }))
+opening_rest t (opening.Read s) =
+    card_step (cut_off []) step.Read step.Read [] (reading (record { entries = t.objects; left = s.course }))
     (read_then (deal_of t) s.row.now)
-opening_rest t objects (opening.Over ending) = over [] ending
+opening_rest t (opening.Over ending) = over [] ending
 
-abbrev pub OpeningShows : Table → Entries → Opening → Type 0
-OpeningShows t objects (opening.Directory s) = directory_rest s.listing [] ≡ Wants t.command.items
-OpeningShows t objects (opening.Select s) = rest_with s.search t.candidates [] ≡ Wants t.command.items
-OpeningShows t objects (opening.Initiate s) = initiated s.initiating [] ≡ Wants t.command.items
-OpeningShows t objects (opening.Read s) = reading (record { entries = objects; left = s.course }) [] ≡ Wants t.command.items
-OpeningShows t objects (opening.Over ending) = ⊤
+abbrev pub OpeningShows : Table → Opening → Type 0
+OpeningShows t (opening.Directory s) = directory_rest s.listing [] ≡ Wants t.command.items
+OpeningShows t (opening.Select s) = rest_with s.search t.candidates [] ≡ Wants t.command.items
+OpeningShows t (opening.Initiate s) = initiated s.initiating [] ≡ Wants t.command.items
+OpeningShows t (opening.Read s) = reading (record { entries = t.objects; left = s.course }) [] ≡ Wants t.command.items
+OpeningShows t (opening.Over ending) = ⊤
 
-pub record OpeningStands (t : Table) (objects : Entries) (s : Opening) (log : List Logged) (rest : List Reply → Standing Mark) : Type 0 where
-  pub passed : (later : List Reply) → rest later ≡ opening_rest t objects s log later
+pub record OpeningStands (t : Table) (s : Opening) (log : List Logged) (rest : List Reply → Standing Mark) : Type 0 where
+  pub passed : (later : List Reply) → rest later ≡ opening_rest t s log later
   pub tied : t.moment ≡ moment []
-  pub shows : OpeningShows t objects s
+  pub shows : OpeningShows t s
 
 -- how many scripts may still run
 abbrev pub scripts_left : List ℕ → Trading → ℕ

@@ -1,9 +1,6 @@
--- The transaction that goes on at a table.
-use Rattle.emv_dict.specs.declared.purchase.AidRow.{AidRow}
+-- The transaction that a terminal is in.
 use Rattle.kernel.specs.Dialogue.{Trade}
-use Rattle.object_lists.specs.CardRead.{ReadCard}
-use Rattle.terminal_state.specs.Table.{deal_of}
-use Rattle.terminal_state.specs.declared.table.Table.{Table}
+use Rattle.kernel.specs.declared.transaction.Transaction.{Transaction}
 
-abbrev pub trade_of : Table → AidRow → ReadCard → Trade
-trade_of t row card = record { deal = deal_of t; row = row; card = card }
+abbrev pub trade_of : Transaction → Trade
+trade_of t = record { deal = record { settings = t.settings.now; purchase = t.purchase.now }; row = t.row.now; card = t.card.now }

@@ -1,4 +1,5 @@
-//! What a dialogue ends with (EMV 4.3 Book 4 section 6), and what is captured of it.
+//! Completion: what a dialogue ends with (EMV 4.3 Book 3 section 10.11 and Book 4 section 6), and what is
+//! captured of it.
 ghost use Rattle.std.specs.Prelude.{◌≡◌, ℕ, List, Some, option_map};
 ghost use Rattle.auth_message.specs.Whole.{IsMessage};
 ghost use Rattle.emv_dict.specs.Settings.{IsPurchase};
@@ -14,7 +15,7 @@ use auth_message::Message;
 use ber_tlv::Tag;
 use emv_dict::{Ac, Digits, Ending, Purchase, Settings, Tsi, Tvr};
 use object_lists::{CardData, place, read_dol};
-use online_step::{presentment, reversal};
+use online_step::{Approval, presentment, reversal};
 use std::marker::Model;
 use terminal_state::Moment;
 
@@ -268,16 +269,13 @@ fn presented(
         return None;
     };
     let tvr = results_behind(card, moment.tvr_when_first, moment.tvr_when_second);
-    let mut message = Message::new();
-    presentment(
-        card,
-        settings,
-        purchase,
+    let approval = Approval {
         tvr,
         ac,
-        code_or_zeros(moment.code),
-        &mut message,
-    );
+        code: code_or_zeros(moment.code),
+    };
+    let mut message = Message::new();
+    presentment(card, settings, purchase, &approval, &mut message);
     Some(Capture { message })
 }
 

@@ -14,14 +14,13 @@ ghost use Rattle.kernel.specs.declared.stage.Trading.TheVariants as stage;
 ghost use Rattle.script_run.specs.Leading.{RunNextLeads, left_next};
 ghost use Rattle.terminal_state.specs.Marks.{Mark, HasRunBefore, HasRunBehind, moment as moment_of};
 ghost use Rattle.terminal_state.specs.Scripts.{templates};
-ghost use Rattle.terminal_state.specs.Table.{IsDeal, deal_of};
+ghost use Rattle.terminal_state.specs.Table.{deal_of};
 
-use crate::online::begin_second;
+use crate::second::begin_second;
 use crate::stage::{AtScript, AtSecond, Trading};
+use crate::transaction::Transaction;
 use ber_tlv::{Tag, nth_value};
-use emv_dict::{AidRow, Ending, Kind};
-use env_map::Env;
-use object_lists::CardData;
+use emv_dict::{Ending, Kind};
 use script_run::{RunNext, Running};
 use terminal_state::{HostReply, Moment, Table};
 
@@ -57,16 +56,13 @@ fn kind_for(reply: &HostReply) -> Kind
 #[cycle(before)]
 pub(crate) fn run_before<'s>(
     table: &mut Table<'s>,
-    terminal: &mut Env,
-    card: &CardData,
-    row: &AidRow,
+    transaction: &Transaction<'_, 's>,
     index: usize,
 ) -> Trading<'s>
-    requires deal { IsDeal (deal_of table.old) }
     requires room { HasRoom table.old ((length (templates 0x71 table.old.reply.scripts) - index) + length (templates 0x72 table.old.reply.scripts)) }
     ensures stands { (marks : List Mark) (log : List Logged) (rest : List Reply → Standing Mark)
-        → Begins table.old card.now marks rest (scripts_before (trade_of table.old row.now card.now) table.old.reply (drop index (templates 0x71 table.old.reply.scripts)) marks log)
-        → TradingStands table.new (trade_of table.old row.now card.now) result log rest }
+        → Begins table.old transaction.now.card.now marks rest (scripts_before (trade_of transaction.now) table.old.reply (drop index (templates 0x71 table.old.reply.scripts)) marks log)
+        → TradingStands table.new (trade_of transaction.now) result log rest }
     ensures same { deal_of table.new ≡ deal_of table.old }
     ensures few { trading_rank table.new.reply.scripts result ≤ 1 + (bytes_in (drop index (templates 0x71 table.old.reply.scripts)) + bytes_in (templates 0x72 table.old.reply.scripts)) }
     ensures room { HasRoom table.new (scripts_left table.new.reply.scripts result) }
@@ -75,12 +71,12 @@ pub(crate) fn run_before<'s>(
     match template_of(&table.reply, BEFORE, index) {
         Some(template) => {
             let next = Running::begin(template);
-            before_next(table, terminal, card, row, next, index + 1)
+            before_next(table, transaction, next, index + 1)
         }
         None => {
             let asked = kind_for(&table.reply);
             let online = true;
-            begin_second(table, terminal, card, row, AtSecond { asked, online })
+            begin_second(table, transaction, AtSecond { asked, online })
         }
     }
 }
@@ -89,19 +85,16 @@ pub(crate) fn run_before<'s>(
 #[cycle(before)]
 fn before_next<'s>(
     table: &mut Table<'s>,
-    terminal: &mut Env,
-    card: &CardData,
-    row: &AidRow,
+    transaction: &Transaction<'_, 's>,
     next: RunNext,
     index: usize,
 ) -> Trading<'s>
-    requires deal { IsDeal (deal_of table.old) }
     requires room { HasRoom table.old (1 + (length (templates 0x71 table.old.reply.scripts) - index) + length (templates 0x72 table.old.reply.scripts)) }
     ensures stands { (marks : List Mark) (log : List Logged) (course : List (List ℕ) → Progress (List ℕ)) (rest : List Reply → Standing Mark)
-        → Begins table.old card.now marks rest (card_step (cut_off marks) step.Script step.Script marks course
-        (λ found. scripts_before (trade_of table.old row.now card.now) table.old.reply (drop index (templates 0x71 table.old.reply.scripts)) (HasRunBefore found ∷ marks)) log)
+        → Begins table.old transaction.now.card.now marks rest (card_step (cut_off marks) step.Script step.Script marks course
+        (λ found. scripts_before (trade_of transaction.now) table.old.reply (drop index (templates 0x71 table.old.reply.scripts)) (HasRunBefore found ∷ marks)) log)
         → RunNextLeads course [] next
-        → TradingStands table.new (trade_of table.old row.now card.now) result log rest }
+        → TradingStands table.new (trade_of transaction.now) result log rest }
     ensures same { deal_of table.new ≡ deal_of table.old }
     ensures few { trading_rank table.new.reply.scripts result ≤ left_next next + 2 + (bytes_in (drop index (templates 0x71 table.old.reply.scripts)) + bytes_in (templates 0x72 table.old.reply.scripts)) }
     ensures room { HasRoom table.new (scripts_left table.new.reply.scripts result) }
@@ -117,7 +110,7 @@ fn before_next<'s>(
         }
         RunNext::Done(found) => {
             table.moment.has_run_before(found);
-            run_before(table, terminal, card, row, index)
+            run_before(table, transaction, index)
         }
     }
 }
@@ -125,17 +118,14 @@ fn before_next<'s>(
 /// The card's answer in a script before the second GENERATE AC.
 pub(crate) fn on_script_before<'s>(
     table: &mut Table<'s>,
-    terminal: &mut Env,
-    card: &CardData,
-    row: &AidRow,
+    transaction: &Transaction<'_, 's>,
     state: AtScript,
     reply: &[u8],
 ) -> Trading<'s>
-    requires deal { IsDeal (deal_of table.old) }
     requires room { HasRoom table.old (1 + (length (templates 0x71 table.old.reply.scripts) - state.next) + length (templates 0x72 table.old.reply.scripts)) }
     ensures stands { (before now : List Logged) (rest : List Reply → Standing Mark)
-        → TradingStands table.old (trade_of table.old row.now card.now) (stage.ScriptBefore state) before rest
-        → TradingStands table.new (trade_of table.old row.now card.now) result now (λ later. rest (CardSaid reply.now now ∷ later)) }
+        → TradingStands table.old (trade_of transaction.now) (stage.ScriptBefore state) before rest
+        → TradingStands table.new (trade_of transaction.now) result now (λ later. rest (CardSaid reply.now now ∷ later)) }
     ensures same { deal_of table.new ≡ deal_of table.old }
     ensures nearer { trading_rank table.new.reply.scripts result < length state.running.commands + 2 + (bytes_in (drop state.next (templates 0x71 table.old.reply.scripts)) + bytes_in (templates 0x72 table.old.reply.scripts)) }
     ensures room { HasRoom table.new (scripts_left table.new.reply.scripts result) }
@@ -143,7 +133,7 @@ pub(crate) fn on_script_before<'s>(
 {
     let AtScript { running, next } = state;
     let gone_on = running.take(reply);
-    before_next(table, terminal, card, row, gone_on, next)
+    before_next(table, transaction, gone_on, next)
 }
 
 /// Runs the scripts behind the second GENERATE AC, from the one that has so many before it on.

@@ -1,37 +1,28 @@
 //! The dialogue of a terminal, a reply at a time.
-ghost use Rattle.std.specs.Prelude.{◌≡◌, ◌≤◌, ◌+◌, ◌∷◌, ◌++◌, [], ℕ, List, length, option_map, None};
-ghost use Rattle.std.specs.List.{All};
+ghost use Rattle.std.specs.Prelude.{◌≡◌, ◌≤◌, [], List, length, option_map, None};
 ghost use Rattle.auth_message.specs.Whole.{IsMessage};
-ghost use Rattle.emv_dict.specs.Settings.{IsSettings, IsPurchase, most_amount};
-ghost use Rattle.emv_dict.specs.declared.purchase.Logged.{Logged as LoggedRow};
+ghost use Rattle.emv_dict.specs.Settings.{IsSettings, IsPurchase};
 ghost use Rattle.kernel.specs.BeginEnd.{HasBegun};
-ghost use Rattle.kernel.specs.Course.{Standing};
 ghost use Rattle.kernel.specs.Dialogue.{dialogue};
-ghost use Rattle.kernel.specs.Fits.{OpeningFits};
 ghost use Rattle.kernel.specs.Kernel as spec;
-ghost use Rattle.kernel.specs.Kernel.{KernelStands, StageFits, StageGoes, deal_in, next_of, told_next, told_bytes};
-ghost use Rattle.kernel.specs.Rank.{rank_of};
-ghost use Rattle.kernel.specs.Reply.{Reply, CardSaid, CardGone, HostSaid, HostSilent};
-ghost use Rattle.kernel.specs.Stages.{OpeningStands};
-ghost use Rattle.terminal_state.specs.Marks.{Mark, latest, card_of};
-ghost use Rattle.terminal_state.specs.Table.{IsDeal, deal_of};
+ghost use Rattle.kernel.specs.Kernel.{KernelStands, deal_in, next_of, told_next, told_bytes};
+ghost use Rattle.kernel.specs.Reply.{Reply};
+ghost use Rattle.terminal_state.specs.Marks.{latest, card_of};
 
-use crate::opening;
-use crate::opening::OpeningNext;
-use crate::stage::{AtTrading, Opening, Stage, Trading};
-use crate::trading::begin_trading;
+use crate::selection;
+use crate::stage::{Opening, Stage, Trading};
 use apdu_core::Out;
 use app_select::Candidates;
 use arrayvec::ArrayVec;
-use emv_dict::{Logged, Purchase, Settings};
+use emv_dict::{Purchase, Settings};
 use env_map::Env;
 use object_lists::CardData;
 use std::marker::Model;
-use std::mem;
 use terminal_state::{HeldCard, HostReply, Moment, Table};
 
 mod finish;
 mod taking;
+mod turns;
 
 /// What a terminal waits for.
 #[derive(Clone, Copy, PartialEq, Eq, Debug)]
@@ -48,8 +39,6 @@ pub enum Next {
 #[derive(Drop)]
 pub struct Kernel<'s> {
     table: Table<'s>,
-    /// The card's objects while it is read.
-    objects: Env,
     card: HeldCard,
     stage: Stage<'s>,
     /// How many replies were taken, which stops at the greatest number.
@@ -63,9 +52,9 @@ impl<'s> Model for Kernel<'s> {
 
     ghost Value = { KernelData };
 
-    ghost view = { λ k. record { table = k.table; objects = k.objects; card = k.card; stage = k.stage; taken = k.taken; is_spent = k.is_spent } };
+    ghost view = { λ k. record { table = k.table; card = k.card; stage = k.stage; taken = k.taken; is_spent = k.is_spent } };
 
-    ghost invariant = { λ k. KernelFits (record { table = k.table; objects = k.objects; card = k.card; stage = k.stage; taken = k.taken; is_spent = k.is_spent }) };
+    ghost invariant = { λ k. KernelFits (record { table = k.table; card = k.card; stage = k.stage; taken = k.taken; is_spent = k.is_spent }) };
 }
 
 impl<'s> Kernel<'s> {
@@ -76,7 +65,7 @@ impl<'s> Kernel<'s> {
         ensures { HasBegun (record { settings = settings.now; purchase = purchase.now }) result }
     {
         let mut command = Out::new();
-        let opening = opening::begin(settings, purchase, &mut command);
+        let opening = selection::begin(settings, purchase, &mut command);
         Kernel {
             // Made in its place: a function of its own would move the candidates once more.
             table: Table {
@@ -85,10 +74,10 @@ impl<'s> Kernel<'s> {
                 candidates: Candidates::new(settings),
                 moment: Moment::new(),
                 reply: HostReply::none(),
+                objects: Env::new(),
                 command,
                 message: ArrayVec::new(),
             },
-            objects: Env::new(),
             card: HeldCard::none(),
             stage: Stage::Opening(opening),
             taken: 0,
@@ -103,10 +92,9 @@ impl<'s> Kernel<'s> {
         requires purchase { IsPurchase purchase.now }
         ensures { HasBegun (record { settings = settings.now; purchase = purchase.now }) self.new }
     {
-        self.objects.clear();
         self.card.let_go();
         self.table.clear_for(settings, purchase);
-        let opening = opening::begin(settings, purchase, &mut self.table.command);
+        let opening = selection::begin(settings, purchase, &mut self.table.command);
         self.stage = Stage::Opening(opening);
         self.taken = 0;
         self.is_spent = false;

@@ -2,17 +2,21 @@
 //! the capture (EMV 4.3 Book 3 section 8).
 #![tactic(auto)]
 
+mod analysis;
 pub mod ended;
+mod initiation;
 mod issuer_scripts;
 pub mod kernel;
 pub mod laws;
 mod online;
-mod opening;
-mod replies;
+mod reading;
+mod risk;
+mod second;
+mod selection;
 mod stage;
 pub mod tally;
-mod trading;
-mod turns;
+mod transaction;
+mod verification;
 
 pub use ended::{Capture, EndRecord, Ended};
 pub use kernel::{Kernel, Next};

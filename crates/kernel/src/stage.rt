@@ -91,3 +91,12 @@ pub(crate) struct AtTrading<'s> {
     pub row: &'s AidRow,
     pub trading: Trading<'s>,
 }
+
+/// What follows before the card is read, as contracts say it.
+#[derive(Drop)]
+pub(crate) enum OpeningNext<'s> {
+    /// It isn't read yet.
+    On(Opening<'s>),
+    /// It is read, in the application of this row.
+    Read(&'s AidRow),
+}

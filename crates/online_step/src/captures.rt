@@ -9,23 +9,32 @@ use auth_message::{Message, PresentFields, ReversalFields, write_presentment, wr
 use emv_dict::{Ac, Purchase, Settings, Tvr, amount_bytes};
 use object_lists::CardData;
 
-/// Writes the presentment (E3) of an approved purchase, in place of what `out` held: with the verification
-/// results that the approving cryptogram was asked with, and the authorisation response code (8A).
+/// What approved a purchase.
+#[derive(Drop)]
+pub struct Approval<'a> {
+    /// The verification results (95) that the approving cryptogram was asked with.
+    pub tvr: Tvr,
+    /// The approving cryptogram.
+    pub ac: &'a Ac,
+    /// The authorisation response code (8A).
+    pub code: [u8; 2],
+}
+
+/// Writes the presentment (E3) of a purchase with this approval, in place of what `out` held.
 #[tactic(auto, unfolding(crate::specs::Captures::presentment_of))]
 pub fn presentment(
     card: &CardData,
     settings: &Settings,
     purchase: &Purchase,
-    tvr: Tvr,
-    ac: &Ac,
-    code: [u8; 2],
+    approval: &Approval<'_>,
     out: &mut Message,
 )
     requires { IsPurchase purchase.now }
-    ensures bytes { out.new.items ≡ presentment_of card.now settings.now purchase.now tvr.0 ac.now code }
+    ensures bytes { out.new.items ≡ presentment_of card.now settings.now purchase.now approval.now.tvr.0 approval.now.ac.now approval.now.code }
     // The host reads it.
     ensures read { IsMessage out.new.items }
 {
+    let ac = approval.ac;
     let fields = PresentFields {
         t9f1c: identification(settings),
         pan: card.pan.copy(),
@@ -33,7 +42,7 @@ pub fn presentment(
         t9f02: amount_bytes(purchase.amount),
         t9f03: amount_bytes(purchase.other),
         t9f1a: country(settings),
-        t95: tvr.bytes(),
+        t95: approval.tvr.bytes(),
         t5f2a: currency(purchase),
         t9a: date(purchase),
         t9c: [purchase.trade],
@@ -42,7 +51,7 @@ pub fn presentment(
         t9f36: ac.counter.to_be_bytes(),
         t9f26: cryptogram(ac),
         t9f10: &ac.iad,
-        t8a: code,
+        t8a: approval.code,
     };
     write_presentment(&fields, out);
 }

@@ -13,7 +13,7 @@ pub mod online;
 
 pub use ac::read_ac;
 pub use authenticate::{authenticate_command, read_verdict};
-pub use captures::{presentment, reversal};
+pub use captures::{Approval, presentment, reversal};
 pub use emv_dict::Ac;
 pub use generate::{fill_list, write_generate};
 pub use laws::answers_are_read_back;

@@ -6,8 +6,8 @@ mod card;
 mod terminal;
 
 use crate::{
-    authenticate_command, fill_list, presentment, read_ac, read_verdict, request, reversal,
-    write_generate,
+    Approval, authenticate_command, fill_list, presentment, read_ac, read_verdict, request,
+    reversal, write_generate,
 };
 use apdu_core::Out;
 use arrayvec::ArrayVec;
@@ -375,7 +375,12 @@ fn purchases_are_settled(rt: HostRuntime) {
     let mut out = Message::new();
     let tvr = Tvr::OFFLINE_DATA_AUTHENTICATION_NOT_PERFORMED.0
         | Tvr::SCRIPT_FAILED_BEFORE_FINAL_CRYPTOGRAM.0;
-    presentment(&card, &settings, &purchase, Tvr(tvr), &ac, *b"00", &mut out);
+    let approval = Approval {
+        tvr: Tvr(tvr),
+        ac: &ac,
+        code: *b"00",
+    };
+    presentment(&card, &settings, &purchase, &approval, &mut out);
     assert_eq!(rt; out.as_slice(), bytes(PRESENTMENT).as_slice());
     reversal(&card, &settings, &purchase, 11, *b"Z3", &mut out);
     assert_eq!(rt; out.as_slice(), bytes(REVERSAL).as_slice());

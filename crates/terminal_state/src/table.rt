@@ -10,6 +10,7 @@ use app_select::Candidates;
 use arrayvec::ArrayVec;
 use auth_message::Message;
 use emv_dict::{Purchase, Settings};
+use env_map::Env;
 use std::marker::Model;
 
 /// The host's reply, kept for the steps behind it.
@@ -44,6 +45,8 @@ pub struct Table<'s> {
     pub candidates: Candidates<'s>,
     pub moment: Moment,
     pub reply: HostReply,
+    /// The card's objects while it is read, and then the terminal's for the card's object lists.
+    pub objects: Env,
     pub command: Out,
     pub message: Message,
 }
@@ -55,6 +58,7 @@ impl<'s> Table<'s> {
         ensures candidates { self.new.candidates ≡ [] }
         ensures moment { self.new.moment ≡ moment [] }
         ensures reply { self.new.reply ≡ no_reply }
+        ensures objects { self.new.objects ≡ [] }
         ensures message { self.new.message.items ≡ [] }
         ensures command { self.new.command ≡ self.old.command }
     {
@@ -63,6 +67,7 @@ impl<'s> Table<'s> {
         self.candidates.clear();
         self.moment = Moment::new();
         self.reply = HostReply::none();
+        self.objects.clear();
         self.message.clear();
     }
 }

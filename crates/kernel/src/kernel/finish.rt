@@ -42,7 +42,6 @@ impl<'s> Kernel<'s> {
         let record = kernel.end(tally);
         let Kernel {
             table: _,
-            objects: _,
             card,
             stage: _,
             taken: _,

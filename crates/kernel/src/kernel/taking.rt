@@ -5,11 +5,10 @@ ghost use Rattle.emv_dict.specs.Settings.{most_amount};
 ghost use Rattle.emv_dict.specs.declared.ending.Ending.TheVariants.{Terminated};
 ghost use Rattle.emv_dict.specs.declared.ending.Step.TheVariants as steps;
 ghost use Rattle.emv_dict.specs.declared.purchase.Logged.{Logged as LoggedRow};
-ghost use Rattle.env_map.specs.Entries.{Entries};
 ghost use Rattle.kernel.specs.Course.{Standing};
 ghost use Rattle.kernel.specs.Dialogue.{dialogue, restrictions};
 ghost use Rattle.kernel.specs.Fits.{OpeningFits, HasReadCard};
-ghost use Rattle.kernel.specs.Kernel.{KernelStands, StageFits, StageGoes, TradingFits, TradingGoes, deal_in, next_of, stage_next, opening_next, trading_next};
+ghost use Rattle.kernel.specs.Kernel.{KernelStands, StageFits, StageGoes, TradingFits, TradingGoes, deal_in, next_of, stage_next, trading_next};
 ghost use Rattle.kernel.specs.Laws.{LeavesBy, is_second};
 ghost use Rattle.kernel.specs.Rank.{rank_of, stage_rank, opening_rank, trading_rank, rank_behind};
 ghost use Rattle.kernel.specs.Reading.{IsBeforeReading};
@@ -19,17 +18,16 @@ ghost use Rattle.kernel.specs.declared.kernel.Next.TheVariants as next;
 ghost use Rattle.kernel.specs.declared.stage.Opening.TheVariants as openings;
 ghost use Rattle.kernel.specs.declared.stage.Stage.TheVariants as stages;
 ghost use Rattle.object_lists.specs.CardRead.{ReadCard, card_of};
-ghost use Rattle.object_lists.specs.Forms.{HasForms};
 ghost use Rattle.terminal_state.specs.Marks.{Mark};
 ghost use Rattle.terminal_state.specs.Table.{IsDeal, deal_of};
 
 use super::Kernel;
-use crate::opening;
+use super::turns::{cut_off, on_answer, on_card, on_gone, on_host};
+use crate::reading::on_read;
 use crate::stage::{AtTrading, Opening, Stage, Trading};
-use crate::trading::begin_trading;
-use crate::turns::{on_card, on_gone, on_host};
+use crate::transaction::Transaction;
+use crate::verification::begin_trading;
 use emv_dict::{AidRow, Cause, Ending, Logged, Step};
-use env_map::Env;
 use read_records::CourseStep;
 use std::mem;
 use terminal_state::{HeldCard, Table};
@@ -48,14 +46,7 @@ impl<'s> Kernel<'s> {
         ensures nearer { rank_of self.new < rank_of self.old }
         ensures fresh { self.new.is_spent ≡ false }
     {
-        stage_said(
-            &mut self.table,
-            &mut self.objects,
-            &mut self.card,
-            &mut self.stage,
-            reply,
-            log,
-        );
+        stage_said(&mut self.table, &mut self.card, &mut self.stage, reply, log);
         self.taken = self.taken.saturating_add(1);
     }
 
@@ -88,7 +79,7 @@ impl<'s> Kernel<'s> {
         ensures fresh { self.new.is_spent ≡ false }
     {
         let stage = mem::replace(&mut self.stage, Stage::Opening(Opening::Over(TAKEN_OUT)));
-        self.stage = stage_heard(&mut self.table, &mut self.objects, &self.card, stage, reply);
+        self.stage = stage_heard(&mut self.table, &self.card, stage, reply);
         self.taken = self.taken.saturating_add(1);
     }
 
@@ -152,51 +143,50 @@ impl<'s> Kernel<'s> {
 }
 
 /// The card's answer in application selection, or to GET PROCESSING OPTIONS.
-fn opening_said<'s>(
-    table: &mut Table<'s>,
-    objects: &mut Env,
-    opening: &mut Opening<'s>,
-    reply: &[u8],
-)
+fn opening_said<'s>(table: &mut Table<'s>, opening: &mut Opening<'s>, reply: &[u8])
     requires deal { IsDeal (deal_of table.old) }
-    requires fits { OpeningFits table.old objects.old opening.old }
+    requires fits { OpeningFits table.old opening.old }
     requires before { IsBeforeReading opening.old }
     ensures stands { (before now : List LoggedRow) (rest : List Reply → Standing Mark)
-        → OpeningStands table.old objects.old opening.old before rest
-        → OpeningStands table.new objects.new opening.new now (λ later. rest (CardSaid reply.now now ∷ later)) }
+        → OpeningStands table.old opening.old before rest
+        → OpeningStands table.new opening.new now (λ later. rest (CardSaid reply.now now ∷ later)) }
     ensures same { deal_of table.new ≡ deal_of table.old }
     ensures nearer { opening_rank table.new opening.new < opening_rank table.old opening.old }
-    ensures fits { OpeningFits table.new objects.new opening.new }
+    ensures fits { OpeningFits table.new opening.new }
 {
     let state = mem::replace(opening, Opening::Over(TAKEN_OUT));
-    *opening = opening::on_answer(table, objects, state, reply);
+    *opening = on_answer(table, state, reply);
 }
 
 /// The card is read, and the trading begins. The data take their place before, and stay in it.
 fn has_read<'s>(
     table: &mut Table<'s>,
-    objects: &mut Env,
     held: &mut HeldCard,
-    stage: &mut Stage<'s>,
     row: &'s AidRow,
     log: &[Logged],
-)
+) -> Trading<'s>
     requires deal { IsDeal (deal_of table.old) }
-    requires read { HasReadCard table.old objects.old row.now }
+    requires read { HasReadCard table.old row.now }
     requires log { All (λ logged. logged.amount ≤ most_amount) log.now }
     ensures stands { (rest : List Reply → Standing Mark)
-        → ((later : List Reply) → rest later ≡ restrictions (record { deal = deal_of table.old; row = row.entry.now; card = card_of objects.old }) log.now later)
-        → StageGoes table.new objects.new held.new stage.new log.now rest }
+        → ((later : List Reply) → rest later ≡ restrictions (record { deal = deal_of table.old; row = row.entry.now; card = card_of table.old.objects }) log.now later)
+        → TradingGoes table.new held.new (record { row = row.entry; trading = result }) log.now rest }
     ensures same { deal_of table.new ≡ deal_of table.old }
-    ensures few { stage_rank table.new stage.new ≤ rank_behind table.old }
-    ensures fits { StageFits table.new objects.new held.new stage.new }
+    ensures few { trading_rank table.new.reply.scripts result ≤ rank_behind table.old }
+    ensures fits { TradingFits table.new held.new (record { row = row.entry; trading = result }) }
 {
-    held.keep(objects);
+    held.keep(&table.objects);
     let Some(card) = held.get() else {
         unreachable!();
     };
-    let trading = begin_trading(table, objects, card, row, log);
-    *stage = Stage::Trading(AtTrading { row, trading });
+    let transaction = Transaction {
+        settings: table.settings,
+        purchase: table.purchase,
+        row,
+        card,
+        log,
+    };
+    begin_trading(table, &transaction)
 }
 
 /// Reading ended for this cause.
@@ -209,41 +199,40 @@ fn end_reading(stage: &mut Stage<'_>, cause: Cause)
 /// The card's answer at any stage.
 fn stage_said<'s>(
     table: &mut Table<'s>,
-    objects: &mut Env,
     held: &mut HeldCard,
     stage: &mut Stage<'s>,
     reply: &[u8],
     log: &[Logged],
 )
     requires deal { IsDeal (deal_of table.old) }
-    requires fits { StageFits table.old objects.old held.old stage.old }
+    requires fits { StageFits table.old held.old stage.old }
     requires waits { stage_next stage.old ≡ next.ToCard }
     requires log { All (λ logged. logged.amount ≤ most_amount) log.now }
     ensures stands { (before : List LoggedRow) (rest : List Reply → Standing Mark)
-        → StageGoes table.old objects.old held.old stage.old before rest
-        → StageGoes table.new objects.new held.new stage.new log.now (λ later. rest (CardSaid reply.now log.now ∷ later)) }
+        → StageGoes table.old held.old stage.old before rest
+        → StageGoes table.new held.new stage.new log.now (λ later. rest (CardSaid reply.now log.now ∷ later)) }
     ensures same { deal_of table.new ≡ deal_of table.old }
     ensures nearer { stage_rank table.new stage.new < stage_rank table.old stage.old }
-    ensures fits { StageFits table.new objects.new held.new stage.new }
+    ensures fits { StageFits table.new held.new stage.new }
 {
     match stage {
-        Stage::Opening(Opening::Read(at)) => match opening::on_read(table, objects, at, reply) {
+        Stage::Opening(Opening::Read(at)) => match on_read(table, at, reply) {
             CourseStep::Ask => {}
             CourseStep::Done => {
                 let row = at.row;
-                has_read(table, objects, held, stage, row, log);
+                let trading = has_read(table, held, row, log);
+                *stage = Stage::Trading(AtTrading { row, trading });
             }
             CourseStep::Ended(cause) => end_reading(stage, cause),
         },
-        Stage::Opening(opening) => opening_said(table, objects, opening, reply),
-        Stage::Trading(at) => trading_said(table, objects, held, at, reply, log),
+        Stage::Opening(opening) => opening_said(table, opening, reply),
+        Stage::Trading(at) => trading_said(table, held, at, reply, log),
     }
 }
 
 /// The card's answer once it is read.
 fn trading_said<'s>(
     table: &mut Table<'s>,
-    terminal: &mut Env,
     held: &HeldCard,
     at: &mut AtTrading<'s>,
     reply: &[u8],
@@ -263,24 +252,31 @@ fn trading_said<'s>(
     let Some(card) = held.get() else {
         unreachable!();
     };
+    let transaction = Transaction {
+        settings: table.settings,
+        purchase: table.purchase,
+        row: at.row,
+        card,
+        log,
+    };
     let trading = mem::replace(&mut at.trading, Trading::Over(TAKEN_OUT));
-    at.trading = on_card(table, terminal, card, at.row, log, trading, reply);
+    at.trading = on_card(table, &transaction, trading, reply);
 }
 
 /// The card is gone at any stage.
 fn stage_gone<'s>(table: &mut Table<'s>, stage: Stage<'s>) -> Stage<'s>
-    requires fits { (objects : Entries) × (held : Option ReadCard) × StageFits table.old objects held stage }
+    requires fits { (held : Option ReadCard) × StageFits table.old held stage }
     requires waits { stage_next stage ≡ next.ToCard }
-    ensures stands { (objects : Entries) (held : Option ReadCard) (before : List LoggedRow) (rest : List Reply → Standing Mark)
-        → StageGoes table.old objects held stage.entry before rest
-        → StageGoes table.new objects held result before (λ later. rest (CardGone ∷ later)) }
+    ensures stands { (held : Option ReadCard) (before : List LoggedRow) (rest : List Reply → Standing Mark)
+        → StageGoes table.old held stage.entry before rest
+        → StageGoes table.new held result before (λ later. rest (CardGone ∷ later)) }
     ensures same { deal_of table.new ≡ deal_of table.old }
     ensures nearer { stage_rank table.new result < stage_rank table.old stage.entry }
-    ensures fits { (objects : Entries) (held : Option ReadCard) → StageFits table.old objects held stage.entry → StageFits table.new objects held result }
+    ensures fits { (held : Option ReadCard) → StageFits table.old held stage.entry → StageFits table.new held result }
     ensures ended { stage_next result ≡ next.Ended }
 {
     match stage {
-        Stage::Opening(state) => Stage::Opening(opening::on_gone(state)),
+        Stage::Opening(state) => Stage::Opening(cut_off(state)),
         Stage::Trading(at) => {
             let AtTrading { row, trading } = at;
             let trading = on_gone(table, trading);
@@ -292,31 +288,29 @@ fn stage_gone<'s>(table: &mut Table<'s>, stage: Stage<'s>) -> Stage<'s>
 /// The host's reply, or its silence, at the stage that waits for it.
 fn stage_heard<'s>(
     table: &mut Table<'s>,
-    terminal: &mut Env,
     held: &HeldCard,
     stage: Stage<'s>,
     reply: Option<&[u8]>,
 ) -> Stage<'s>
     requires deal { IsDeal (deal_of table.old) }
-    requires fits { StageFits table.old terminal.old held.now stage }
+    requires fits { StageFits table.old held.now stage }
     requires waits { stage_next stage ≡ next.ToHost }
     ensures stands { (log : List LoggedRow) (rest : List Reply → Standing Mark)
-        → StageGoes table.old terminal.old held.now stage.entry log rest
-        → StageGoes table.new terminal.new held.now result log (λ later. rest (from_host (option_map (λ reply. reply.now) reply.entry) ∷ later)) }
+        → StageGoes table.old held.now stage.entry log rest
+        → StageGoes table.new held.now result log (λ later. rest (from_host (option_map (λ reply. reply.now) reply.entry) ∷ later)) }
     ensures same { deal_of table.new ≡ deal_of table.old }
     ensures nearer { stage_rank table.new result < stage_rank table.old stage.entry }
-    ensures fits { StageFits table.new terminal.new held.now result }
+    ensures fits { StageFits table.new held.now result }
 {
     match stage {
         Stage::Opening(_) => unreachable!(),
-        Stage::Trading(at) => Stage::Trading(trading_heard(table, terminal, held, at, reply)),
+        Stage::Trading(at) => Stage::Trading(trading_heard(table, held, at, reply)),
     }
 }
 
 /// The host's reply, or its silence, once the card is read.
 fn trading_heard<'s>(
     table: &mut Table<'s>,
-    terminal: &mut Env,
     held: &HeldCard,
     at: AtTrading<'s>,
     reply: Option<&[u8]>,
@@ -335,6 +329,13 @@ fn trading_heard<'s>(
         unreachable!();
     };
     let AtTrading { row, trading } = at;
-    let trading = on_host(table, terminal, card, row, trading, reply);
+    let transaction = Transaction {
+        settings: table.settings,
+        purchase: table.purchase,
+        row,
+        card,
+        log: &[],
+    };
+    let trading = on_host(table, &transaction, trading, reply);
     AtTrading { row, trading }
 }

@@ -13,21 +13,21 @@ use Rattle.terminal_state.specs.Scripts.{templates}
 pub before_next-returns-in-Done-clause-stands : goal.before_next-returns-in-Done-clause-stands
 before_next-returns-in-Done-clause-stands t c = λ marks log course rest begins leads.
     c.run_before.ensures.stands (HasRunBefore c.in-Done.found ∷ marks) log rest
-    (left_next c.args.table.now _ c.args.card.now (cut_off marks) step.Script marks (HasRunBefore c.in-Done.found ∷ marks) log course
-    (λ found. scripts_before (trade_of c.args.table.now c.args.row.now c.args.card.now) c.args.table.now.reply (drop c.args.index (templates 0x71 c.args.table.now.reply.scripts)) (HasRunBefore found ∷ marks))
+    (left_next c.args.table.now _ c.args.transaction.now.card.now (cut_off marks) step.Script marks (HasRunBefore c.in-Done.found ∷ marks) log course
+    (λ found. scripts_before (trade_of c.args.transaction.now) c.args.table.now.reply (drop c.args.index (templates 0x71 c.args.table.now.reply.scripts)) (HasRunBefore found ∷ marks))
     c.in-Done.found rest (c.has_run_before.ensures.marks marks begins.tied) refl begins (rw c.in-Done.is at leads))
 
 pub run_before-returns-in-Some-clause-stands : goal.run_before-returns-in-Some-clause-stands
 run_before-returns-in-Some-clause-stands t c = λ marks log rest begins.
     c.before_next.ensures.stands marks log (template_ran c.in-Some.template.now) rest
-    (script_begins c.args.table.now (trade_of c.args.table.now c.args.row.now c.args.card.now) c.args.table.now.reply _ (drop (c.args.index + 1) (templates 0x71 c.args.table.now.reply.scripts)) c.in-Some.template.now marks log rest
+    (script_begins c.args.table.now (trade_of c.args.transaction.now) c.args.table.now.reply _ (drop (c.args.index + 1) (templates 0x71 c.args.table.now.reply.scripts)) c.in-Some.template.now marks log rest
     (drop_some _ c.args.index c.in-Some.template.now (sym c.in-Some.ensures.template)) begins)
     c.begin-next.ensures.leads
 
 pub run_before-returns-in-None-clause-stands : goal.run_before-returns-in-None-clause-stands
 run_before-returns-in-None-clause-stands t c = λ marks log rest begins.
     c.begin_second.ensures.stands marks log rest
-    (scripts_end c.args.table.now (trade_of c.args.table.now c.args.row.now c.args.card.now) c.args.table.now.reply c.kind_for-asked.result _ marks log rest
+    (scripts_end c.args.table.now (trade_of c.args.transaction.now) c.args.table.now.reply c.kind_for-asked.result _ marks log rest
     (drop_none _ c.args.index (sym c.in-None.ensures.template)) c.kind_for-asked.ensures begins)
 
 pub run_before-returns-in-Some-clause-few : goal.run_before-returns-in-Some-clause-few

@@ -12,7 +12,7 @@ use Rattle.terminal_state.specs.Scripts.{templates}
 pub returns-clause-stands : goal.returns-clause-stands
 returns-clause-stands c = λ before now rest stands.
     c.before_next.ensures.stands stands.marks now (λ later. rest_of c.args.state.running (c.args.reply.now ∷ later)) _
-    (left_taken c.args.table.now c.args.card.now (cut_off stands.marks) step.Script stands.marks before now (rest_of c.args.state.running)
-    (λ found. scripts_before (trade_of c.args.table.now c.args.row.now c.args.card.now) c.args.table.now.reply (drop c.args.state.next (templates 0x71 c.args.table.now.reply.scripts)) (HasRunBefore found ∷ stands.marks))
+    (left_taken c.args.table.now c.args.transaction.now.card.now (cut_off stands.marks) step.Script stands.marks before now (rest_of c.args.state.running)
+    (λ found. scripts_before (trade_of c.args.transaction.now) c.args.table.now.reply (drop c.args.state.next (templates 0x71 c.args.table.now.reply.scripts)) (HasRunBefore found ∷ stands.marks))
     c.args.table.now.command.items rest stands.passed stands.tied stands.read stands.shows c.args.reply.now)
     (run_shifted (rest_of c.args.state.running) c.args.reply.now _ (c.take-gone_on.ensures.leads (rest_of c.args.state.running) [] (λ later. refl)))

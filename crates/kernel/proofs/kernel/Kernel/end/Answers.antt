@@ -12,7 +12,7 @@ use Rattle.terminal_state.specs.Marks.{MomentData}
 pub returns-clause-ends : goal.returns-clause-ends
 returns-clause-ends c =
     let i = c.self.inside in
-    let k : KernelData = record { table = i.table; objects = i.objects; card = i.card; stage = i.stage; taken = i.taken; is_spent = i.is_spent } in
+    let k : KernelData = record { table = i.table; card = i.card; stage = i.stage; taken = i.taken; is_spent = i.is_spent } in
     let ending = c.ending_of-ending.result in
     let given : c.end_record.result ≡ shown (end_with (deal_in k) ending i.card i.table.moment) =
     c.end_record.ensures

@@ -7,30 +7,30 @@ use Rattle.kernel.proofs.Took.{kernel_took, not_spent}
 use Rattle.kernel.proofs.kernel.Kernel.take_gone.Goals as goal
 
 pub returns-clause-fresh : goal.returns-clause-fresh
-returns-clause-fresh c = not_spent (record { table = c.self.inside.table; objects = c.self.inside.objects; card = c.self.inside.card; stage = c.self.inside.stage; taken = c.self.inside.taken; is_spent = c.self.inside.is_spent }) next.ToCard c.self.invariant (ap next_of c.self.view_is ∙ c.requires.waits) (λ is. cc)
+returns-clause-fresh c = not_spent (record { table = c.self.inside.table; card = c.self.inside.card; stage = c.self.inside.stage; taken = c.self.inside.taken; is_spent = c.self.inside.is_spent }) next.ToCard c.self.invariant (ap next_of c.self.view_is ∙ c.requires.waits) (λ is. cc)
 
 pub returns-clause-stands : goal.returns-clause-stands
 returns-clause-stands c = λ replies is.
     let i = c.self.inside in
-    let k : KernelData = record { table = i.table; objects = i.objects; card = i.card; stage = i.stage; taken = i.taken; is_spent = i.is_spent } in
+    let k : KernelData = record { table = i.table; card = i.card; stage = i.stage; taken = i.taken; is_spent = i.is_spent } in
     kernel_took k _ (CardGone) (λ before. before) replies c.stage_gone-self-inside.ensures.same c.saturating_add-self-inside.ensures
-    (λ before rest goes. c.stage_gone-self-inside.ensures.stands i.objects i.card before rest (rw c.replace-stage.ensures.value goes))
+    (λ before rest goes. c.stage_gone-self-inside.ensures.stands i.card before rest (rw c.replace-stage.ensures.value goes))
     (rw (← c.self.view_is) at is)
 
 pub stage_gone-self-inside-requires-clause-fits : goal.stage_gone-self-inside-requires-clause-fits
-stage_gone-self-inside-requires-clause-fits c = (c.self.inside.objects, c.self.inside.card, rw c.replace-stage.ensures.value c.self.invariant.stage)
+stage_gone-self-inside-requires-clause-fits c = (c.self.inside.card, rw c.replace-stage.ensures.value c.self.invariant.stage)
 
 pub invariant_of-self : goal.invariant_of-self
 invariant_of-self c = record {
   deal = rw c.stage_gone-self-inside.ensures.same c.self.invariant.deal;
-  stage = c.stage_gone-self-inside.ensures.fits c.self.inside.objects c.self.inside.card (rw c.replace-stage.ensures.value c.self.invariant.stage);
+  stage = c.stage_gone-self-inside.ensures.fits c.self.inside.card (rw c.replace-stage.ensures.value c.self.invariant.stage);
   over = λ spent. let fresh = returns-clause-fresh c in cc;
 }
 
 pub returns-clause-leaves : goal.returns-clause-leaves
 returns-clause-leaves c = λ replies is.
     let i = c.self.inside in
-    let k : KernelData = record { table = i.table; objects = i.objects; card = i.card; stage = i.stage; taken = i.taken; is_spent = i.is_spent } in
+    let k : KernelData = record { table = i.table; card = i.card; stage = i.stage; taken = i.taken; is_spent = i.is_spent } in
     rw (← c.self.view_is)
     (gone_leaves k _ replies c.self.invariant (rw (← c.self.view_is) at is) (ap next_of c.self.view_is ∙ c.requires.waits) c.stage_gone-self-inside.ensures.same
     (invariant_of-self c) (returns-clause-stands c replies is) c.stage_gone-self-inside.ensures.ended)

@@ -5,12 +5,12 @@ use Rattle.kernel.proofs.Took.{kernel_took, not_spent}
 use Rattle.kernel.proofs.kernel.Kernel.take_host.Goals as goal
 
 pub returns-clause-fresh : goal.returns-clause-fresh
-returns-clause-fresh c = not_spent (record { table = c.self.inside.table; objects = c.self.inside.objects; card = c.self.inside.card; stage = c.self.inside.stage; taken = c.self.inside.taken; is_spent = c.self.inside.is_spent }) next.ToHost c.self.invariant (ap next_of c.self.view_is ∙ c.requires.waits) (λ is. cc)
+returns-clause-fresh c = not_spent (record { table = c.self.inside.table; card = c.self.inside.card; stage = c.self.inside.stage; taken = c.self.inside.taken; is_spent = c.self.inside.is_spent }) next.ToHost c.self.invariant (ap next_of c.self.view_is ∙ c.requires.waits) (λ is. cc)
 
 pub returns-clause-stands : goal.returns-clause-stands
 returns-clause-stands c = λ replies is.
     let i = c.self.inside in
-    let k : KernelData = record { table = i.table; objects = i.objects; card = i.card; stage = i.stage; taken = i.taken; is_spent = i.is_spent } in
+    let k : KernelData = record { table = i.table; card = i.card; stage = i.stage; taken = i.taken; is_spent = i.is_spent } in
     kernel_took k _ (_) (λ before. before) replies c.stage_heard-self-inside.ensures.same c.saturating_add-self-inside.ensures
     (λ before rest goes. c.stage_heard-self-inside.ensures.stands before rest (rw c.replace-stage.ensures.value goes))
     (rw (← c.self.view_is) at is)

@@ -12,7 +12,7 @@ returns-in-Ask-clause-stands c = λ before rest goes.
 pub returns-in-Done-clause-stands : goal.returns-in-Done-clause-stands
 returns-in-Done-clause-stands c = λ before rest goes.
     let is : c.args.stage.now ≡ stages.Opening (openings.Read c.in-Opening-Read.at) = (let one = c.in-Opening-Read.is in let two = c.in-Opening-Read.field-0-is in cc) in
-    c.has_read.ensures.stands (λ later. rest (CardSaid c.args.reply.now c.args.log.now ∷ later)) (c.in-Done.ensures.stands before c.args.log.now rest (rw is at goes))
+    c.has_read-trading.ensures.stands (λ later. rest (CardSaid c.args.reply.now c.args.log.now ∷ later)) (c.in-Done.ensures.stands before c.args.log.now rest (rw is at goes))
 
 pub returns-in-Ended-clause-stands : goal.returns-in-Ended-clause-stands
 returns-in-Ended-clause-stands c = λ before rest goes.

@@ -2,7 +2,7 @@ use Rattle.std.proofs.Common.{◌≡◌, Some, option_map, sym, ap, ◌∙◌, s
 use Rattle.std.proofs.lemmas.Option.{same_Some}
 use Rattle.object_lists.specs.CardRead.{ReadCard}
 use Rattle.kernel.specs.Stages.{TradingStands}
-use Rattle.kernel.specs.Trades.{trade_of}
+use Rattle.terminal_state.specs.Table.{deal_of}
 use Rattle.kernel.proofs.kernel.taking.trading_said.Goals as goal
 
 pub returns-clause-stands : goal.returns-clause-stands
@@ -10,7 +10,7 @@ returns-clause-stands c = λ before rest goes.
     let at = c.args.at.now in
     let held : c.args.held.now ≡ Some c.in-Some.card.now = sym c.get.ensures ∙ ap (option_map (λ card. card.now)) c.in-Some.is in
     let same : goes.card ≡ c.in-Some.card.now = same_Some goes.card c.in-Some.card.now (sym goes.card_is ∙ held) in
-    let stands = subst (λ (card : ReadCard). TradingStands c.args.table.now (trade_of c.args.table.now at.row.now card) at.trading before rest) same goes.stands in
+    let stands = subst (λ (card : ReadCard). TradingStands c.args.table.now (record { deal = deal_of c.args.table.now; row = at.row.now; card = card }) at.trading before rest) same goes.stands in
     record {
       card = c.in-Some.card.now;
       card_is = held;

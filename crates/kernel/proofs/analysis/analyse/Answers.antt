@@ -1,0 +1,17 @@
+use Rattle.std.proofs.Common.{◌≡◌, refl, ◌∙◌, ◌∷◌}
+use Rattle.kernel.proofs.Analysing.{analysed}
+use Rattle.kernel.proofs.analysis.analyse.Goals as goal
+use Rattle.kernel.specs.Dialogue.{kind_wanted}
+use Rattle.terminal_state.specs.Marks.{HasAnalysed}
+use Rattle.kernel.specs.Trades.{trade_of}
+
+pub begin_first-requires : goal.begin_first-requires
+begin_first-requires c = rw c.has_analysed.ensures.scripts c.requires
+
+pub returns-clause-stands : goal.returns-clause-stands
+returns-clause-stands c = λ marks log rest begins.
+    let trade = trade_of c.args.transaction.now in
+    let asked : c.kind_wanted-asked.result ≡ kind_wanted trade marks =
+    c.kind_wanted-asked.ensures ∙ rw begins.tied refl in
+    c.begin_first.ensures.stands (HasAnalysed c.kind_wanted-asked.result ∷ marks) log rest
+    (analysed trade marks c.kind_wanted-asked.result log rest c.args.table.now _ begins asked (c.has_analysed.ensures.marks marks begins.tied))

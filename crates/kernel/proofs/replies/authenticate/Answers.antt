@@ -1,9 +1,0 @@
-use Rattle.std.proofs.Common.{refl, sym, ◌∙◌}
-use Rattle.kernel.specs.Trades.{trade_of}
-use Rattle.kernel.proofs.Hearing.{asks_authentication}
-use Rattle.kernel.proofs.replies.authenticate.Goals as goal
-
-pub returns-then-has_authentication-clause-stands : goal.returns-then-has_authentication-clause-stands
-returns-then-has_authentication-clause-stands c = λ marks log rest auth begins.
-    asks_authentication c.args.table.now _ (trade_of c.args.table.now c.args.row.now c.args.card.now) marks log rest c.in-Some.value.now begins (rw c.in-Some.is at auth)
-    (sym c.has_authentication.ensures ∙ c.if-has_authentication.true) c.authenticate_command.ensures refl refl

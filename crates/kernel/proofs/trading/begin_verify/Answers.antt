@@ -1,9 +1,0 @@
-use Rattle.cvm_list.specs.Begun.{cvm}
-use Rattle.kernel.specs.Dialogue.{verification}
-use Rattle.kernel.proofs.trading.begin_verify.Goals as goal
-
-pub returns-clause-stands : goal.returns-clause-stands
-unfolding verification
-returns-clause-stands c = λ marks rest begins.
-    c.verify_next.ensures.stands marks (cvm c.args.card.now c.args.table.now.settings.now c.args.table.now.purchase.now) rest
-    (record { passed = begins.passed; tied = begins.tied; read = begins.read }) c.begin-next.ensures.leads

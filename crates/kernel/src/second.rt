@@ -1,0 +1,103 @@
+//! Completion: the second GENERATE AC and what its cryptogram decides (EMV 4.3 Book 3 section 10.11).
+ghost use Rattle.std.specs.Prelude.{◌≡◌, ◌∷◌, ◌≤◌, ◌<◌, ◌+◌, List, length};
+ghost use Rattle.emv_dict.specs.declared.purchase.Logged.{Logged};
+ghost use Rattle.kernel.specs.Course.{Standing};
+ghost use Rattle.kernel.specs.Dialogue.{second, Trade, scripts_behind, decision};
+ghost use Rattle.kernel.specs.Rank.{trading_rank, bytes_in};
+ghost use Rattle.kernel.specs.Reply.{Reply, CardSaid};
+ghost use Rattle.kernel.specs.Stages.{TradingStands, Begins, HasRoom, scripts_left, behind_if, HasMessage};
+ghost use Rattle.kernel.specs.Trades.{trade_of};
+ghost use Rattle.kernel.specs.declared.stage.Trading.TheVariants as stage;
+ghost use Rattle.terminal_state.specs.Marks.{Mark, HasSecond};
+ghost use Rattle.terminal_state.specs.Table.{deal_of};
+
+use crate::issuer_scripts::run_behind;
+use crate::stage::{AtSecond, Trading};
+use crate::transaction::Transaction;
+use arrayvec::ArrayVec;
+use ber_tlv::Tag;
+use emv_dict::{Ac, Cause, Ending, Kind, Step};
+use online_step::{fill_list, read_ac, write_generate};
+use terminal_state::{Table, put_terminal};
+
+/// The object list of the second GENERATE AC (CDOL2).
+const SECOND_LIST: Tag = Tag(0x8d);
+
+/// The second GENERATE AC is asked.
+#[tactic(auto, unfolding(crate::specs::Dialogue::second))]
+pub(crate) fn begin_second<'s>(
+    table: &mut Table<'s>,
+    transaction: &Transaction<'_, 's>,
+    state: AtSecond,
+) -> Trading<'s>
+    requires room { HasRoom table.old (length (behind_if state.online table.old.reply.scripts)) }
+    ensures stands { (marks : List Mark) (log : List Logged) (rest : List Reply → Standing Mark)
+        → Begins table.old transaction.now.card.now marks rest (second (trade_of transaction.now) state.online state.asked (behind_if state.online table.old.reply.scripts) marks log)
+        → TradingStands table.new (trade_of transaction.now) result log rest }
+    ensures same { deal_of table.new ≡ deal_of table.old }
+    ensures few { trading_rank table.new.reply.scripts result ≤ 1 + bytes_in (behind_if state.online table.old.reply.scripts) }
+    ensures room { HasRoom table.new (scripts_left table.new.reply.scripts result) }
+    ensures asked { HasMessage table.new result }
+{
+    put_terminal(
+        &mut table.objects,
+        transaction.settings,
+        transaction.purchase,
+        transaction.row,
+        &table.moment,
+    );
+    let mut filled = ArrayVec::new();
+    if fill_list(SECOND_LIST, transaction.card, &table.objects, &mut filled) {
+        write_generate(state.asked, &filled, &mut table.command);
+        Trading::Second(state)
+    } else {
+        Trading::Over(Ending::Terminated(Step::Second, Cause::Dol(SECOND_LIST)))
+    }
+}
+
+/// The card's answer to the second GENERATE AC.
+pub(crate) fn on_second<'s>(table: &mut Table<'s>, state: AtSecond, reply: &[u8]) -> Trading<'s>
+    requires room { HasRoom table.old (length (behind_if state.online table.old.reply.scripts)) }
+    ensures stands { (trade : Trade) (before now : List Logged) (rest : List Reply → Standing Mark)
+        → TradingStands table.old trade (stage.Second state) before rest
+        → TradingStands table.new trade result now (λ later. rest (CardSaid reply.now now ∷ later)) }
+    ensures same { deal_of table.new ≡ deal_of table.old }
+    ensures nearer { trading_rank table.new.reply.scripts result < 1 + bytes_in (behind_if state.online table.old.reply.scripts) }
+    ensures room { HasRoom table.new (scripts_left table.new.reply.scripts result) }
+    ensures asked { HasMessage table.new result }
+{
+    match read_ac(reply, state.asked, true) {
+        Ok(ac) => finish(table, state.online, ac),
+        Err(cause) => Trading::Over(Ending::Terminated(Step::Second, cause)),
+    }
+}
+
+/// The second cryptogram settles the ending, and scripts may run behind it.
+fn finish<'s>(table: &mut Table<'s>, online: bool, ac: Ac) -> Trading<'s>
+    requires room { HasRoom table.old (length (behind_if online table.old.reply.scripts)) }
+    ensures stands { (trade : Trade) (marks : List Mark) (log : List Logged) (rest : List Reply → Standing Mark)
+        → Begins table.old trade.card marks rest (scripts_behind (decision online ac.kind) (behind_if online table.old.reply.scripts) (HasSecond ac ∷ marks) log)
+        → TradingStands table.new trade result log rest }
+    ensures same { deal_of table.new ≡ deal_of table.old }
+    ensures few { trading_rank table.new.reply.scripts result ≤ bytes_in (behind_if online table.old.reply.scripts) }
+    ensures room { HasRoom table.new (scripts_left table.new.reply.scripts result) }
+    ensures asked { HasMessage table.new result }
+{
+    let ending = ending_of(online, &ac);
+    table.moment.has_second(ac);
+    if online {
+        run_behind(table, ending, 0)
+    } else {
+        Trading::Over(ending)
+    }
+}
+
+/// What a cryptogram ends with.
+fn ending_of(online: bool, ac: &Ac) -> Ending
+    ensures { result ≡ decision online ac.now.kind }
+{
+    match ac.kind {
+        Kind::Tc => Ending::Approved { online },
+        Kind::Aac | Kind::Arqc => Ending::Declined { online },
+    }
+}
