@@ -4,3 +4,4 @@ mod Finding
 mod Fits
 mod Rowing
 pub mod Sendings
+mod Waits

@@ -6,3 +6,4 @@ pub mod StoreRow
 pub mod SeenShelf
 pub mod Sending
 pub mod Fitting
+pub mod Waits

@@ -1,4 +1,4 @@
-ghost use Rattle.std.specs.Prelude.{◌≡◌, ◌<◌, ◌≤◌, true, false, None, Some, length, IsTrue};
+ghost use Rattle.std.specs.Prelude.{◌≡◌, ◌<◌, ◌≤◌, ◌++◌, ◌∷◌, [], true, false, None, Some, length, IsTrue};
 ghost use Rattle.emv_ports.specs.Cut.{is_place};
 ghost use Rattle.capture_store.specs.Calls.{Adds};
 ghost use Rattle.capture_store.specs.SeenShelf.{ShelfOn, IsShelfOff, is_on};
@@ -7,6 +7,7 @@ ghost use Rattle.capture_store.specs.StoreRow.{StoreRow, call_by};
 
 use super::*;
 use emv_ports::{Gone, MemoryPages, Pages, RoughPages, Tear, TearAt};
+use std::alloc::AllocError;
 use std::process::Abort;
 
 /// The bytes of the first page that holds the state.
@@ -230,5 +231,46 @@ fn a_tear_at_any_place_leaves_the_list_before_the_call_or_behind_it(rt: HostRunt
             check(&rt, RoughPages::blank(0), change, at);
             check(&rt, RoughPages::blank(4660), change, at);
         }
+    }
+}
+
+/// One message more waits.
+fn wait(rt: &impl Abort, waiting: &mut Waiting, message: &[u8])
+    requires { length message.now ≤ 2048 }
+    ensures { waiting.new.messages ≡ waiting.old.messages ++ message.now ∷ [] }
+{
+    match waiting.reserve() {
+        Ok(()) => waiting.push(message),
+        Err(AllocError) => panic!(rt; "no memory"),
+    }
+}
+
+#[test]
+fn what_waits_keeps_its_length_and_its_order(rt: HostRuntime) {
+    let mut waiting = Waiting::new(rt.alloc());
+    assert_eq!(rt; waiting.len(), 0);
+    wait(&rt, &mut waiting, &[0x11, 0x12]);
+    wait(&rt, &mut waiting, &[0x22; 2048]);
+    wait(&rt, &mut waiting, &[]);
+    wait(&rt, &mut waiting, &[0x33]);
+    assert_eq!(rt; waiting.len(), 4);
+    assert_eq!(rt; waiting.at(0), &[0x11, 0x12][..]);
+    assert_eq!(rt; waiting.at(1), &[0x22; 2048][..]);
+    assert_eq!(rt; waiting.at(2), &[][..]);
+    assert_eq!(rt; waiting.at(3), &[0x33][..]);
+}
+
+/// The room for the bytes grows more than once, and each message is found behind it.
+#[test]
+fn what_waits_is_found_where_the_room_has_grown(rt: HostRuntime) {
+    let mut waiting = Waiting::new(rt.alloc());
+    for count in 0..=255 {
+        wait(&rt, &mut waiting, &[count; 100][..usize::from(count % 101)]);
+    }
+    assert_eq!(rt; waiting.len(), 256);
+    for count in 0..=255 {
+        let index = usize::from(count);
+        assert!(rt; index < waiting.len());
+        assert_eq!(rt; waiting.at(index), &[count; 100][..index % 101]);
     }
 }
