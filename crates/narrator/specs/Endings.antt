@@ -1,5 +1,5 @@
 -- Endings in words.
-use Rattle.std.specs.Prelude.{ℕ, ◌+◌, ◌-◌, ◌*◌, ◌/◌, ◌%◌, ◌^◌, ◌==◌, Bool, true, false, not, ◌&&◌, ◌||◌, nat_le, if◌then◌else◌, min, List, [], ◌++◌, length, map, slice_index, codes, Option, Some, None, option_map, unwrap_or}
+use Rattle.std.specs.Prelude.{ℕ, zero, suc, ◌+◌, ◌-◌, ◌*◌, ◌/◌, ◌%◌, ◌^◌, ◌==◌, Bool, true, false, not, ◌&&◌, ◌||◌, nat_le, if◌then◌else◌, min, List, [], ◌++◌, length, map, slice_index, take, drop, codes, Option, Some, None, option_map, unwrap_or}
 use Rattle.std.specs.List.{fold, list_all}
 use Rattle.std.specs.Int.{to_be_bytes, w32}
 use Rattle.std.specs.Str.{bytes_eq}
@@ -14,10 +14,11 @@ use Rattle.emv_dict.specs.declared.ending.Kind.{Kind}
 use Rattle.action_words.specs.Told.{reason_words}
 use Rattle.action_words.specs.declared.reason.Reason.{Reason}
 use Rattle.object_words.specs.Results.{results_words}
+use Rattle.object_words.specs.Rules.{rule_words}
 use Rattle.exchange_words.specs.Statuses.{status_words, kind_name}
 use Rattle.exchange_words.specs.declared.lane.LaneState.{LaneState}
 use Rattle.report_lines.specs.Reading.{EndingData, Approved, Declined, Terminated, Cut, FieldsData}
-use Rattle.narrator.specs.declared.phrases.TheConstants.{ENDED_AT, PULLED_OUT, CARD_ANSWERED, ASKED_FOR, ALL_CARRIED_OUT, NO_SCRIPT}
+use Rattle.narrator.specs.declared.phrases.TheConstants.{ENDED_AT, PULLED_OUT, CARD_ANSWERED, ASKED_FOR, ALL_CARRIED_OUT, NO_SCRIPT, NO_RULE}
 
 -- a lower-case hexadecimal digit
 abbrev pub is_hex_digit : ℕ → Bool
@@ -166,7 +167,7 @@ script_result kind command =
     else text NO_SCRIPT.now
 
 -- the result of a script: five bytes as one number, the first half byte its kind (EMV 4.3 Book 4 Annex A5)
-abbrev pub script_words : ℕ → List Piece
+unfoldable pub script_words : ℕ → List Piece
 script_words bytes =
     let first = bytes / 2 ^ 32 % 256 in
     line 1 ++ text (codes "script ") ++ hex (to_be_bytes w32 (bytes % 2 ^ 32)) ++ script_result (first / 16) (first % 16)
@@ -182,3 +183,58 @@ tsi_words (Some status) = line 1 ++ text (codes "TSI ") ++ performed_words statu
 abbrev pub end_bits : FieldsData → Bool → List Piece
 end_bits f true = []
 end_bits f false = tvr_words (hex_number f.tvr) ++ tsi_words (hex_number f.tsi)
+
+-- a rule and its outcome
+unfoldable pub rule_and_outcome : ℕ → ℕ → ℕ → List Piece
+rule_and_outcome method condition outcome = rule_words method condition ++ outcome_words outcome
+
+-- the rule that was performed
+abbrev pub performed_rule : ℕ → List Piece
+performed_rule cvm =
+    if cvm / 65536 % 256 == 0x3F then text NO_RULE.now else rule_and_outcome (cvm / 65536 % 256) (cvm / 256 % 256) (cvm % 256)
+
+abbrev pub reached_words : ℕ → List Piece
+reached_words cvm = (if cvm == 0 then text (codes "not reached") else performed_rule cvm)
+
+-- the result of cardholder verification: three bytes as one number
+unfoldable pub verification_words : ℕ → List Piece
+verification_words cvm = line 1 ++ text (codes "CVM ") ++ reached_words cvm
+
+abbrev pub cvm_words : Option ℕ → List Piece
+cvm_words None = []
+cvm_words (Some cvm) = verification_words cvm
+
+abbrev pub script_told : Option ℕ → List Piece
+script_told None = []
+script_told (Some bytes) = script_words bytes
+
+-- the results of scripts, ten digits each; there are `most` of them at most
+unfoldable pub scripts_within : ℕ → List ℕ → List Piece
+scripts_within zero text = []
+scripts_within (suc most) text =
+    if nat_le 10 (length text) then script_told (hex_number (take 10 text)) ++ scripts_within most (drop 10 text) else []
+
+abbrev pub scripts_words : List ℕ → List Piece
+scripts_words text = scripts_within (length text) text
+
+abbrev pub is_nothing : Option ℕ → Bool
+is_nothing None = false
+is_nothing (Some number) = number == 0
+
+-- no step has set anything
+abbrev pub is_untouched : FieldsData → Bool
+is_untouched f =
+    is_nothing (hex_number f.tvr) && (is_nothing (hex_number f.tsi) && (is_nothing (hex_number f.cvm)
+    && (bytes_eq f.arc (codes "--") && bytes_eq f.scripts (codes "-"))))
+
+-- the fields of an end line that some step has set
+unfoldable pub set_fields : FieldsData → Bool → List Piece
+set_fields f brief = end_bits f brief ++ cvm_words (hex_number f.cvm) ++ code_words f.arc ++ scripts_words f.scripts
+
+-- the fields of an end line
+abbrev pub end_fields : FieldsData → Bool → List Piece
+end_fields f brief = (if is_untouched f then [] else set_fields f brief)
+
+-- an end line, behind what the lane's lines before it left
+abbrev pub end_words : LaneState → EndingData → FieldsData → Bool → List Piece
+end_words lane ending fields brief = ending_words lane ending ++ end_fields fields brief

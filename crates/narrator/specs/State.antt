@@ -4,7 +4,8 @@ use Rattle.exchange_words.specs.declared.lane.LaneState.{LaneState}
 use Rattle.exchange_words.specs.Lanes.{fresh, begun, kept, with_code}
 use Rattle.report_lines.specs.Bytes.{bytes_told}
 use Rattle.report_lines.specs.Reading.{LineData, WhatData, WhoseData, Lane, Settlement, Audit, Report, Power, PowerTorn, PowerCanned, Sent, Given, ToHost, FromHost, End, Lost}
-use Rattle.narrator.specs.declared.cards.CardSeen.{CardSeen}
+use Rattle.power_words.specs.Cards.{kept_cards}
+use Rattle.power_words.specs.declared.cards.CardSeen.{CardSeen}
 use Rattle.narrator.specs.declared.narrator.Narrator.{Narrator}
 
 -- what is kept: of 16 lanes and, behind them, of the card of the audit; and the cards whose counters were seen
@@ -26,6 +27,10 @@ changed change state place = record state { lanes = changed_at change state.lane
 -- a purchase of this number has ended
 abbrev pub ended : ℕ → LaneState → LaneState
 ended number lane = record lane { last_end = number }
+
+-- a card is powered up: the lane begins anew, and the card's counters are kept
+abbrev pub powered : List ℕ → List ℕ → StateData → ℕ → StateData
+powered card apps state place = record { lanes = (changed begun state place).lanes; cards = kept_cards state.cards card apps }
 
 abbrev pub TurnsAt : (LaneState → LaneState → Type 0) → List LaneState → ℕ → Option LaneState → List LaneState → Type 0
 TurnsAt Turned lanes place None now = now ≡ lanes
@@ -72,7 +77,7 @@ Kept _ old place new = new ≡ old
 
 -- what a line of a lane or of the audit leaves
 abbrev pub LeavesAt : WhatData → StateData → ℕ → StateData → Type 0
-LeavesAt (Power card apps) old place new = new.lanes ≡ (changed begun old place).lanes
+LeavesAt (Power card apps) old place new = new ≡ powered card apps old place
 LeavesAt (Sent text) old place new = TurnsBy (Sent text) (bytes_told text) old place new
 LeavesAt (Given text) old place new = TurnsBy (Given text) (bytes_told text) old place new
 LeavesAt (FromHost text) old place new = TurnsBy (FromHost text) (bytes_told text) old place new

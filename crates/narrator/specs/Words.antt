@@ -4,11 +4,12 @@ use Rattle.word_lines.specs.Lines.{WordsData}
 use Rattle.word_lines.specs.Pieces.{Piece, Tells, line, text, number, lines_of}
 use Rattle.explain_words.specs.Words.{word_in}
 use Rattle.explain_words.specs.declared.codes.TheConstants.{REFUSALS}
-use Rattle.report_lines.specs.Reading.{LineData, WhatData, WhoseData, line_in, Lane, Settlement, Audit, Report, Power, PowerTorn, PowerCanned, Sent, Given, Torn, ToHost, FromHost, End, Gone, NoReply, Lost, Object, Refused, Differs, ReadEnded}
+use Rattle.report_lines.specs.Reading.{LineData, WhatData, WhoseData, EndingData, FieldsData, line_in, Lane, Settlement, Audit, Report, Power, PowerTorn, PowerCanned, Sent, Given, Torn, ToHost, FromHost, End, Gone, NoReply, Lost, Object, Refused, Differs, ReadEnded}
 use Rattle.report_lines.specs.Bytes.{bytes_told}
 use Rattle.exchange_words.specs.declared.lane.LaneState.{LaneState}
 use Rattle.exchange_words.specs.Lanes.{torn_words}
-use Rattle.narrator.specs.Endings.{break_words, hex_number}
+use Rattle.power_words.specs.Cards.{power_words}
+use Rattle.narrator.specs.Endings.{break_words, end_words, hex_number}
 use Rattle.narrator.specs.State.{StateData, Leaves, audit_place}
 use Rattle.narrator.specs.declared.phrases.TheConstants.{POWER_TORN, POWER_CANNED, CARD_GONE, NO_REPLY, PURCHASE_LOST, TRACE_DIFFERS, OR_MISSING}
 
@@ -67,25 +68,30 @@ abbrev pub torn_at : Option LaneState → List Piece
 torn_at None = []
 torn_at (Some lane) = torn_words lane.command.items
 
+-- a lane's purchase ended
+abbrev pub end_at : Option LaneState → EndingData → FieldsData → Bool → List Piece
+end_at None ending fields brief = []
+end_at (Some lane) ending fields brief = end_words lane ending fields brief
+
 -- a line of a lane or of the audit
-abbrev pub at_lane : StateData → ℕ → WhatData → Option (List Piece)
-at_lane state place (Power card apps) = None
-at_lane state place (Sent text) = of_bytes (bytes_told text)
-at_lane state place (Given text) = of_bytes (bytes_told text)
-at_lane state place (ToHost text) = of_bytes (bytes_told text)
-at_lane state place (FromHost text) = of_bytes (bytes_told text)
-at_lane state place Torn = Some (torn_at (slice_get state.lanes place))
-at_lane state place (End number ending fields) = None
-at_lane state place what = Some (unwrap_or (of_talk what) [])
+abbrev pub at_lane : Bool → StateData → ℕ → WhatData → Option (List Piece)
+at_lane brief state place (Power card apps) = Some (power_words state.cards card apps)
+at_lane brief state place (Sent text) = of_bytes (bytes_told text)
+at_lane brief state place (Given text) = of_bytes (bytes_told text)
+at_lane brief state place (ToHost text) = of_bytes (bytes_told text)
+at_lane brief state place (FromHost text) = of_bytes (bytes_told text)
+at_lane brief state place Torn = Some (torn_at (slice_get state.lanes place))
+at_lane brief state place (End number ending fields) = Some (end_at (slice_get state.lanes place) ending fields brief)
+at_lane brief state place what = Some (unwrap_or (of_talk what) [])
 
 abbrev pub by_whose : Bool → StateData → WhoseData → WhatData → Option (List Piece)
-by_whose brief state (Lane lane) what = at_lane state lane what
-by_whose brief state (Audit card) what = at_lane state audit_place what
+by_whose brief state (Lane lane) what = at_lane brief state lane what
+by_whose brief state (Audit card) what = at_lane brief state audit_place what
 by_whose brief state (Settlement lane) what = of_settlement what
 by_whose brief state Report what = of_report brief what
 
 -- what is told of a line behind this state, `brief` or whole; none where this does not say it: of the bytes of commands,
--- answers, messages and objects, of counters, and of the ends of purchases
+-- answers, messages and objects
 abbrev pub said : Bool → StateData → LineData → Option (List Piece)
 said brief state line = by_whose brief state line.whose line.what
 

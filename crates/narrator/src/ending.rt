@@ -113,6 +113,7 @@ fn tag_name(tag: u32) -> Option<(&'static [u8], Form)>
 }
 
 /// Tells the name of a tag, whose number this is.
+#[tactic(auto, using(word_lines::proofs::Telling::telling))]
 fn tell_tag_name(out: &mut WordLines, number: u64)
     ensures { Tells out.old out.new (spec.tag_words number) }
 {
@@ -123,6 +124,7 @@ fn tell_tag_name(out: &mut WordLines, number: u64)
 }
 
 /// Tells the word of a kind of cryptogram.
+#[tactic(auto, using(word_lines::proofs::Telling::telling))]
 fn tell_kind(out: &mut WordLines, number: u64)
     ensures { Tells out.old out.new (spec.kind_words number) }
 {
@@ -143,6 +145,7 @@ fn names_tag(cause: &[u8]) -> bool
 }
 
 /// Tells what a cause names in words: a status, a kind, or a tag.
+#[tactic(auto, using(word_lines::proofs::Telling::telling))]
 fn tell_detail_words(out: &mut WordLines, step: &[u8], cause: &[u8], number: u64)
     ensures { Tells out.old out.new (spec.detail_words step.now cause.now (Some number)) }
 {
@@ -166,6 +169,7 @@ fn tell_named(out: &mut WordLines, step: &[u8], cause: &[u8], number: Option<u64
 }
 
 /// Tells what a cause names.
+#[tactic(auto, using(word_lines::proofs::Telling::telling))]
 fn tell_detail(out: &mut WordLines, step: &[u8], cause: &[u8], detail: &[u8])
     ensures { Tells out.old out.new (spec.in_brackets step.now cause.now detail.now) }
 {
@@ -196,6 +200,7 @@ fn tell_cause(out: &mut WordLines, cause: &[u8])
 }
 
 /// Tells that the terminal ended it, in a step and for a cause.
+#[tactic(auto, using(word_lines::proofs::Telling::telling))]
 fn tell_terminated(out: &mut WordLines, step: &[u8], cause: &[u8], detail: &[u8])
     ensures { Tells out.old out.new (spec.terminated_words step.now cause.now detail.now) }
 {
@@ -208,6 +213,7 @@ fn tell_terminated(out: &mut WordLines, step: &[u8], cause: &[u8], detail: &[u8]
 }
 
 /// Tells an ending that is no decision.
+#[tactic(auto, using(word_lines::proofs::Telling::telling))]
 pub(crate) fn tell_break(out: &mut WordLines, ending: &Ending<'_>)
     ensures { Tells out.old out.new (spec.break_words (seen_ending ending.now)) }
 {
@@ -227,6 +233,7 @@ pub(crate) fn tell_break(out: &mut WordLines, ending: &Ending<'_>)
 }
 
 /// Tells what the card answered.
+#[tactic(auto, using(word_lines::proofs::Telling::telling))]
 fn tell_answered(out: &mut WordLines, answered: Option<Kind>)
     ensures { Tells out.old out.new (spec.answered_words answered) }
 {
@@ -237,6 +244,7 @@ fn tell_answered(out: &mut WordLines, answered: Option<Kind>)
 }
 
 /// Tells what was asked for last, why, and what was answered.
+#[tactic(auto, using(word_lines::proofs::Telling::telling))]
 fn tell_decision(out: &mut WordLines, lane: &LaneState, asked: Kind, reason: Reason)
     ensures { Tells out.old out.new (spec.decided_words asked reason lane.now) }
 {
@@ -266,6 +274,7 @@ fn tell_ending(out: &mut WordLines, lane: &LaneState, ending: &Ending<'_>)
 
 /// Tells what was performed by its place among 16 bits, where it is set, behind a comma where others were told
 /// before; whether any was told.
+#[tactic(auto, using(word_lines::proofs::Telling::telling))]
 fn tell_performed_bit(out: &mut WordLines, status: u64, place: u8, told: bool) -> bool
     requires { place < 16 }
     ensures words { Tells out.old out.new
@@ -323,6 +332,7 @@ fn tell_performed(out: &mut WordLines, status: u64)
 }
 
 /// Tells whether cardholder verification was successful.
+#[tactic(auto, using(word_lines::proofs::Telling::telling))]
 fn tell_outcome(out: &mut WordLines, outcome: u8)
     ensures { Tells out.old out.new (spec.outcome_words outcome) }
 {
@@ -332,19 +342,45 @@ fn tell_outcome(out: &mut WordLines, outcome: u8)
     }
 }
 
-/// Tells the result of cardholder verification.
-fn tell_verification(out: &mut WordLines, cvm: u64) {
-    out.line(1);
-    out.text(b"CVM ");
+/// Tells a rule of cardholder verification, and its outcome.
+fn tell_rule_and_outcome(out: &mut WordLines, method: u8, condition: u8, outcome: u8)
+    ensures { Tells out.old out.new (spec.rule_and_outcome method condition outcome) }
+{
+    tell_rule(out, method, condition);
+    tell_outcome(out, outcome);
+}
+
+/// Tells the rule of cardholder verification that was performed, and its outcome.
+fn tell_performed_rule(out: &mut WordLines, cvm: u64)
+    ensures { Tells out.old out.new (spec.performed_rule cvm) }
+{
     let method = (cvm / 65536 % 256) as u8;
-    if cvm == 0 {
-        out.text(b"not reached");
-    } else if method == 0x3f {
+    if method == 0x3f {
         out.text(NO_RULE);
     } else {
-        tell_rule(out, method, (cvm / 256 % 256) as u8);
-        tell_outcome(out, (cvm % 256) as u8);
+        tell_rule_and_outcome(out, method, (cvm / 256 % 256) as u8, (cvm % 256) as u8);
     }
+}
+
+/// Tells the rule that was performed, or that verification was not reached.
+fn tell_reached(out: &mut WordLines, cvm: u64)
+    ensures { Tells out.old out.new (spec.reached_words cvm) }
+{
+    if cvm == 0 {
+        out.text(b"not reached");
+    } else {
+        tell_performed_rule(out, cvm);
+    }
+}
+
+/// Tells the result of cardholder verification.
+#[tactic(auto, using(word_lines::proofs::Telling::telling), unfolding(crate::specs::Endings::verification_words))]
+fn tell_verification(out: &mut WordLines, cvm: u64)
+    ensures { Tells out.old out.new (spec.verification_words cvm) }
+{
+    out.line(1);
+    out.text(b"CVM ");
+    tell_reached(out, cvm);
 }
 
 /// The words of a response code.
@@ -365,6 +401,7 @@ fn tell_code_words(out: &mut WordLines, code: u32)
 }
 
 /// Tells the response code.
+#[tactic(auto, using(word_lines::proofs::Telling::telling))]
 fn tell_code(out: &mut WordLines, arc: &[u8])
     ensures { Tells out.old out.new (spec.code_words arc.now) }
 {
@@ -381,6 +418,7 @@ fn tell_code(out: &mut WordLines, arc: &[u8])
 }
 
 /// Tells that a command failed.
+#[tactic(auto, using(word_lines::proofs::Telling::telling))]
 fn tell_failed(out: &mut WordLines, command: u64)
     ensures { Tells out.old out.new (spec.failed_words command) }
 {
@@ -394,6 +432,7 @@ fn tell_failed(out: &mut WordLines, command: u64)
 }
 
 /// Tells the result of a script: five bytes as one number (EMV 4.3 Book 4 Annex A5).
+#[tactic(auto, using(word_lines::proofs::Telling::telling), unfolding(crate::specs::Endings::script_words))]
 fn tell_script(out: &mut WordLines, bytes: u64)
     ensures { Tells out.old out.new (spec.script_words bytes) }
 {
@@ -410,32 +449,56 @@ fn tell_script(out: &mut WordLines, bytes: u64)
     }
 }
 
-/// Tells the result of a script where these digits are one.
-fn tell_script_in(out: &mut WordLines, digits: &[u8]) {
-    if let Some(result) = hex_number(digits) {
-        tell_script(out, result);
+/// Tells the result of a script, where there is one.
+fn tell_script_found(out: &mut WordLines, found: Option<u64>)
+    ensures { Tells out.old out.new (spec.script_told found) }
+{
+    if let Some(bytes) = found {
+        tell_script(out, bytes);
     }
 }
 
+/// Tells the result of a script where these digits are one.
+fn tell_script_in(out: &mut WordLines, digits: &[u8])
+    ensures { Tells out.old out.new (spec.script_told (spec.hex_number digits.now)) }
+{
+    tell_script_found(out, hex_number(digits));
+}
+
 /// Tells the results of the scripts.
-fn tell_scripts(out: &mut WordLines, scripts: &[u8]) {
+fn tell_scripts(out: &mut WordLines, scripts: &[u8])
+    ensures { Tells out.old out.new (spec.scripts_words scripts.now) }
+{
     let mut left = scripts;
-    while let Some((one, rest)) = left.split_at_checked(10) {
-        tell_script_in(out, one);
-        left = rest;
+    while left.len() >= 10 {
+        tell_script_in(out, &left[..10]);
+        left = &left[10..];
+    }
+}
+
+/// Whether these digits are those of 0.
+fn is_nothing(digits: &[u8]) -> bool
+    ensures { result ≡ spec.is_nothing (spec.hex_number digits.now) }
+{
+    match hex_number(digits) {
+        Some(number) => number == 0,
+        None => false,
     }
 }
 
 /// Whether no step has set anything.
-fn is_untouched(fields: &EndFields<'_>) -> bool {
-    hex_number(fields.tvr) == Some(0)
-        && hex_number(fields.tsi) == Some(0)
-        && hex_number(fields.cvm) == Some(0)
+fn is_untouched(fields: &EndFields<'_>) -> bool
+    ensures { result ≡ spec.is_untouched (seen_fields fields.now) }
+{
+    is_nothing(fields.tvr)
+        && is_nothing(fields.tsi)
+        && is_nothing(fields.cvm)
         && fields.arc == b"--".as_slice()
         && fields.scripts == b"-".as_slice()
 }
 
 /// Tells the terminal verification results.
+#[tactic(auto, using(word_lines::proofs::Telling::telling))]
 fn tell_tvr(out: &mut WordLines, results: Option<u64>)
     ensures { Tells out.old out.new (spec.tvr_words results) }
 {
@@ -447,6 +510,7 @@ fn tell_tvr(out: &mut WordLines, results: Option<u64>)
 }
 
 /// Tells the transaction status information.
+#[tactic(auto, using(word_lines::proofs::Telling::telling))]
 fn tell_tsi(out: &mut WordLines, status: Option<u64>)
     ensures { Tells out.old out.new (spec.tsi_words status) }
 {
@@ -458,6 +522,7 @@ fn tell_tsi(out: &mut WordLines, status: Option<u64>)
 }
 
 /// Tells the bits of an end line.
+#[tactic(auto, using(word_lines::proofs::Telling::telling))]
 fn tell_end_bits(out: &mut WordLines, fields: &EndFields<'_>, brief: bool)
     ensures { Tells out.old out.new (spec.end_bits (seen_fields fields.now) brief) }
 {
@@ -468,21 +533,31 @@ fn tell_end_bits(out: &mut WordLines, fields: &EndFields<'_>, brief: bool)
 }
 
 /// Tells the result of cardholder verification, where there is one.
-fn tell_cvm(out: &mut WordLines, cvm: Option<u64>) {
+fn tell_cvm(out: &mut WordLines, cvm: Option<u64>)
+    ensures { Tells out.old out.new (spec.cvm_words cvm) }
+{
     if let Some(cvm) = cvm {
         tell_verification(out, cvm);
     }
 }
 
-/// Tells the fields of an end line.
-fn tell_end_fields(out: &mut WordLines, fields: &EndFields<'_>, brief: bool) {
-    if is_untouched(fields) {
-        return;
-    }
+/// Tells the fields of an end line that some step has set.
+fn tell_set_fields(out: &mut WordLines, fields: &EndFields<'_>, brief: bool)
+    ensures { Tells out.old out.new (spec.set_fields (seen_fields fields.now) brief) }
+{
     tell_end_bits(out, fields, brief);
     tell_cvm(out, hex_number(fields.cvm));
     tell_code(out, fields.arc);
     tell_scripts(out, fields.scripts);
+}
+
+/// Tells the fields of an end line.
+fn tell_end_fields(out: &mut WordLines, fields: &EndFields<'_>, brief: bool)
+    ensures { Tells out.old out.new (spec.end_fields (seen_fields fields.now) brief) }
+{
+    if !is_untouched(fields) {
+        tell_set_fields(out, fields, brief);
+    }
 }
 
 /// Tells an end line.
@@ -492,7 +567,9 @@ pub(crate) fn tell_end(
     ending: &Ending<'_>,
     fields: &EndFields<'_>,
     brief: bool,
-) {
+)
+    ensures { Tells out.old out.new (spec.end_words lane.now (seen_ending ending.now) (seen_fields fields.now) brief) }
+{
     tell_ending(out, lane, ending);
     tell_end_fields(out, fields, brief);
 }

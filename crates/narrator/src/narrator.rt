@@ -1,26 +1,26 @@
 //! The teller of a report's lines.
 ghost use Rattle.std.specs.Prelude.{◌≡◌, ◌<◌, [], replicate, slice_get, OnOk, IfOk, option_map, unwrap_or};
 ghost use Rattle.exchange_words.specs.Lanes.{fresh, begun};
+ghost use Rattle.power_words.specs.Cards.{power_words};
 ghost use Rattle.narrator.specs.State as state;
 ghost use Rattle.narrator.specs.State.{seen_state};
 ghost use Rattle.narrator.specs.Shown.{shows_all};
 ghost use Rattle.narrator.specs.Words as spec;
 ghost use Rattle.narrator.specs.Words.{TellsSaid, Narrates};
 ghost use Rattle.report_lines.specs.Bytes.{bytes_told};
-ghost use Rattle.report_lines.specs.Reading.{seen_line, seen_what};
+ghost use Rattle.report_lines.specs.Reading.{seen_ending, seen_fields, seen_line, seen_what};
 ghost use Rattle.word_lines.specs.Lines.{AreWordLines};
 ghost use Rattle.word_lines.specs.Pieces.{Tells};
 
-use crate::cards::CardSeen;
 use crate::ending::tell_end;
 use crate::filter::Filter;
 use crate::phrases::{CARD_GONE, NO_REPLY, POWER_CANNED, POWER_TORN, PURCHASE_LOST};
-use crate::power::tell_power;
 use crate::report::tell_of_report;
 use exchange_words::{
     LaneState, Settled, Terminal, learn_reply, row_for, settled_by, tell_answer, tell_call,
     tell_command, tell_reply, tell_torn,
 };
+use power_words::{CardSeen, tell_power};
 use report_lines::{EndFields, Ending, ReportLine, What, Whose, bytes_of, read_line};
 use std::alloc::{AllocError, Global};
 use std::mem;
@@ -207,7 +207,9 @@ impl Narrator {
         ending: &Ending<'_>,
         fields: &EndFields<'_>,
         out: &mut WordLines,
-    ) {
+    )
+        ensures { Tells out.old out.new (spec.end_at (slice_get self.now.lanes.items place) (seen_ending ending.now) (seen_fields fields.now) self.now.filter.brief) }
+    {
         if let Some(lane) = self.lanes.get(usize::from(place)) {
             tell_end(out, lane, ending, fields, self.filter.brief);
         }
@@ -252,17 +254,30 @@ impl Narrator {
         }
     }
 
+    /// Tells the counters of a card that is powered up, and keeps them.
+    fn power(
+        &mut self,
+        place: u8,
+        card: &[u8],
+        apps: &[u8],
+        out: &mut WordLines,
+    ) -> Result<(), AllocError>
+        ensures words { OnOk result (Tells out.old out.new (power_words self.old.cards.items card.now apps.now)) }
+        ensures state { OnOk result (seen_state self.new ≡ state.powered card.now apps.now (seen_state self.old) place) }
+        ensures filter { self.new.filter ≡ self.old.filter }
+    {
+        self.begin(place);
+        tell_power(out, &mut self.cards, card, apps)
+    }
+
     /// Tells a line of a lane or of the audit.
     fn tell_at(&mut self, place: u8, what: &What<'_>, out: &mut WordLines) -> Result<(), AllocError>
-        ensures words { OnOk result (TellsSaid (spec.at_lane (seen_state self.old) place (seen_what what.now)) out.old out.new) }
+        ensures words { OnOk result (TellsSaid (spec.at_lane self.old.filter.brief (seen_state self.old) place (seen_what what.now)) out.old out.new) }
         ensures state { OnOk result (state.LeavesAt (seen_what what.now) (seen_state self.old) place (seen_state self.new)) }
         ensures filter { self.new.filter ≡ self.old.filter }
     {
         match what {
-            What::Power { card, apps } => {
-                self.begin(place);
-                tell_power(out, &mut self.cards, card, apps)
-            }
+            What::Power { card, apps } => self.power(place, card, apps, out),
             What::Sent(text) => self.tell_exchange(place, what, text, out),
             What::Given(text) => self.tell_exchange(place, what, text, out),
             What::ToHost(text) => self.tell_exchange(place, what, text, out),

@@ -1,5 +1,6 @@
 //! The counters of a card's applications, as a power line shows them.
-ghost use Rattle.std.specs.Prelude.{◌<◌, length, IfSome};
+ghost use Rattle.std.specs.Prelude.{◌≡◌, ◌<◌, length, option_map, IfSome};
+ghost use Rattle.power_words.specs.Cards as spec;
 
 use arrayvec::ArrayVec;
 use report_lines::{number_of, split_at_comma, split_word};
@@ -34,24 +35,35 @@ pub struct CardSeen {
 }
 
 /// The number before the first comma, and what stands behind it.
-fn next_number(text: &[u8]) -> Option<(u64, &[u8])> {
+fn next_number(text: &[u8]) -> Option<(u64, &[u8])>
+    ensures { option_map (λ r. (r.0, r.1.now)) result ≡ spec.next_number text.now }
+{
     let (word, rest) = split_at_comma(text);
     Some((number_of(word)?, rest))
 }
 
+/// The sum in the second currency; there may be none.
+fn read_second(text: &[u8]) -> Option<Option<u64>>
+    ensures { result ≡ spec.second_in text.now }
+{
+    if text.is_empty() {
+        return Some(None);
+    }
+    Some(Some(number_of(text)?))
+}
+
 /// The counters of one application.
-fn read_counters(text: &[u8]) -> Option<Counters> {
+#[tactic(auto, unfolding(crate::specs::Cards::counters_in))]
+fn read_counters(text: &[u8]) -> Option<Counters>
+    ensures { result ≡ spec.counters_in text.now }
+{
     let (counter, rest) = next_number(text)?;
     let (last_online, rest) = next_number(rest)?;
     let (count, rest) = next_number(rest)?;
     let (sum, rest) = next_number(rest)?;
     let (tries, rest) = next_number(rest)?;
     let (flags, rest) = next_number(rest)?;
-    let second = if rest.is_empty() {
-        None
-    } else {
-        Some(number_of(rest)?)
-    };
+    let second = read_second(rest)?;
     Some(Counters {
         counter,
         last_online,
@@ -63,28 +75,34 @@ fn read_counters(text: &[u8]) -> Option<Counters> {
     })
 }
 
-/// The counters of at most four applications.
-pub(crate) fn read_apps(text: &[u8]) -> Option<Apps> {
+/// The counters of one to four applications.
+pub(crate) fn read_apps(text: &[u8]) -> Option<Apps>
+    ensures { option_map (λ apps. apps.items) result ≡ spec.apps_in text.now }
+{
     let mut apps = Apps::new();
     let mut left = text;
     while !left.is_empty() {
-        let (word, rest) = split_word(left);
-        if apps.try_push(read_counters(word)?).is_err() {
+        if apps.len() >= 4 {
             return None;
         }
+        let (word, rest) = split_word(left);
+        apps.push(read_counters(word)?);
         left = rest;
     }
     if apps.is_empty() { None } else { Some(apps) }
 }
 
+/// Whether this is the card of this name.
+fn is_named(card: &CardSeen, name: &[u8]) -> bool
+    ensures { result ≡ spec.is_named name.now card.now }
+{
+    card.name.as_slice() == name
+}
+
 /// The place of the card of this name.
 pub(crate) fn place_of(cards: &[CardSeen], name: &[u8]) -> Option<usize>
-    ensures { IfSome result (λ place. place < length cards.now) }
+    ensures place { result ≡ spec.place_of cards.now name.now }
+    ensures within { IfSome result (λ place. place < length cards.now) }
 {
-    for (place, card) in cards.iter().enumerate() {
-        if card.name.as_slice() == name {
-            return Some(place);
-        }
-    }
-    None
+    cards.iter().position(|card| is_named(card, name))
 }
