@@ -1,8 +1,6 @@
 -- A value and its world behind a step of the audit.
 use Rattle.std.proofs.Common.{◌≡◌, ℕ, ◌+◌, ◌≤◌, ◌<◌, Bool, true, List, [], ◌∷◌, length, get_or, set, slice_get, Option, Some, None, refl, sym, ap, ◌∙◌, subst, inl, inr, arith}
 use Rattle.std.specs.Prelude.{IfSome}
-use Rattle.std.proofs.lemmas.Bool.{cases_eq}
-use Rattle.std.proofs.lemmas.List.{get_or-set_same, get_or-set_other}
 use Rattle.std.proofs.lemmas.Option.{same_Some, slice_get_within, get_or_from_slice_get}
 use Rattle.report_text.specs.declared.line.Line.{Line}
 use Rattle.scenario.specs.CardRules.{IsCard}
@@ -14,14 +12,14 @@ use Rattle.txn_replay.specs.Seen.{WorldSeen, SlotStands, WorldStands, Goes, IsNe
 use Rattle.txn_replay.specs.Slot.{SlotSeen, SlotOn, IsSlotOf, HasLost, is_on}
 use Rattle.txn_replay.specs.Sound.{HeldBy}
 use Rattle.txn_replay.specs.Standing.{PlaceStands}
-use Rattle.txn_replay.specs.Steps.{After, Check, PowersUp, checks, with_card, nothing, audits, happens, Step}
+use Rattle.txn_replay.specs.Steps.{Check, PowersUp, checks, with_card, nothing, audits}
 use Rattle.txn_replay.specs.World.{Holder, CardRow, World, new_card, card_at}
 use Rattle.txn_replay.specs.declared.audit.Question.{Question}
 use Rattle.txn_replay.specs.declared.event.Event.TheVariants.{Audit}
 use Rattle.txn_replay.proofs.Few.{checks_few}
 use Rattle.txn_replay.proofs.Following.{index_of, first_powers, asks_follow}
-use Rattle.txn_replay.proofs.Lists.{set_other, set_here}
-use Rattle.txn_replay.proofs.OwnEvents.{step_apart}
+use Rattle.txn_replay.proofs.Leading.{leads_on, slot_stays}
+use Rattle.txn_replay.proofs.Lists.{set_here, set_both}
 use Rattle.txn_replay.proofs.Payments.{payment_facts}
 use Rattle.txn_replay.proofs.Sounding.{card_sound}
 use Rattle.txn_replay.proofs.Waiting.{below_over, over_next}
@@ -65,11 +63,7 @@ module _ (v : WorldSeen) (w : World) (stands : WorldStands v w) (over : all_over
 
   -- no event where none is left
   pub none_checks : (k : ℕ) → slice_get (checks v.scenario) k ≡ None → Goes v w (Audit k) []
-  none_checks k none =
-      let is : happens v.scenario w (Audit k) [] ≡ nothing w = ap (λ (o : Option Check). audits w [] o) none in
-      let step : Step v.scenario w (Audit k) [] [] w =
-      record { taken = ap (λ (x : After). x.choices) (sym is); made = ap (λ (x : After). x.lines) (sym is); leads = ap (λ (x : After). x.world) (sym is) } in
-      record { choices = []; after = w; step = step; apart = step_apart v.scenario w (Audit k) [] [] w step; stands = stands }
+  none_checks k none = leads_on v w (Audit k) [] [] (nothing w) (ap (λ (o : Option Check). audits w [] o) none) refl refl stands
 
   module _ (i : ℕ) (slot next : SlotSeen) (card : CardData) (there : slice_get v.slots i ≡ Some slot) (is : slice_get v.scenario.cards i ≡ Some card)
       (is_of : IsSlotOf next card) (losses : HasLost next (card_at w i).losses) where
@@ -84,52 +78,36 @@ module _ (v : WorldSeen) (w : World) (stands : WorldStands v w) (over : all_over
       same_lanes : LanesLike after w
       same_lanes = record { count = refl; each = λ l. refl }
 
-      here : card_at after i ≡ row
-      here =
-          let within : i < length w.cards =
-          (let a : i < length v.scenario.cards = slice_get_within v.scenario.cards i card is in
-          let b : length w.cards ≡ length v.scenario.cards = stands.sound.card_count in omega arith) in
-          get_or-set_same w.cards i row new_card within
+      inside : i < length w.cards
+      inside =
+          let a : i < length v.scenario.cards = slice_get_within v.scenario.cards i card is in
+          let b : length w.cards ≡ length v.scenario.cards = stands.sound.card_count in
+          omega arith
 
-      slots_after : (j : ℕ) (other : SlotSeen) (its : CardData) → slice_get value.slots j ≡ Some other → slice_get v.scenario.cards j ≡ Some its
+      audited : SlotStands v.scenario after next card row
+      audited =
+          let rests : Rests i slot card = card_rests i slot card there is in
+          inr (record {
+            over = stays_over v.scenario w after same_lanes over;
+            is = is_of;
+            losses = subst (λ n. HasLost next n) (sym count) losses;
+            free = holder ∙ rests.free;
+            on = on;
+          })
+
+      slots_after : (j : ℕ) (other : SlotSeen) → slice_get value.slots j ≡ Some other → (its : CardData) → slice_get v.scenario.cards j ≡ Some its
           → SlotStands v.scenario after other its (card_at after j)
-      slots_after j other its at its_is =
-          elim (cases_eq j i) [
-            | inl same ↦
-                let rests : Rests i slot card = card_rests i slot card there is in
-                let slot_is : next ≡ other = set_here v.slots i next other (ap (λ k. slice_get (set v.slots i next) k) (sym same) ∙ at) in
-                let card_is : card ≡ its = same_Some card its (sym is ∙ ap (λ k. slice_get v.scenario.cards k) (sym same) ∙ its_is) in
-                subst (λ k. SlotStands v.scenario after other its (card_at after k)) (sym same)
-                (subst (λ (r : CardRow). SlotStands v.scenario after other its r) (sym here)
-                (subst (λ (c : CardData). SlotStands v.scenario after other c row) card_is
-                (subst (λ (x : SlotSeen). SlotStands v.scenario after x card row) slot_is
-                (inr (record {
-                  over = stays_over v.scenario w after same_lanes over;
-                  is = is_of;
-                  losses = subst (λ n. HasLost next n) (sym count) losses;
-                  free = holder ∙ rests.free;
-                  on = on;
-                })))))
-            | inr differs ↦
-                let same : card_at after j ≡ card_at w j = get_or-set_other w.cards i j row new_card differs in
-                subst (λ (r : CardRow). SlotStands v.scenario after other its r) (sym same)
-                (elim (stands.slots j other its (sym (set_other v.slots i j next differs) ∙ at) its_is) [
-                  | inl stood ↦ inl stood
-                  | inr audited ↦ inr (record {
-                    over = stays_over v.scenario w after same_lanes audited.over;
-                    is = audited.is;
-                    losses = audited.losses;
-                    free = audited.free;
-                    on = audited.on;
-                  })
-                ])
-          ]
+      slots_after =
+          set_both (λ (j : ℕ) (x : SlotSeen) (r : CardRow). (its : CardData) → slice_get v.scenario.cards j ≡ Some its → SlotStands v.scenario after x its r)
+          v.slots w.cards i next row new_card inside
+          (λ its its_is. subst (λ (c : CardData). SlotStands v.scenario after next c row) (same_Some card its (sym is ∙ its_is)) audited)
+          (λ j x at. λ its its_is. slot_stays v.scenario w after same_lanes x its (card_at w j) (stands.slots j x its at its_is))
 
       checked_stands : WorldStands value after
       checked_stands = record {
         sound = card_sound v.scenario w i row holder stands.sound;
         few = stands.few;
-        slots = slots_after;
+        slots = λ j other its at its_is. slots_after j other at its its_is;
         lanes = stands.lanes;
         shelves = stands.shelves;
         stored = record { lanes = stands.stored.lanes; before = λ l. inr (stays_over v.scenario w after same_lanes over) };
@@ -141,36 +119,13 @@ module _ (v : WorldSeen) (w : World) (stands : WorldStands v w) (over : all_over
       pub one_checks : (question : Option Question) (choice : Bool) → slice_get (checks v.scenario) k ≡ Some (check_by i card question)
           → IsChecked next card (card_at w i) question choice lines → Goes value w (Audit k) lines
       one_checks None choice at checked =
-          let is_so : happens v.scenario w (Audit k) (choice ∷ []) ≡ audits w (choice ∷ []) (Some (PowersUp i card)) =
-          ap (λ (o : Option Check). audits w (choice ∷ []) o) at in
-          let step : Step v.scenario w (Audit k) (choice ∷ []) lines (audits w (choice ∷ []) (Some (PowersUp i card))).world =
-          record {
-            taken = ap (λ (x : After). x.choices) (sym is_so);
-            made = checked.lines_are ∙ ap (λ (x : After). x.lines) (sym is_so);
-            leads = ap (λ (x : After). x.world) (sym is_so);
-          } in
-          record {
-            choices = choice ∷ [];
-            after = (audits w (choice ∷ []) (Some (PowersUp i card))).world;
-            step = step;
-            apart = step_apart v.scenario w (Audit k) (choice ∷ []) lines (audits w (choice ∷ []) (Some (PowersUp i card))).world step;
-            stands = checked_stands (checked_row card (card_at w i) None choice) refl refl checked.on;
-          }
+          leads_on value w (Audit k) (choice ∷ []) lines (audits w (choice ∷ []) (Some (PowersUp i card)))
+          (ap (λ (o : Option Check). audits w (choice ∷ []) o) at) refl checked.lines_are
+          (checked_stands (checked_row card (card_at w i) None choice) refl refl checked.on)
       one_checks (Some question) choice at checked =
-          let is_so : happens v.scenario w (Audit k) [] ≡ audits w [] (Some (check_by i card (Some question))) = ap (λ (o : Option Check). audits w [] o) at in
-          let step : Step v.scenario w (Audit k) [] lines (audits w [] (Some (check_by i card (Some question)))).world =
-          record {
-            taken = ap (λ (x : After). x.choices) (sym is_so);
-            made = checked.lines_are ∙ ap (λ (x : After). x.lines) (sym is_so);
-            leads = ap (λ (x : After). x.world) (sym is_so);
-          } in
-          record {
-            choices = [];
-            after = (audits w [] (Some (check_by i card (Some question)))).world;
-            step = step;
-            apart = step_apart v.scenario w (Audit k) [] lines (audits w [] (Some (check_by i card (Some question)))).world step;
-            stands = checked_stands (checked_row card (card_at w i) (Some question) choice) refl refl checked.on;
-          }
+          leads_on value w (Audit k) [] lines (audits w [] (Some (check_by i card (Some question))))
+          (ap (λ (o : Option Check). audits w [] o) at) refl checked.lines_are
+          (checked_stands (checked_row card (card_at w i) (Some question) choice) refl refl checked.on)
 
       pub next_checks : (question : Option Question) → slice_get (checks v.scenario) k ≡ Some (check_by i card question) → is_on next ≡ true → IsNext value (k + 1)
       next_checks question at on = λ j other command found follows found_at.

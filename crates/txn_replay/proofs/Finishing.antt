@@ -1,5 +1,5 @@
 -- A lane whose purchase has ended, with what it captured, in its store or for settlement.
-use Rattle.std.proofs.Common.{◌≡◌, ℕ, ◌+◌, ◌≤◌, Bool, true, false, List, [], ◌∷◌, ◌++◌, length, map, Option, Some, None, refl, sym, ap, ◌∙◌, subst, arith, length-append, append-nil}
+use Rattle.std.proofs.Common.{◌≡◌, ℕ, ◌+◌, ◌≤◌, Bool, true, false, List, [], ◌∷◌, ◌++◌, length, Option, Some, None, refl, sym, ap, ◌∙◌, subst, arith, length-append, append-nil}
 use Rattle.std.specs.List.{All}
 use Rattle.std.specs.Prelude.{if◌then◌else◌, option_map, option_and_then, option_to_list}
 use Rattle.std.proofs.lemmas.List.Elements.{All-append}
@@ -27,7 +27,7 @@ pub record Finishes (p : Payment) (lane later : Lane) (row : LaneRow) (end : End
   pub ended : later.ended ≡ lane.ended + 1
   pub log : later.log.items ≡ row.log ++ (if loses p row.store end.capture then [] else approval p.planned.purchase end.ending end.card)
   pub amounts : All (λ logged. logged.amount ≤ most_amount) later.log.items
-  pub captures : map (λ message. message.items) later.captures.items ≡ row.captures ++ (if p.durable then [] else option_to_list end.capture)
+  pub captures : later.captures.messages ≡ row.captures ++ (if p.durable then [] else option_to_list end.capture)
   pub read : All IsMessage (option_to_list end.capture)
   pub card : card_in later.place ≡ end.card
   pub ending : later.ending ≡ Some end.ending

@@ -23,6 +23,7 @@ pub mod Tallies
 pub mod Choices
 pub mod Beginnings
 pub mod Planning
+pub mod Leading
 pub mod Turning
 pub mod Checks
 pub mod Settling
@@ -42,6 +43,7 @@ pub mod Called
 pub mod Checked
 pub mod Turned
 pub mod AtHand
+pub mod InAudit
 pub mod Founding
 pub mod Following
 pub mod Pieces

@@ -109,19 +109,24 @@ found_first [] ys k x within here = absurd (omega arith)
 found_first (a ∷ xs) ys zero x within here = here
 found_first (a ∷ xs) ys (suc k) x within here = found_first xs ys k x (omega arith) here
 
--- where two lists change at the same place
-pub set_both : {A B : Type 0} (P : ℕ → A → B → Type 0) (xs : List A) (ys : List B) (l : ℕ) (a : A) (b d : B) → l < length ys → P l a b
-    → ((j : ℕ) (x : A) → slice_get xs j ≡ Some x → P j x (get_or ys j d))
-    → (j : ℕ) (x : A) → slice_get (set xs l a) j ≡ Some x → P j x (get_or (set ys l b) j d)
-set_both {A} {B} P xs ys l a b d inside new old j x there =
+-- where a list changes at one place
+pub set_one : {A : Type 0} (P : ℕ → A → Type 0) (xs : List A) (l : ℕ) (a : A) → P l a → ((j : ℕ) (x : A) → j ≢ l → slice_get xs j ≡ Some x → P j x)
+    → (j : ℕ) (x : A) → slice_get (set xs l a) j ≡ Some x → P j x
+set_one {A} P xs l a new old j x there =
     elim (cases_eq j l) [
       | inl same ↦
           (let is : a ≡ x = set_here xs l a x (ap (λ i. slice_get (set xs l a) i) (sym same) ∙ there) in
-          subst (λ (i : ℕ). P i x (get_or (set ys l b) i d)) (sym same)
-          (subst (λ (y : B). P l x y) (sym (get_or-set_same ys l b d inside)) (subst (λ (y : A). P l y b) is new)))
-      | inr differs ↦
-          subst (λ (y : B). P j x y) (sym (get_or-set_other ys l j b d differs)) (old j x (sym (set_other xs l j a differs) ∙ there))
+          subst (λ (i : ℕ). P i x) (sym same) (subst (λ (y : A). P l y) is new))
+      | inr differs ↦ old j x differs (sym (set_other xs l j a differs) ∙ there)
     ]
+
+-- and where two lists change at the same place
+pub set_both : {A B : Type 0} (P : ℕ → A → B → Type 0) (xs : List A) (ys : List B) (l : ℕ) (a : A) (b d : B) → l < length ys → P l a b
+    → ((j : ℕ) (x : A) → slice_get xs j ≡ Some x → P j x (get_or ys j d))
+    → (j : ℕ) (x : A) → slice_get (set xs l a) j ≡ Some x → P j x (get_or (set ys l b) j d)
+set_both {A} {B} P xs ys l a b d inside new old =
+    set_one (λ (j : ℕ) (x : A). P j x (get_or (set ys l b) j d)) xs l a (subst (λ (y : B). P l a y) (sym (get_or-set_same ys l b d inside)) new)
+    (λ j x differs there. subst (λ (y : B). P j x y) (sym (get_or-set_other ys l j b d differs)) (old j x there))
 
 -- one more of the same
 pub replicate_push : {A : Type 0} (n : ℕ) (x : A) → replicate n x ++ x ∷ [] ≡ replicate (suc n) x

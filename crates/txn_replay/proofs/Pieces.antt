@@ -1,9 +1,7 @@
 -- Which part of an exchange a lane's turn is.
-use Rattle.std.proofs.Common.{◌≡◌, ℕ, Bool, true, false, ◌&&◌, List, [], ◌∷◌, ◌++◌, map, slice_get, Option, Some, None, refl, sym, ap, ◌∙◌, subst}
+use Rattle.std.proofs.Common.{◌≡◌, ℕ, Bool, true, false, ◌&&◌, List, [], ◌∷◌, ◌++◌, slice_get, Option, Some, None, refl, sym, ap, ◌∙◌, subst}
 use Rattle.std.specs.Global.{Box}
-use Rattle.std.specs.Bool.{⊤}
 use Rattle.std.specs.Prelude.{is_none, option_map}
-use Rattle.arrayvec.specs.declared.array_vec.ArrayVec.{ArrayVec}
 use Rattle.capture_store.specs.SeenShelf.{ShelfSeen}
 use Rattle.card_app.specs.Answering.{card_answer}
 use Rattle.card_pages.specs.Cuts.{Cut, cut_of}
@@ -108,7 +106,7 @@ keeps_same lane later row same keeps = record {
   ended = same.ended ∙ keeps.ended;
   log = same.log ∙ keeps.log;
   amounts = keeps.amounts;
-  captures = ap (λ (ms : List (ArrayVec ℕ 2048 ⊤)). map (λ m. m.items) ms) same.captures ∙ keeps.captures;
+  captures = same.captures ∙ keeps.captures;
   messages = keeps.messages;
   stored = keeps.stored;
   found = same.found ∙ keeps.found;

@@ -1,12 +1,10 @@
 -- The step of the settlement that a run has come to, by the run's value: what carries it out finds what it needs, and has
 -- made the event.
-use Rattle.std.proofs.Common.{◌≡◌, ℕ, ◌<◌, ◌^◌, Bool, true, false, Bor, List, [], ◌∷◌, ◌++◌, length, get_or, set, slice_get, Option, Some, None, refl, sym, ap, ◌∙◌, subst, arith}
-use Rattle.std.specs.Bool.{⊤}
+use Rattle.std.proofs.Common.{◌≡◌, ℕ, ◌<◌, ◌≤◌, ◌^◌, Bool, true, false, Bor, List, [], ◌∷◌, ◌++◌, length, get_or, set, slice_get, Option, Some, None, refl, sym, ap, ◌∙◌, subst, arith}
 use Rattle.std.specs.List.{All}
 use Rattle.std.proofs.lemmas.List.{length-set}
 use Rattle.std.proofs.lemmas.List.Elements.{All-set}
 use Rattle.std.proofs.lemmas.Option.{slice_get_within, get_or_from_slice_get}
-use Rattle.arrayvec.specs.declared.array_vec.ArrayVec.{ArrayVec}
 use Rattle.auth_message.specs.Whole.{IsMessage}
 use Rattle.capture_store.specs.SeenShelf.{ShelfSeen, ShelfOn, ShelfOff, losses_of}
 use Rattle.capture_store.specs.StoreRow.{StoreRow, opened_to_settle}
@@ -171,30 +169,33 @@ module _ (v self : WorldSeen) (whole : IsWhole v) (view : v ≡ self) (lanes : L
               }
 
       -- a message that a lane has captured is sent
-      module _ (l : ℕ) (message : Bor (ArrayVec ℕ 2048 ⊤)) (is : step ≡ settling.Sends l message) where
-        plain : (w : World) → WorldStands v w → IsPlain (durable_of v.scenario) (slice_get (settlements v.scenario w) k) l message.now.items
+      module _ (l : ℕ) (message : Bor (List ℕ)) (is : step ≡ settling.Sends l message) where
+        plain : (w : World) → WorldStands v w → IsPlain (durable_of v.scenario) (slice_get (settlements v.scenario w) k) l message.now
         plain w stands =
             plain_is (durable_of v.scenario) (slice_get (settlements v.scenario w) k) (settling.Sends l message) (is_so w stands (settling.Sends l message) is)
 
-        pub sends_message : IsMessage message.now.items
+        pub sends_message : IsMessage message.now
         sends_message =
             let w = whole.standing.0 in
             let one = plain w whole.standing.1 in
             let lane = some_at v.lanes l (omega (arith, lane_inside (settling.Sends l message) is, whole.lane_count)) in
-            settles_message v w whole.standing.1 k l message.now.items false one.here one.off lane.0 lane.1
+            settles_message v w whole.standing.1 k l message.now false one.here one.off lane.0 lane.1
 
-        module _ (sent : List ℕ) (sent_is : sent ≡ message.now.items) (iso : Bool) (iso_is : iso ≡ dialect_of v.scenario l) (before lines : List Line) (empty : before ≡ [])
+        pub sends_short : length message.now ≤ 2048
+        sends_short = (plain whole.standing.0 whole.standing.1).short
+
+        module _ (iso : Bool) (iso_is : iso ≡ dialect_of v.scenario l) (before lines : List Line) (empty : before ≡ [])
             (host : HostData)
-            (stood : (messages : List (List ℕ)) → HostStands v.host messages → HostStands host (messages ++ sent ∷ []))
+            (stood : (messages : List (List ℕ)) → HostStands v.host messages → HostStands host (messages ++ message.now ∷ []))
             (told : (messages : List (List ℕ)) → HostStands v.host messages
-            → lines ≡ before ++ settle_lines iso l sent (host_reply v.host.keys v.host.accounts messages sent)) where
+            → lines ≡ before ++ settle_lines iso l message.now (host_reply v.host.keys v.host.accounts messages message.now)) where
           goes_sent : (w : World) → WorldStands v w → Goes (record v { host = host }) w (Settle k) lines
           goes_sent w stands =
               let one = plain w stands in
-              plain_goes v w stands (over w stands) k l message.now.items false one.here whole.scenario.tables.one_copy host
-              (subst (λ (m : List ℕ). HostStands host (w.messages ++ m ∷ [])) sent_is (stood w.messages stands.messages)) one.off lines
+              plain_goes v w stands (over w stands) k l message.now false one.here whole.scenario.tables.one_copy host
+              (stood w.messages stands.messages) one.off lines
               (told w.messages stands.messages
-              ∙ (λ i. empty i ++ settle_lines (iso_is i) l (sent_is i) (host_reply (whole.keys i) (whole.accounts i) w.messages (sent_is i))))
+              ∙ (λ i. empty i ++ settle_lines (iso_is i) l message.now (host_reply (whole.keys i) (whole.accounts i) w.messages message.now)))
 
           pub sends_so : (w : World) → WorldStands self w → Goes (record v { host = host }) w (Settle k) lines
           sends_so w stands = goes_sent w (standing w stands)

@@ -1,14 +1,10 @@
 -- A value and its world behind a step of the settlement.
 use Rattle.std.proofs.Common.{◌≡◌, ℕ, zero, suc, ◌&&◌, ◌+◌, ◌-◌, ◌/◌, ◌≤◌, ◌<◌, Bool, true, false, List, [], ◌∷◌, ◌++◌, length, drop, get_or, set, slice_get, Option, Some, None, refl, sym, ap, ◌∙◌, subst, inl, inr, arith, append-nil}
-use Rattle.std.specs.Bool.{⊤}
 use Rattle.std.specs.List.{All}
 use Rattle.std.specs.Prelude.{is_some, option_map, unwrap_or}
-use Rattle.std.specs.Vec.{vec_len}
 use Rattle.std.proofs.lemmas.Bool.{cases_eq}
-use Rattle.std.proofs.lemmas.List.{length-map}
 use Rattle.std.proofs.lemmas.List.Elements.{All-drop}
 use Rattle.std.proofs.lemmas.Option.{same_Some, slice_get_within, get_or_from_slice_get, slice_get-get_or}
-use Rattle.arrayvec.specs.declared.array_vec.ArrayVec.{ArrayVec}
 use Rattle.auth_message.specs.Whole.{IsMessage}
 use Rattle.capture_store.specs.Calls.{Call, found_by}
 use Rattle.capture_store.specs.SeenShelf.{ShelfSeen, ShelfOn, ShelfOff, losses_of}
@@ -27,14 +23,14 @@ use Rattle.txn_replay.specs.Seen.{WorldSeen, SlotStands, terminal_plan, ShelfAt,
 use Rattle.txn_replay.specs.Settling.{AreRows}
 use Rattle.txn_replay.specs.Slot.{SlotSeen}
 use Rattle.txn_replay.specs.Standing.{LaneKeeps, LaneFits, StorePlace, StoreStands, ShelfFor}
-use Rattle.txn_replay.specs.Steps.{After, Settlement, Opens, Sends, choice_in, settlements, settled_store, lane_settled, settles, nothing, happens, Step}
+use Rattle.txn_replay.specs.Steps.{Settlement, Opens, Sends, choice_in, settlements, settled_store, lane_settled, settles, nothing, happens}
 use Rattle.txn_replay.specs.Stored.{IsUnopened, IsThrough, IsSettledTo}
 use Rattle.txn_replay.specs.World.{LaneRow, World, new_lane, card_at, lane_at, with_store}
 use Rattle.txn_replay.specs.declared.event.Event.TheVariants.{Settle}
 use Rattle.txn_replay.specs.declared.lane.Lane.{Lane}
 use Rattle.txn_replay.proofs.Few.{like_few, few_of, settlements_few}
+use Rattle.txn_replay.proofs.Leading.{leads_on, slot_stays}
 use Rattle.txn_replay.proofs.Lists.{at_set, set_both, set_other, drop_at}
-use Rattle.txn_replay.proofs.OwnEvents.{step_apart}
 use Rattle.txn_replay.proofs.Payments.{some_of_all}
 use Rattle.txn_replay.proofs.Places.{OpensAt, StoreSends, SendsBy, before_lane, opens_at, sends_at}
 use Rattle.txn_replay.proofs.Sending.{LanesLike, settle_like}
@@ -43,7 +39,7 @@ use Rattle.txn_replay.proofs.Sounding.{settled_sound}
 use Rattle.txn_replay.proofs.Storings.{keeps_with}
 use Rattle.txn_replay.proofs.Stores.{few_found, settle_stand}
 use Rattle.txn_replay.proofs.Tallies.{counts_with}
-use Rattle.txn_replay.proofs.Waiting.{below_over, over_next, stays_over}
+use Rattle.txn_replay.proofs.Waiting.{below_over, over_next}
 
 -- a lane that keeps what it kept, with another store and other messages made for the host
 at_with : (s : ScenarioData) (l : ℕ) (lane : Lane) (row : LaneRow) (sent : List (List ℕ)) (store : StoreRow) → LaneAt s l lane row
@@ -92,10 +88,7 @@ module _ (v : WorldSeen) (w : World) (stands : WorldStands v w) where
   -- no event where none is left
   pub none_settles : (k : ℕ) → slice_get (settlements v.scenario w) k ≡ None → Goes v w (Settle k) []
   none_settles k none =
-      let is : happens v.scenario w (Settle k) [] ≡ nothing w = ap (λ (o : Option Settlement). settles v.scenario w [] o) none in
-      let step : Step v.scenario w (Settle k) [] [] w =
-      record { taken = ap (λ (x : After). x.choices) (sym is); made = ap (λ (x : After). x.lines) (sym is); leads = ap (λ (x : After). x.world) (sym is) } in
-      record { choices = []; after = w; step = step; apart = step_apart v.scenario w (Settle k) [] [] w step; stands = stands }
+      leads_on v w (Settle k) [] [] (nothing w) (ap (λ (o : Option Settlement). settles v.scenario w [] o) none) refl refl stands
 
   pub settled_few : IsScenario v.scenario → (k : ℕ) (at : Settlement) → slice_get (settlements v.scenario w) k ≡ Some at → k < 30352
   settled_few fits k at here =
@@ -106,12 +99,11 @@ module _ (v : WorldSeen) (w : World) (stands : WorldStands v w) where
       omega arith
 
   -- no lane has captured more messages than all of them have purchases
-  pub captured_few : IsScenario v.scenario → All (λ lane. vec_len lane.captures ≤ 10000) v.lanes
+  pub captured_few : IsScenario v.scenario → All (λ lane. length lane.captures.messages ≤ 10000) v.lanes
   captured_few fits = λ l d within.
       (let lane : Lane = get_or v.lanes l d in
       let keeps : LaneKeeps lane (lane_at w l) = (stands.lanes l lane (slice_get-get_or v.lanes l d within)).keeps in
-      let count : vec_len lane.captures ≡ length (lane_at w l).captures =
-      lane.captures.ok.0 ∙ sym (length-map lane.captures.items (λ (m : ArrayVec ℕ 2048 ⊤). m.items)) ∙ ap (λ xs. length xs) keeps.captures in
+      let count : length lane.captures.messages ≡ length (lane_at w l).captures = ap (λ (xs : List (List ℕ)). length xs) keeps.captures in
       let few = stands.few l in
       omega (arith, count, few.captures, few.ended, some_of_all v.scenario.lanes l, fits.tables.few_purchases))
 
@@ -145,28 +137,11 @@ module _ (v : WorldSeen) (w : World) (stands : WorldStands v w) where
         where
           by : (x : Settlement) → SlotStands v.scenario (settles v.scenario w choices (Some x)).world slot card (card_at (settles v.scenario w choices (Some x)).world i)
           by (Opens l) =
-              elim (stands.slots i slot card there is) [
-                | inl card_is ↦ inl card_is
-                | inr audited ↦ inr (record {
-                  over = stays_over v.scenario w (settles v.scenario w choices (Some (Opens l))).world (settle_like v.scenario w choices (Some (Opens l))) audited.over;
-                  is = audited.is;
-                  losses = audited.losses;
-                  free = audited.free;
-                  on = audited.on;
-                })
-              ]
+              slot_stays v.scenario w (settles v.scenario w choices (Some (Opens l))).world (settle_like v.scenario w choices (Some (Opens l)))
+              slot card (card_at w i) (stands.slots i slot card there is)
           by (Sends l message drops) =
-              elim (stands.slots i slot card there is) [
-                | inl card_is ↦ inl card_is
-                | inr audited ↦ inr (record {
-                  over = stays_over v.scenario w (settles v.scenario w choices (Some (Sends l message drops))).world
-                      (settle_like v.scenario w choices (Some (Sends l message drops))) audited.over;
-                  is = audited.is;
-                  losses = audited.losses;
-                  free = audited.free;
-                  on = audited.on;
-                })
-              ]
+              slot_stays v.scenario w (settles v.scenario w choices (Some (Sends l message drops))).world
+              (settle_like v.scenario w choices (Some (Sends l message drops))) slot card (card_at w i) (stands.slots i slot card there is)
 
       inside : lane_in at < length w.lanes
       inside = settles_inside v.scenario w.lanes k at here
@@ -206,13 +181,7 @@ module _ (v : WorldSeen) (w : World) (stands : WorldStands v w) where
       step_goes value lines same stand taken made =
           let so : happens value.scenario w (Settle k) choices ≡ settles v.scenario w choices (Some at) =
           ap (λ (s : ScenarioData). happens s w (Settle k) choices) same ∙ ap (λ (o : Option Settlement). settles v.scenario w choices o) here in
-          let step : Step value.scenario w (Settle k) choices lines after =
-          record {
-            taken = taken ∙ ap (λ (x : After). x.choices) (sym so);
-            made = made ∙ ap (λ (x : After). x.lines) (sym so);
-            leads = ap (λ (x : After). x.world) (sym so);
-          } in
-          record { choices = choices; after = after; step = step; apart = step_apart value.scenario w (Settle k) choices lines after step; stands = stand }
+          leads_on value w (Settle k) choices lines (settles v.scenario w choices (Some at)) so taken made stand
 
     -- a lane's store is opened
     module _ (k l : ℕ) (lane : Lane) (shelf : ShelfSeen) (here : slice_get (settlements v.scenario w) k ≡ Some (Opens l)) (some : 1 ≤ v.scenario.copies)

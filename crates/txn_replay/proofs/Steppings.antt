@@ -1,14 +1,11 @@
 -- The step of a settlement among those of its lane, as the values of a run have it.
 use Rattle.std.proofs.Common.{◌≡◌, ℕ, zero, suc, ◌+◌, ◌*◌, ◌-◌, ◌/◌, ◌%◌, ◌==◌, ◌≤◌, ◌<◌, Bool, true, false, List, [], ◌∷◌, ◌++◌, length, drop, replicate, slice_get, Option, Some, None, refl, sym, ap, ◌∙◌, inl, inr, arith}
-use Rattle.std.specs.Bool.{⊤}
 use Rattle.std.specs.List.{flat_map}
-use Rattle.std.specs.Vec.{vec_len}
 use Rattle.std.specs.Prelude.{option_map, unwrap_or}
 use Rattle.std.proofs.lemmas.Bool.{cases_order}
-use Rattle.std.proofs.lemmas.List.{length-map, length-replicate}
+use Rattle.std.proofs.lemmas.List.{length-replicate}
 use Rattle.std.proofs.lemmas.Option.{same_Some}
 use Rattle.std.proofs.Math.Nat.{div-eq_of_lt, add-div_left}
-use Rattle.arrayvec.specs.declared.array_vec.ArrayVec.{ArrayVec}
 use Rattle.scenario.specs.Plan.{ScenarioData}
 use Rattle.txn_replay.specs.Payment.{durable_of}
 use Rattle.txn_replay.specs.Settling.{steps_of, step_in, IsStep, IsStepOf}
@@ -23,14 +20,13 @@ use Rattle.txn_replay.proofs.Lists.{append_first, append_second, drop_at, drop_p
 use Rattle.txn_replay.proofs.Places.{IsStoreStep, store_step}
 
 -- how many steps a lane has
-pub steps_count : (copies l : ℕ) (lane : Lane) (row : LaneRow) (durable : Bool) → 1 ≤ copies → vec_len lane.captures ≡ length lane.captures.items
-    → LaneKeeps lane row → steps_of lane durable copies ≡ length (lane_settlements copies l row durable)
-steps_count copies l lane row false some ok keeps =
-    let count : vec_len lane.captures ≡ length row.captures =
-    ok ∙ sym (length-map lane.captures.items (λ (m : ArrayVec ℕ 2048 ⊤). m.items)) ∙ ap (λ xs. length xs) keeps.captures in
+pub steps_count : (copies l : ℕ) (lane : Lane) (row : LaneRow) (durable : Bool) → 1 ≤ copies → LaneKeeps lane row
+    → steps_of lane durable copies ≡ length (lane_settlements copies l row durable)
+steps_count copies l lane row false some keeps =
+    let count : length lane.captures.messages ≡ length row.captures = ap (λ (xs : List (List ℕ)). length xs) keeps.captures in
     ap (λ n. n * copies) count ∙ (let turned : length row.captures * copies ≡ copies * length row.captures = omega arith in turned)
     ∙ sym (copies_length copies l row.captures)
-steps_count copies l lane row true some ok keeps =
+steps_count copies l lane row true some keeps =
     ap (λ (o : Option ℕ). 1 + unwrap_or o 0 * copies) keeps.found
     ∙ ap (λ n. 1 + n * copies) (found_count row.store.found)
     ∙ (let turned : 1 + length (unwrap_or row.store.found []) * copies ≡ suc (copies * length (unwrap_or row.store.found [])) = omega arith in turned)
@@ -79,25 +75,25 @@ plain_message copies l (first ∷ messages) n message some here = by (λ (m : �
 
 -- what is found is the step of this number
 pub step_found : (s : ScenarioData) (l : ℕ) (lane : Lane) (row : LaneRow) (number : ℕ) (found : Settling) → 1 ≤ s.copies
-    → vec_len lane.captures ≡ length lane.captures.items → LaneKeeps lane row → number < steps_of lane (durable_of s l) s.copies
+    → LaneKeeps lane row → number < steps_of lane (durable_of s l) s.copies
     → step_in lane l (durable_of s l) s.copies number found
     → (at : Settlement) × (slice_get (lane_settlements s.copies l row (durable_of s l)) number ≡ Some at) × IsStep (durable_of s) at found
-step_found s l lane row number found some ok keeps within is = by (durable_of s l) refl found within is
+step_found s l lane row number found some keeps within is = by (durable_of s l) refl found within is
   where
     by : (durable : Bool) → durable_of s l ≡ durable → (x : Settling) → number < steps_of lane durable s.copies → step_in lane l durable s.copies number x
         → (at : Settlement) × (slice_get (lane_settlements s.copies l row durable) number ≡ Some at) × IsStep (durable_of s) at x
     by false off (settling.Sends lane_at message) inside so = (
-      Sends l message.now.items false,
-      plain_message s.copies l row.captures number message.now.items some
+      Sends l message.now false,
+      plain_message s.copies l row.captures number message.now some
           (ap (λ ms. slice_get ms (number / s.copies)) (sym keeps.captures) ∙ so.1),
-      (sym so.0, refl, refl, off),
+      (sym so.0, refl, refl, off, so.2),
     )
     by false off (settling.Opens lane_at) inside so = absurd so
     by false off (settling.Drains lane_at drops) inside so = absurd so
     by true on (settling.Sends lane_at message) inside so = absurd so
     by true on (settling.Opens lane_at) inside so = (Opens l, ap (λ n. slice_get (lane_settlements s.copies l row true) n) so.1, sym so.0)
     by true on (settling.Drains lane_at drops) inside so =
-        let count : steps_of lane true s.copies ≡ length (lane_settlements s.copies l row true) = steps_count s.copies l lane row true some ok keeps in
+        let count : steps_of lane true s.copies ≡ length (lane_settlements s.copies l row true) = steps_count s.copies l lane row true some keeps in
         let there = some_at (lane_settlements s.copies l row true) number (omega (arith, inside, count)) in
         (there.0, there.1, drained there.0 (store_step s.copies l row number there.0 some there.1))
       where
@@ -155,6 +151,7 @@ opens_is durable (Some (Sends l message drops)) lane is = absurd is
 pub record IsPlain (durable : ℕ → Bool) (o : Option Settlement) (lane : ℕ) (message : List ℕ) : Type 0 where
   pub here : o ≡ Some (Sends lane message false)
   pub off : durable lane ≡ false
+  pub short : length message ≤ 2048
 
 -- and of a store
 pub record IsStores (durable : ℕ → Bool) (o : Option Settlement) (lane : ℕ) (drops : Bool) : Type 0 where
@@ -163,7 +160,7 @@ pub record IsStores (durable : ℕ → Bool) (o : Option Settlement) (lane : ℕ
   pub on : durable lane ≡ true
 
 abbrev pub PlainBy : Settling → (ℕ → Bool) → Option Settlement → Type 0
-PlainBy (settling.Sends lane message) durable o = IsPlain durable o lane message.now.items
+PlainBy (settling.Sends lane message) durable o = IsPlain durable o lane message.now
 PlainBy (settling.Opens lane) durable o = Unit {0}
 PlainBy (settling.Drains lane drops) durable o = Unit {0}
 
@@ -175,6 +172,7 @@ plain_is durable (Some (Opens l)) (settling.Sends lane message) is = absurd is
 plain_is durable (Some (Sends l bytes drops)) (settling.Sends lane message) is = record {
   here = (λ i. Some (Sends (is.0 i) (is.1 i) (is.2 i)));
   off = ap durable (sym is.0) ∙ is.3;
+  short = is.4;
 }
 
 pub stores_is : (durable : ℕ → Bool) (o : Option Settlement) (lane : ℕ) (drops : Bool) → IsStepOf durable o (Some (settling.Drains lane drops)) → IsStores durable o lane drops

@@ -1,8 +1,8 @@
 -- A turn of a lane, by the values.
-use Rattle.std.proofs.Common.{◌≡◌, ℕ, Bool, true, false, ◌&&◌, List, [], set, slice_get, Option, Some, None, Result, Ok, Err, refl, sym, ap, ◌∙◌, subst, inl, inr}
+use Rattle.std.proofs.Common.{◌≡◌, ℕ, Bool, true, false, ◌&&◌, List, [], set, slice_get, Option, Some, None, Result, Ok, Err, refl, sym, ◌∙◌, subst, inl, inr}
 use Rattle.std.specs.Global.{Box}
 use Rattle.std.specs.Prelude.{is_none, OnErr}
-use Rattle.std.proofs.lemmas.Bool.{cases_eq, both_ways}
+use Rattle.std.proofs.lemmas.Bool.{both_ways}
 use Rattle.std.proofs.lemmas.Option.{same_Some}
 use Rattle.capture_store.specs.SeenShelf.{ShelfSeen}
 use Rattle.card_state.specs.Decisions.{Decided}
@@ -14,13 +14,13 @@ use Rattle.txn_replay.specs.Seen.{WorldSeen, SlotStands, ShelfAt, RunFor, LaneAt
 use Rattle.txn_replay.specs.Slot.{SlotSeen, SlotOff, is_on}
 use Rattle.txn_replay.specs.Sound.{RunsIn, IsIdle}
 use Rattle.txn_replay.specs.Standing.{PlaceFor, PlaceStands, CardStands, PartStands, SameLane, RunStands}
-use Rattle.txn_replay.specs.Steps.{After, part_of, nothing, happens, Step}
+use Rattle.txn_replay.specs.Steps.{part_of, nothing}
 use Rattle.txn_replay.specs.World.{Holder, World, card_at, lane_at}
 use Rattle.txn_replay.specs.declared.event.Event.TheVariants.{Turn}
 use Rattle.txn_replay.specs.declared.lane.Lane.{Lane}
-use Rattle.txn_replay.proofs.Lists.{set_other, set_here}
+use Rattle.txn_replay.proofs.Leading.{leads_on}
+use Rattle.txn_replay.proofs.Lists.{set_one}
 use Rattle.txn_replay.proofs.Moves.{this_one}
-use Rattle.txn_replay.proofs.OwnEvents.{step_apart}
 use Rattle.txn_replay.proofs.Pieces.{keeps_same}
 use Rattle.txn_replay.proofs.Sounding.{has_card}
 use Rattle.txn_replay.proofs.Turning.{card_stands}
@@ -39,11 +39,7 @@ idle_without v w stands l none = record { rests = by (lane_at w l).running refl;
 
 -- in a lane that waits nothing happens
 pub idle_goes : (v : WorldSeen) (w : World) → WorldStands v w → (l : ℕ) → IsIdle v.scenario w l → Goes v w (Turn l) []
-idle_goes v w stands l idle =
-    let is : happens v.scenario w (Turn l) [] ≡ nothing w = idle_stays v.scenario w l [] idle in
-    let step : Step v.scenario w (Turn l) [] [] w =
-    record { taken = ap (λ (x : After). x.choices) (sym is); made = ap (λ (x : After). x.lines) (sym is); leads = ap (λ (x : After). x.world) (sym is) } in
-    record { choices = []; after = w; step = step; apart = step_apart v.scenario w (Turn l) [] [] w step; stands = stands }
+idle_goes v w stands l idle = leads_on v w (Turn l) [] [] (nothing w) (idle_stays v.scenario w l [] idle) refl refl stands
 
 both_true : (a b : Bool) → (a && b) ≡ true → (a ≡ true) × (b ≡ true)
 both_true true true is = (refl, refl)
@@ -97,7 +93,7 @@ pub same_stands : (v : WorldSeen) (w : World) → WorldStands v w → (l i : ℕ
 same_stands v w stands l i lane later shelf behind slot next lane_there shelf_there slot_there same unmoved unchanged = record {
   sound = stands.sound;
   few = stands.few;
-  slots = slots;
+  slots = λ j other card there its. slots j other there card its;
   lanes = lanes;
   shelves = shelves;
   stored = stands.stored;
@@ -105,40 +101,30 @@ same_stands v w stands l i lane later shelf behind slot next lane_there shelf_th
   tally = stands.tally;
 }
   where
-    slots : (j : ℕ) (other : SlotSeen) (card : CardData) → slice_get (set v.slots i next) j ≡ Some other → slice_get v.scenario.cards j ≡ Some card
+    slots : (j : ℕ) (other : SlotSeen) → slice_get (set v.slots i next) j ≡ Some other → (card : CardData) → slice_get v.scenario.cards j ≡ Some card
         → SlotStands v.scenario w other card (card_at w j)
-    slots j other card there its =
-        elim (cases_eq j i) [
-          | inl here ↦
-              let is : slot ≡ other = sym unchanged ∙ set_here v.slots i next other (ap (λ k. slice_get (set v.slots i next) k) (sym here) ∙ there) in
-              stands.slots j other card (ap (λ k. slice_get v.slots k) here ∙ slot_there ∙ ap (λ (x : SlotSeen). Some x) is) its
-          | inr differs ↦ stands.slots j other card (sym (set_other v.slots i j next differs) ∙ there) its
-        ]
+    slots =
+        set_one (λ (j : ℕ) (x : SlotSeen). (card : CardData) → slice_get v.scenario.cards j ≡ Some card → SlotStands v.scenario w x card (card_at w j)) v.slots i next
+        (λ card its. subst (λ (x : SlotSeen). SlotStands v.scenario w x card (card_at w i)) (sym unchanged) (stands.slots i slot card slot_there its))
+        (λ j x differs there. λ card its. stands.slots j x card there its)
 
     shelves : (k : ℕ) (own : ShelfSeen) → slice_get (set v.shelves l behind) k ≡ Some own → ShelfAt v.scenario k own (lane_at w k)
-    shelves k own there =
-        elim (cases_eq k l) [
-          | inl here ↦
-              let is : shelf ≡ own = sym unmoved ∙ set_here v.shelves l behind own (ap (λ n. slice_get (set v.shelves l behind) n) (sym here) ∙ there) in
-              stands.shelves k own (ap (λ n. slice_get v.shelves n) here ∙ shelf_there ∙ ap (λ (x : ShelfSeen). Some x) is)
-          | inr differs ↦ stands.shelves k own (sym (set_other v.shelves l k behind differs) ∙ there)
-        ]
+    shelves =
+        set_one (λ (k : ℕ) (x : ShelfSeen). ShelfAt v.scenario k x (lane_at w k)) v.shelves l behind
+        (subst (λ (x : ShelfSeen). ShelfAt v.scenario l x (lane_at w l)) (sym unmoved) (stands.shelves l shelf shelf_there))
+        (λ k x differs there. stands.shelves k x there)
 
     run_same : (o : Option Payment) → RunFor lane (lane_at w l) o → RunFor later (lane_at w l) o
     run_same None none = same.running ∙ none
     run_same (Some p) run = subst (λ (k : Option (Box KernelData)). RunStands k p (lane_at w l).running) (sym same.running) run
 
+    lane_same : LaneAt v.scenario l later (lane_at w l)
+    lane_same =
+        let before : LaneAt v.scenario l lane (lane_at w l) = stands.lanes l lane lane_there in
+        record { keeps = keeps_same lane later (lane_at w l) same before.keeps; runs = run_same _ before.runs }
+
     lanes : (k : ℕ) (other : Lane) → slice_get (set v.lanes l later) k ≡ Some other → LaneAt v.scenario k other (lane_at w k)
-    lanes k other there =
-        elim (cases_eq k l) [
-          | inl here ↦
-              let is : later ≡ other = set_here v.lanes l later other (ap (λ n. slice_get (set v.lanes l later) n) (sym here) ∙ there) in
-              let before : LaneAt v.scenario l lane (lane_at w l) = stands.lanes l lane lane_there in
-              subst (λ n. LaneAt v.scenario n other (lane_at w n)) (sym here)
-              (subst (λ (x : Lane). LaneAt v.scenario l x (lane_at w l)) is
-              (record { keeps = keeps_same lane later (lane_at w l) same before.keeps; runs = run_same _ before.runs }))
-          | inr differs ↦ stands.lanes k other (sym (set_other v.lanes l k later differs) ∙ there)
-        ]
+    lanes = set_one (λ (k : ℕ) (x : Lane). LaneAt v.scenario k x (lane_at w k)) v.lanes l later lane_same (λ k x differs there. stands.lanes k x there)
 
 pub on_err : {A E : Type 0} {Q : Type 0} (r : Result A E) → Q → OnErr r Q
 on_err (Ok value) holds = tt

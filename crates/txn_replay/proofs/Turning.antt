@@ -2,8 +2,6 @@
 use Rattle.std.proofs.Common.{◌≡◌, ℕ, ◌<◌, Bool, true, false, List, length, set, slice_get, Option, Some, None, refl, sym, ap, ◌∙◌, subst, inl, inr, arith}
 use Rattle.std.specs.Global.{Box}
 use Rattle.std.specs.Prelude.{is_none, is_some}
-use Rattle.std.proofs.lemmas.Bool.{cases_eq}
-use Rattle.std.proofs.lemmas.List.{get_or-set_same, get_or-set_other}
 use Rattle.std.proofs.lemmas.Option.{same_Some, slice_get_within}
 use Rattle.capture_store.specs.SeenShelf.{ShelfSeen}
 use Rattle.card_app.specs.SeenChip.{ChipSeen, ChipOn, is_on as chip_on}
@@ -23,7 +21,7 @@ use Rattle.txn_replay.specs.Seen.{WorldSeen, plan_in, plan_for, SlotStands, term
 use Rattle.txn_replay.specs.Slot.{SlotSeen, OfApps, OfCanned, SlotOn, is_on}
 use Rattle.txn_replay.specs.Sound.{IsSound}
 use Rattle.txn_replay.specs.Standing.{RunStands, LaneStands, PlaceStands, CardStands, PlaceFor, ShelfFor, PartStands, Led, counted}
-use Rattle.txn_replay.specs.Steps.{After, part_of, moved, turned_by, happens, Step}
+use Rattle.txn_replay.specs.Steps.{After, part_of, moved, turned_by, happens}
 use Rattle.txn_replay.specs.Stored.{StoredBy, StoresStand}
 use Rattle.txn_replay.specs.Storing.{lane_piece}
 use Rattle.txn_replay.specs.World.{Holder, CardRow, LaneRow, World, new_card, new_lane, card_at, lane_at}
@@ -31,9 +29,9 @@ use Rattle.txn_replay.specs.declared.event.Event.TheVariants.{Turn}
 use Rattle.txn_replay.specs.declared.lane.Lane.{Lane}
 use Rattle.txn_replay.proofs.Choices.{BothTaken, choices_taken}
 use Rattle.txn_replay.proofs.Few.{LanesFew, turn_few}
-use Rattle.txn_replay.proofs.Lists.{set_other, set_here}
+use Rattle.txn_replay.proofs.Leading.{leads_on}
+use Rattle.txn_replay.proofs.Lists.{set_both}
 use Rattle.txn_replay.proofs.Moves.{Outcome, kept, moves, lane_outcome, this_one}
-use Rattle.txn_replay.proofs.OwnEvents.{step_apart}
 use Rattle.txn_replay.proofs.Payments.{payment_facts}
 use Rattle.txn_replay.proofs.Planning.{lane_planned, shelf_placed, shelf_stands}
 use Rattle.txn_replay.proofs.Sounding.{turn_sound, has_card}
@@ -141,15 +139,11 @@ module _ (v : WorldSeen) (w : World) (stands : WorldStands v w) (l : ℕ) (p : P
         let b : length w.lanes ≡ length v.scenario.lanes = stands.sound.lane_count in
         omega arith
 
-    lane_here : lane_at after l ≡ m.part.lane
-    lane_here = get_or-set_same w.lanes l m.part.lane new_lane inside
-
-    card_here : card_at after p.planned.card ≡ m.part.card
-    card_here =
-        let within : p.planned.card < length w.cards =
-        (let a : p.planned.card < length v.scenario.cards = slice_get_within v.scenario.cards p.planned.card p.card card_there in
-        let b : length w.cards ≡ length v.scenario.cards = stands.sound.card_count in omega arith) in
-        get_or-set_same w.cards p.planned.card m.part.card new_card within
+    card_inside : p.planned.card < length w.cards
+    card_inside =
+        let a : p.planned.card < length v.scenario.cards = slice_get_within v.scenario.cards p.planned.card p.card card_there in
+        let b : length w.cards ≡ length v.scenario.cards = stands.sound.card_count in
+        omega arith
 
     -- its plan
     planned_as : (holder : Option Holder) → m.part.card.holder ≡ holder → PlaceStands next p.planned.tear m.part.card holder
@@ -167,26 +161,14 @@ module _ (v : WorldSeen) (w : World) (stands : WorldStands v w) (l : ℕ) (p : P
       stands = planned_as m.part.card.holder refl led.moved.card.stands;
     })
 
-    slots_after : (i : ℕ) (slot : SlotSeen) (card : CardData) → slice_get value.slots i ≡ Some slot → slice_get v.scenario.cards i ≡ Some card
+    slots_after : (i : ℕ) (slot : SlotSeen) → slice_get value.slots i ≡ Some slot → (card : CardData) → slice_get v.scenario.cards i ≡ Some card
         → SlotStands v.scenario after slot card (card_at after i)
-    slots_after i other card there card_is =
-        elim (cases_eq i p.planned.card) [
-          | inl same ↦
-              let slot_is : next ≡ other = set_here v.slots p.planned.card next other (ap (λ k. slice_get (set v.slots p.planned.card next) k) (sym same) ∙ there) in
-              let its : p.card ≡ card = same_Some p.card card (sym card_there ∙ ap (λ k. slice_get v.scenario.cards k) (sym same) ∙ card_is) in
-              subst (λ k. SlotStands v.scenario after other card (card_at after k)) (sym same)
-              (subst (λ (row : CardRow). SlotStands v.scenario after other card row) (sym card_here)
-              (subst (λ (c : CardData). SlotStands v.scenario after other c m.part.card) its
-              (subst (λ (x : SlotSeen). SlotStands v.scenario after x p.card m.part.card) slot_is slot_after)))
-          | inr differs ↦
-              let row : card_at after i ≡ card_at w i = get_or-set_other w.cards p.planned.card i m.part.card new_card differs in
-              let before : slice_get v.slots i ≡ Some other = sym (set_other v.slots p.planned.card i next differs) ∙ there in
-              subst (λ (r : CardRow). SlotStands v.scenario after other card r) (sym row)
-              (elim (stands.slots i other card before card_is) [
-                | inl here ↦ inl here
-                | inr audited ↦ absurd (not_over v.scenario w l p is audited.over)
-              ])
-        ]
+    slots_after =
+        set_both (λ (i : ℕ) (x : SlotSeen) (r : CardRow). (card : CardData) → slice_get v.scenario.cards i ≡ Some card → SlotStands v.scenario after x card r)
+        v.slots w.cards p.planned.card next m.part.card new_card card_inside
+        (λ card its. subst (λ (c : CardData). SlotStands v.scenario after next c m.part.card) (same_Some p.card card (sym card_there ∙ its)) slot_after)
+        (λ i x there. λ card its.
+        elim (stands.slots i x card there its) [ inl here ↦ inl here | inr audited ↦ absurd (not_over v.scenario w l p is audited.over) ])
 
     -- a lane whose purchase goes on, or has ended
     run_after : (o : Option Payment) → payment_in v.scenario l (length m.part.lane.ended) ≡ o → (running : Option (List Reply)) → m.part.lane.running ≡ running
@@ -214,18 +196,8 @@ module _ (v : WorldSeen) (w : World) (stands : WorldStands v w) (l : ℕ) (p : P
     }
 
     lanes_after : (k : ℕ) (lane : Lane) → slice_get value.lanes k ≡ Some lane → LaneAt v.scenario k lane (lane_at after k)
-    lanes_after k other there =
-        elim (cases_eq k l) [
-          | inl same ↦
-              let lane_is : later ≡ other = set_here v.lanes l later other (ap (λ i. slice_get (set v.lanes l later) i) (sym same) ∙ there) in
-              subst (λ i. LaneAt v.scenario i other (lane_at after i)) (sym same)
-              (subst (λ (row : LaneRow). LaneAt v.scenario l other row) (sym lane_here)
-              (subst (λ (x : Lane). LaneAt v.scenario l x m.part.lane) lane_is lane_after))
-          | inr differs ↦
-              let row : lane_at after k ≡ lane_at w k = get_or-set_other w.lanes l k m.part.lane new_lane differs in
-              subst (λ (r : LaneRow). LaneAt v.scenario k other r) (sym row)
-              (stands.lanes k other (sym (set_other v.lanes l k later differs) ∙ there))
-        ]
+    lanes_after =
+        set_both (λ (k : ℕ) (x : Lane) (r : LaneRow). LaneAt v.scenario k x r) v.lanes w.lanes l later m.part.lane new_lane inside lane_after stands.lanes
 
     -- its store
     planned_so : (durable : Bool) → p.durable ≡ durable → ShelfFor behind m.part.lane p.planned.terminal_tear durable → ShelfAt v.scenario l behind m.part.lane
@@ -237,51 +209,31 @@ module _ (v : WorldSeen) (w : World) (stands : WorldStands v w) (l : ℕ) (p : P
         (sym durable ∙ (payment_facts v.scenario l _ p is).durable) none
 
     shelves_after : (k : ℕ) (own : ShelfSeen) → slice_get value.shelves k ≡ Some own → ShelfAt v.scenario k own (lane_at after k)
-    shelves_after k own there =
-        elim (cases_eq k l) [
-          | inl same ↦
-              let shelf_is : behind ≡ own = set_here v.shelves l behind own (ap (λ i. slice_get (set v.shelves l behind) i) (sym same) ∙ there) in
-              subst (λ i. ShelfAt v.scenario i own (lane_at after i)) (sym same)
-              (subst (λ (row : LaneRow). ShelfAt v.scenario l own row) (sym lane_here)
-              (subst (λ (x : ShelfSeen). ShelfAt v.scenario l x m.part.lane) shelf_is (planned_so p.durable refl led.moved.shelf_is)))
-          | inr differs ↦
-              let row : lane_at after k ≡ lane_at w k = get_or-set_other w.lanes l k m.part.lane new_lane differs in
-              subst (λ (r : LaneRow). ShelfAt v.scenario k own r) (sym row)
-              (stands.shelves k own (sym (set_other v.shelves l k behind differs) ∙ there))
-        ]
+    shelves_after =
+        set_both (λ (k : ℕ) (x : ShelfSeen) (r : LaneRow). ShelfAt v.scenario k x r) v.shelves w.lanes l behind m.part.lane new_lane inside
+        (planned_so p.durable refl led.moved.shelf_is) stands.shelves
 
     taken : BothTaken (λ a b. lane_piece p part a b) one other
     taken = choices_taken p part one other
 
-    next_is : happens v.scenario w (Turn l) taken.choices ≡ turned_by w l taken.choices (Some p)
-    next_is = ap (λ (o : Option Payment). turned_by w l taken.choices o) is
-
     turned_is : happens v.scenario w (Turn l) taken.choices ≡ moved w l p.planned.card m
-    turned_is = next_is ∙ ap (λ (x : Moved). moved w l p.planned.card x) taken.same
+    turned_is = ap (λ (o : Option Payment). turned_by w l taken.choices o) is ∙ ap (λ (x : Moved). moved w l p.planned.card x) taken.same
 
-    step_is : Step v.scenario w (Turn l) taken.choices lines after
-    step_is = record {
-      taken = taken.count ∙ ap (λ (x : After). x.choices) (sym next_is);
-      made = led.moved.lines_are ∙ ap (λ (x : After). x.lines) (sym turned_is);
-      leads = ap (λ (x : After). x.world) (sym turned_is);
+    after_stands : WorldStands value after
+    after_stands = record {
+      sound = subst (λ (x : After). IsSound v.scenario x.world) turned_is (turn_sound v.scenario w l taken.choices stands.sound);
+      few = subst (λ (x : Moved). LanesFew v.scenario (moved w l p.planned.card x).world) taken.same
+          (turn_few v.scenario w l taken.choices (Some p) is stands.few);
+      slots = λ i slot card there its. slots_after i slot there card its;
+      lanes = lanes_after;
+      shelves = shelves_after;
+      stored = subst (λ (x : After). StoresStand v.scenario x.world) turned_is (turn_stand v.scenario w l taken.choices stands.stored);
+      messages = messages;
+      tally = led.counted.2 ∙ ap (λ (c : Counts). counted c led.counted.0) stands.tally
+          ∙ sym (counts_with w after l m.part.lane led.counted.0 inside refl led.counted.1 led.counted.3);
     }
 
     pub turn_goes : Goes value w (Turn l) lines
-    turn_goes = record {
-      choices = taken.choices;
-      after = after;
-      step = step_is;
-      apart = step_apart v.scenario w (Turn l) taken.choices lines after step_is;
-      stands = record {
-        sound = subst (λ (x : After). IsSound v.scenario x.world) turned_is (turn_sound v.scenario w l taken.choices stands.sound);
-        few = subst (λ (x : Moved). LanesFew v.scenario (moved w l p.planned.card x).world) taken.same
-            (turn_few v.scenario w l taken.choices (Some p) is stands.few);
-        slots = slots_after;
-        lanes = lanes_after;
-        shelves = shelves_after;
-        stored = subst (λ (x : After). StoresStand v.scenario x.world) turned_is (turn_stand v.scenario w l taken.choices stands.stored);
-        messages = messages;
-        tally = led.counted.2 ∙ ap (λ (c : Counts). counted c led.counted.0) stands.tally
-            ∙ sym (counts_with w after l m.part.lane led.counted.0 inside refl led.counted.1 led.counted.3);
-      };
-    }
+    turn_goes =
+        leads_on value w (Turn l) taken.choices lines (moved w l p.planned.card m) turned_is
+        (taken.count ∙ ap (λ (x : Moved). (moved w l p.planned.card x).choices) taken.same) led.moved.lines_are after_stands

@@ -179,7 +179,7 @@ pub record IsNewLane (lane : Lane) : Type 0 where
   pub ended : lane.ended ≡ 0
   pub running : lane.running ≡ None
   pub log : lane.log.items ≡ []
-  pub captures : lane.captures.items ≡ []
+  pub captures : lane.captures.messages ≡ []
   pub place : lane.place ≡ None
   pub ending : lane.ending ≡ None
   pub found : lane.found ≡ None

@@ -1,5 +1,5 @@
 -- What a value stands for of a run.
-use Rattle.std.specs.Prelude.{◌≡◌, ⊤, ℕ, ◌+◌, ◌*◌, ◌-◌, ◌≤◌, ◌<◌, ◌==◌, Bool, true, false, List, [], ◌∷◌, ◌++◌, length, map, fold, Option, Some, None, is_none, option_map, option_and_then}
+use Rattle.std.specs.Prelude.{◌≡◌, ⊤, ℕ, ◌+◌, ◌*◌, ◌-◌, ◌≤◌, ◌<◌, ◌==◌, Bool, true, false, List, [], ◌∷◌, ◌++◌, length, fold, Option, Some, None, is_none, option_map, option_and_then}
 use Rattle.std.specs.Global.{Box}
 use Rattle.std.specs.List.{All}
 use Rattle.auth_message.specs.Whole.{IsMessage}
@@ -67,7 +67,7 @@ pub record LaneKeeps (lane : Lane) (row : LaneRow) : Type 0 where
   pub ended : lane.ended ≡ length row.ended
   pub log : lane.log.items ≡ row.log
   pub amounts : All (λ logged. logged.amount ≤ most_amount) row.log
-  pub captures : map (λ message. message.items) lane.captures.items ≡ row.captures
+  pub captures : lane.captures.messages ≡ row.captures
   pub messages : All IsMessage row.captures
   -- whatever the next opening of its store finds
   pub stored : (found : Bool) → All IsMessage (found_by row.store.list row.store.lost found)
@@ -206,7 +206,7 @@ pub record SameLane (old new : Lane) : Type 0 where
   pub ended : new.ended ≡ old.ended
   pub running : new.running ≡ old.running
   pub log : new.log.items ≡ old.log.items
-  pub captures : new.captures.items ≡ old.captures.items
+  pub captures : new.captures.messages ≡ old.captures.messages
   pub card : card_in new.place ≡ card_in old.place
   pub ending : new.ending ≡ old.ending
   pub found : new.found ≡ old.found

@@ -2,6 +2,7 @@
 ghost use Rattle.std.specs.Prelude.{◌≡◌, ◌+◌, ◌≤◌, ◌<◌, ◌++◌, [], ℕ, List, Bool, length, true, false, ◌&&◌, is_none, IsSome, IsSomeAnd, IfSome, IfOk, Some, None, Option, OnOk, OnErr, option_map};
 ghost use Rattle.std.specs.List.{All};
 ghost use Rattle.std.specs.Vec.{vec_len, vec_capacity};
+ghost use Rattle.capture_store.specs.Waits.{HasSpace};
 ghost use Rattle.card_state.specs.Decisions.{Decided};
 ghost use Rattle.emv_dict.specs.Settings.{IsSettings, most_amount};
 ghost use Rattle.host_link.specs.Delivery.{delivered, heard, reply_if};
@@ -36,6 +37,13 @@ use issuer_host::Host;
 use kernel::{Kernel, Next, Tally};
 use std::alloc::AllocError;
 
+/// What all lanes have in common: the issuer's host, and the tally of the dialogues that have ended.
+#[derive(Drop)]
+pub(crate) struct Common<'s> {
+    pub host: Host<'s>,
+    pub tally: Tally,
+}
+
 /// The purchase goes on behind a reply, or has ended: the card is turned off then.
 fn settle<'s, P: Pages>(
     at: &Payment<'s>,
@@ -47,7 +55,7 @@ fn settle<'s, P: Pages>(
 )
     requires few { lane.old.ended < 10000 }
     requires log { vec_len lane.old.log < vec_capacity lane.old.log }
-    requires captures { vec_len lane.old.captures < vec_capacity lane.old.captures }
+    requires captures { HasSpace lane.old.captures }
     requires amount { at.now.planned.now.purchase.amount ≤ most_amount }
     requires amounts { All (λ logged. logged.amount ≤ most_amount) lane.old.log.items }
     requires room { HasRoom shelf.old at.now.durable }
@@ -83,7 +91,7 @@ fn ask_card<'s, P: Pages>(
 )
     requires few { lane.old.ended < 10000 }
     requires log { vec_len lane.old.log < vec_capacity lane.old.log }
-    requires captures { vec_len lane.old.captures < vec_capacity lane.old.captures }
+    requires captures { HasSpace lane.old.captures }
     requires amount { at.now.planned.now.purchase.amount ≤ most_amount }
     requires amounts { All (λ logged. logged.amount ≤ most_amount) lane.old.log.items }
     requires room { HasRoom shelf.old at.now.durable }
@@ -167,13 +175,12 @@ fn ask_host<'s, P: Pages>(
     lane: &mut Lane<'s>,
     shelf: &mut Shelf<P>,
     slot: &mut Slot<'s, P>,
-    host: &mut Host<'s>,
-    tally: &mut Tally,
+    common: &mut Common<'s>,
     lines: &mut Lines,
 ) -> Result<(), AllocError>
     requires few { lane.old.ended < 10000 }
     requires log { vec_len lane.old.log < vec_capacity lane.old.log }
-    requires captures { vec_len lane.old.captures < vec_capacity lane.old.captures }
+    requires captures { HasSpace lane.old.captures }
     requires amount { at.now.planned.now.purchase.amount ≤ most_amount }
     requires amounts { All (λ logged. logged.amount ≤ most_amount) lane.old.log.items }
     requires room { HasRoom shelf.old at.now.durable }
@@ -181,25 +188,25 @@ fn ask_host<'s, P: Pages>(
     requires waits { IsSomeAnd lane.old.running (λ kernel. next_of kernel.value ≡ next.ToHost) }
     requires on { has_power slot.old ≡ true }
     requires lines { lines.old.items ≡ [] }
-    requires stands { (messages : List (List ℕ)) × HostStands host.old messages }
+    requires stands { (messages : List (List ℕ)) × HostStands common.old.host messages }
     ensures led { OnOk result ((replies : List Reply) (part : Part)
-        → PartRuns (seen_payment host.old.keys host.old.accounts at.now) lane.old shelf.old slot.old replies part → HostStands host.old part.messages
-        → Led (seen_payment host.old.keys host.old.accounts at.now) lane.new shelf.new slot.new tally.old tally.new lines.new.items part
-        (step.asked_host (seen_payment host.old.keys host.old.accounts at.now) replies
-        (told_bytes (dialogue (deal_for (seen_payment host.old.keys host.old.accounts at.now)) replies)) part)) }
+        → PartRuns (seen_payment common.old.host.keys common.old.host.accounts at.now) lane.old shelf.old slot.old replies part → HostStands common.old.host part.messages
+        → Led (seen_payment common.old.host.keys common.old.host.accounts at.now) lane.new shelf.new slot.new common.old.tally common.new.tally lines.new.items part
+        (step.asked_host (seen_payment common.old.host.keys common.old.host.accounts at.now) replies
+        (told_bytes (dialogue (deal_for (seen_payment common.old.host.keys common.old.host.accounts at.now)) replies)) part)) }
     ensures messages { OnOk result ((replies : List Reply) (part : Part)
-        → PartRuns (seen_payment host.old.keys host.old.accounts at.now) lane.old shelf.old slot.old replies part → HostStands host.old part.messages
-        → HostStands host.new (step.asked_host (seen_payment host.old.keys host.old.accounts at.now) replies
-        (told_bytes (dialogue (deal_for (seen_payment host.old.keys host.old.accounts at.now)) replies)) part).part.messages) }
-    ensures keys { host.new.keys ≡ host.old.keys }
-    ensures accounts { host.new.accounts ≡ host.old.accounts }
+        → PartRuns (seen_payment common.old.host.keys common.old.host.accounts at.now) lane.old shelf.old slot.old replies part → HostStands common.old.host part.messages
+        → HostStands common.new.host (step.asked_host (seen_payment common.old.host.keys common.old.host.accounts at.now) replies
+        (told_bytes (dialogue (deal_for (seen_payment common.old.host.keys common.old.host.accounts at.now)) replies)) part).part.messages) }
+    ensures keys { common.new.host.keys ≡ common.old.host.keys }
+    ensures accounts { common.new.host.accounts ≡ common.old.host.accounts }
     ensures fits { OnOk result (LaneFits lane.new) }
     ensures nearer { OnOk result (lane_left lane.new + shelf_left shelf.new < lane_left lane.old + shelf_left shelf.old) }
-    ensures err { OnErr result ((lane.new ≡ lane.old) × (shelf.new ≡ shelf.old) × (slot.new ≡ slot.old) × (host.new ≡ host.old) × (tally.new ≡ tally.old) × (lines.new.items ≡ [])) }
+    ensures err { OnErr result ((lane.new ≡ lane.old) × (shelf.new ≡ shelf.old) × (slot.new ≡ slot.old) × (common.new ≡ common.old) × (lines.new.items ≡ [])) }
 {
     let mut wire = Wire::new();
     let mut reply = Message::new();
-    let comes = send(at, &lane.running, host, &mut wire, &mut reply)?;
+    let comes = send(at, &lane.running, &mut common.host, &mut wire, &mut reply)?;
     add_host(
         at.lane,
         wire.call.as_slice(),
@@ -207,7 +214,7 @@ fn ask_host<'s, P: Pages>(
         lines,
     );
     hear(lane, said(comes, &reply));
-    settle(at, lane, shelf, slot, tally, lines);
+    settle(at, lane, shelf, slot, &mut common.tally, lines);
     Ok(())
 }
 
@@ -222,7 +229,7 @@ fn begin<'s, P: Pages>(
 )
     requires few { lane.old.ended < 10000 }
     requires log { vec_len lane.old.log < vec_capacity lane.old.log }
-    requires captures { vec_len lane.old.captures < vec_capacity lane.old.captures }
+    requires captures { HasSpace lane.old.captures }
     requires settings { IsSettings at.now.settings.now }
     requires planned { IsPlanned at.now.planned.now }
     requires name { length at.now.card.now.name.items ≤ 16 }
@@ -260,13 +267,12 @@ fn begin_next<'s, P: Pages>(
     lane: &mut Lane<'s>,
     shelf: &mut Shelf<P>,
     slot: &mut Slot<'s, P>,
-    host: &mut Host<'s>,
-    tally: &mut Tally,
+    common: &mut Common<'s>,
     lines: &mut Lines,
 ) -> Result<(), AllocError>
     requires few { lane.old.ended < 10000 }
     requires log { vec_len lane.old.log < vec_capacity lane.old.log }
-    requires captures { vec_len lane.old.captures < vec_capacity lane.old.captures }
+    requires captures { HasSpace lane.old.captures }
     requires settings { IsSettings at.now.settings.now }
     requires planned { IsPlanned at.now.planned.now }
     requires name { length at.now.card.now.name.items ≤ 16 }
@@ -276,23 +282,23 @@ fn begin_next<'s, P: Pages>(
     requires rests { lane.old.running ≡ None }
     requires place { IsSome lane.old.place }
     requires lines { lines.old.items ≡ [] }
-    requires stands { (part : Part) × NextRests (seen_payment host.old.keys host.old.accounts at.now) lane.old shelf.old slot.old part
-        × HostStands host.old part.messages }
+    requires stands { (part : Part) × NextRests (seen_payment common.old.host.keys common.old.host.accounts at.now) lane.old shelf.old slot.old part
+        × HostStands common.old.host part.messages }
     ensures led { OnOk result ((part : Part)
-        → NextRests (seen_payment host.old.keys host.old.accounts at.now) lane.old shelf.old slot.old part → HostStands host.old part.messages
+        → NextRests (seen_payment common.old.host.keys common.old.host.accounts at.now) lane.old shelf.old slot.old part → HostStands common.old.host part.messages
         → (one : Bool) × (other : Bool)
-        × Led (seen_payment host.old.keys host.old.accounts at.now) lane.new shelf.new slot.new tally.old tally.new lines.new.items part
-        (lane_piece (seen_payment host.old.keys host.old.accounts at.now) part one other)
-        × HostStands host.new (lane_piece (seen_payment host.old.keys host.old.accounts at.now) part one other).part.messages) }
-    ensures keys { host.new.keys ≡ host.old.keys }
-    ensures accounts { host.new.accounts ≡ host.old.accounts }
+        × Led (seen_payment common.old.host.keys common.old.host.accounts at.now) lane.new shelf.new slot.new common.old.tally common.new.tally lines.new.items part
+        (lane_piece (seen_payment common.old.host.keys common.old.host.accounts at.now) part one other)
+        × HostStands common.new.host (lane_piece (seen_payment common.old.host.keys common.old.host.accounts at.now) part one other).part.messages) }
+    ensures keys { common.new.host.keys ≡ common.old.host.keys }
+    ensures accounts { common.new.host.accounts ≡ common.old.host.accounts }
     ensures fits { OnOk result (LaneFits lane.new) }
     ensures nearer { OnOk result (lane_left lane.new + shelf_left shelf.new < lane_left lane.old + shelf_left shelf.old) }
-    ensures err { OnErr result ((lane.new ≡ lane.old) × (shelf.new ≡ shelf.old) × (slot.new ≡ slot.old) × (host.new ≡ host.old) × (tally.new ≡ tally.old) × (lines.new.items ≡ [])) }
+    ensures err { OnErr result ((lane.new ≡ lane.old) × (shelf.new ≡ shelf.old) × (slot.new ≡ slot.old) × (common.new ≡ common.old) × (lines.new.items ≡ [])) }
 {
-    match prepare(at, lane, shelf, host, lines) {
+    match prepare(at, lane, shelf, &mut common.host, lines) {
         Ok(true) => {
-            begin(at, lane, shelf, slot, tally, lines);
+            begin(at, lane, shelf, slot, &mut common.tally, lines);
             Ok(())
         }
         Ok(false) => Ok(()),
@@ -315,8 +321,7 @@ pub(crate) fn exchange<'s, P: Pages>(
     lane: &mut Lane<'s>,
     shelf: &mut Shelf<P>,
     slot: &mut Slot<'s, P>,
-    host: &mut Host<'s>,
-    tally: &mut Tally,
+    common: &mut Common<'s>,
     lines: &mut Lines,
 ) -> Result<(), AllocError>
     requires few { lane.old.ended < 10000 }
@@ -328,24 +333,24 @@ pub(crate) fn exchange<'s, P: Pages>(
     requires few_copies { at.now.copies ≤ 3 }
     requires fits { LaneFits lane.old }
     requires lines { lines.old.items ≡ [] }
-    requires stands { (part : Part) × PartStands (seen_payment host.old.keys host.old.accounts at.now) lane.old shelf.old slot.old part × HostStands host.old part.messages }
+    requires stands { (part : Part) × PartStands (seen_payment common.old.host.keys common.old.host.accounts at.now) lane.old shelf.old slot.old part × HostStands common.old.host part.messages }
     ensures led { OnOk result ((part : Part)
-        → PartStands (seen_payment host.old.keys host.old.accounts at.now) lane.old shelf.old slot.old part → HostStands host.old part.messages
+        → PartStands (seen_payment common.old.host.keys common.old.host.accounts at.now) lane.old shelf.old slot.old part → HostStands common.old.host part.messages
         → (one : Bool) × (other : Bool)
-        × Led (seen_payment host.old.keys host.old.accounts at.now) lane.new shelf.new slot.new tally.old tally.new lines.new.items part
-        (lane_piece (seen_payment host.old.keys host.old.accounts at.now) part one other)
-        × HostStands host.new (lane_piece (seen_payment host.old.keys host.old.accounts at.now) part one other).part.messages) }
-    ensures err { OnErr result (SameLane lane.old lane.new × (shelf.new ≡ shelf.old) × (slot.new ≡ slot.old) × (host.new ≡ host.old) × (tally.new ≡ tally.old) × (lines.new.items ≡ [])) }
-    ensures keys { host.new.keys ≡ host.old.keys }
-    ensures accounts { host.new.accounts ≡ host.old.accounts }
+        × Led (seen_payment common.old.host.keys common.old.host.accounts at.now) lane.new shelf.new slot.new common.old.tally common.new.tally lines.new.items part
+        (lane_piece (seen_payment common.old.host.keys common.old.host.accounts at.now) part one other)
+        × HostStands common.new.host (lane_piece (seen_payment common.old.host.keys common.old.host.accounts at.now) part one other).part.messages) }
+    ensures err { OnErr result (SameLane lane.old lane.new × (shelf.new ≡ shelf.old) × (slot.new ≡ slot.old) × (common.new ≡ common.old) × (lines.new.items ≡ [])) }
+    ensures keys { common.new.host.keys ≡ common.old.host.keys }
+    ensures accounts { common.new.host.accounts ≡ common.old.host.accounts }
     ensures fits { LaneFits lane.new }
     ensures nearer { OnOk result (lane_left lane.new + shelf_left shelf.new < lane_left lane.old + shelf_left shelf.old) }
 {
     make_room(at, lane)?;
     match waits_for(&lane.running) {
-        None => begin_next(at, lane, shelf, slot, host, tally, lines)?,
-        Some(Next::ToCard) => ask_card(at, lane, shelf, slot, tally, lines),
-        Some(Next::ToHost) => ask_host(at, lane, shelf, slot, host, tally, lines)?,
+        None => begin_next(at, lane, shelf, slot, common, lines)?,
+        Some(Next::ToCard) => ask_card(at, lane, shelf, slot, &mut common.tally, lines),
+        Some(Next::ToHost) => ask_host(at, lane, shelf, slot, common, lines)?,
         Some(Next::Ended) => unreachable!(),
     }
     Ok(())

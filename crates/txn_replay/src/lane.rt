@@ -1,5 +1,5 @@
 //! A lane of a run: a terminal with its purchases.
-ghost use Rattle.std.specs.Prelude.{◌≡◌, ◌+◌, ◌≤◌, ◌<◌, ◌^◌, ◌++◌, ◌∷◌, [], ℕ, List, length, map, true, false, if◌then◌else◌, IsSomeAnd, Some, None, Option, IsSome, IfOk, OnOk, sum_by, option_map, option_to_list};
+ghost use Rattle.std.specs.Prelude.{◌≡◌, ◌+◌, ◌≤◌, ◌<◌, ◌^◌, ◌++◌, ◌∷◌, [], ℕ, List, length, true, false, if◌then◌else◌, IsSomeAnd, Some, None, Option, IsSome, IfOk, OnOk, sum_by, option_map, option_to_list};
 ghost use Rattle.std.specs.List.{All};
 ghost use Rattle.std.specs.Vec.{vec_len, vec_capacity};
 ghost use Rattle.auth_message.specs.Whole.{IsMessage};
@@ -14,6 +14,7 @@ ghost use Rattle.kernel.specs.Tally.{raised};
 ghost use Rattle.kernel.specs.declared.kernel.Next.TheVariants as next;
 ghost use Rattle.object_lists.specs.CardRead.{ReadCard};
 ghost use Rattle.capture_store.specs.SeenShelf.{is_on as has_power, count_of};
+ghost use Rattle.capture_store.specs.Waits.{HasSpace};
 ghost use Rattle.emv_ports.specs.declared.tear.Tear.{Tear as Plan};
 ghost use Rattle.report_text.specs.declared.line.Line.TheVariants.{EndLost};
 ghost use Rattle.txn_replay.specs.Lines.{outcome_line};
@@ -30,7 +31,7 @@ ghost use Rattle.txn_replay.specs.World.{LaneRow};
 use crate::lines::{Lines, end_parts};
 use crate::payment::Payment;
 use auth_message::Message;
-use capture_store::Shelf;
+use capture_store::{Shelf, Waiting};
 use emv_dict::{Digits, Ending, Logged};
 use emv_ports::{Gone, Pages};
 use kernel::{Capture, EndRecord, Kernel, Tally};
@@ -49,7 +50,7 @@ pub(crate) struct Lane<'s> {
     /// The dialogue that ended last, with what reading gave. The next one begins in its place.
     pub place: Option<Box<Kernel<'s>>>,
     pub log: Vec<Logged>,
-    pub captures: Vec<Message>,
+    pub captures: Waiting,
     pub ending: Option<Ending>,
     pub found: Option<u8>,
 }
@@ -62,10 +63,10 @@ pub(crate) fn make_room<'s>(at: &Payment<'s>, lane: &mut Lane<'s>) -> Result<(),
     ensures same { SameLane lane.old lane.new }
     ensures place { OnOk result (lane.new.running ≡ None → IsSome lane.new.place) }
     ensures log { OnOk result (vec_len lane.new.log < vec_capacity lane.new.log) }
-    ensures captures { OnOk result (vec_len lane.new.captures < vec_capacity lane.new.captures) }
+    ensures captures { OnOk result (HasSpace lane.new.captures) }
 {
     lane.log.reserve(1)?;
-    lane.captures.reserve(1)?;
+    lane.captures.reserve()?;
     if lane.running.is_none() && lane.place.is_none() {
         let alloc = *lane.log.allocator();
         let planned = at.planned;
@@ -98,7 +99,7 @@ pub(crate) fn finish<'s, P: Pages>(
     requires fresh { IsSomeAnd lane.old.running (λ kernel. kernel.value.is_spent ≡ false) }
     requires few { lane.old.ended < 10000 }
     requires log { vec_len lane.old.log < vec_capacity lane.old.log }
-    requires captures { vec_len lane.old.captures < vec_capacity lane.old.captures }
+    requires captures { HasSpace lane.old.captures }
     requires amount { at.now.planned.now.purchase.amount ≤ most_amount }
     requires amounts { All (λ logged. logged.amount ≤ most_amount) lane.old.log.items }
     requires room { HasRoom shelf.old at.now.durable }
@@ -148,15 +149,14 @@ pub(crate) fn finish<'s, P: Pages>(
 /// What is captured goes to the store of a terminal that has one, or waits for settlement.
 fn keep_capture<P: Pages>(
     at: &Payment<'_>,
-    captures: &mut Vec<Message>,
+    captures: &mut Waiting,
     shelf: &mut Shelf<P>,
     capture: Option<Capture>,
 ) -> Outcome
-    requires captures { vec_len captures.old < vec_capacity captures.old }
+    requires captures { HasSpace captures.old }
     requires room { HasRoom shelf.old at.now.durable }
     requires settles { IsNoRequest capture }
-    ensures waits { map (λ message. message.items) captures.new.items
-        ≡ map (λ message. message.items) captures.old.items ++ (if at.now.durable then [] else option_to_list capture) }
+    ensures waits { captures.new.messages ≡ captures.old.messages ++ (if at.now.durable then [] else option_to_list capture) }
     ensures read { All IsMessage (option_to_list capture) }
     ensures stored { at.now.durable ≡ true → IsStoredBy shelf.old shelf.new at.now.planned.now.terminal_tear capture result }
     ensures told { at.now.durable ≡ false → (result ≡ outcome.Told) × (shelf.new ≡ shelf.old) }
@@ -243,9 +243,9 @@ fn add_approval(log: &mut Vec<Logged>, ending: Ending, pan: Option<Digits>, amou
 }
 
 /// What is captured waits for settlement.
-fn add_capture(captures: &mut Vec<Message>, capture: Option<Capture>)
-    requires room { vec_len captures.old < vec_capacity captures.old }
-    ensures added { map (λ message. message.items) captures.new.items ≡ map (λ message. message.items) captures.old.items ++ option_to_list capture }
+fn add_capture(captures: &mut Waiting, capture: Option<Capture>)
+    requires room { HasSpace captures.old }
+    ensures added { captures.new.messages ≡ captures.old.messages ++ option_to_list capture }
     ensures read { All IsMessage (option_to_list capture) }
 {
     let Some(capture) = capture else {
@@ -253,9 +253,7 @@ fn add_capture(captures: &mut Vec<Message>, capture: Option<Capture>)
     };
     let mut message = Message::new();
     capture.into_message(&mut message);
-    if captures.push(message).is_err() {
-        unreachable!();
-    }
+    captures.push(message.as_slice());
 }
 
 /// So many lanes before their first purchase.
@@ -270,7 +268,7 @@ pub(crate) fn new_lanes<'s>(alloc: Global, count: usize) -> Result<Vec<Lane<'s>>
             running: None,
             place: None,
             log: Vec::new(alloc),
-            captures: Vec::new(alloc),
+            captures: Waiting::new(alloc),
             ending: None,
             found: None,
         })?;

@@ -1,7 +1,6 @@
 //! The settlement: by lane, its captures by purchase, or the opening of its store and what it found.
 ghost use Rattle.std.specs.Prelude.{◌≡◌, ◌≤◌, ◌<◌, ◌+◌, ◌++◌, ◌∷◌, [], ℕ, List, Bool, true, length, slice_get, Some, None, IfOk, OnOk, OnErr};
 ghost use Rattle.std.specs.List.{All};
-ghost use Rattle.std.specs.Vec.{vec_len};
 ghost use Rattle.auth_message.specs.Message.{message_of};
 ghost use Rattle.auth_message.specs.Whole.{IsMessage};
 ghost use Rattle.capture_store.specs.SeenShelf.{ShelfOn, ShelfOff, IsShelfOff, losses_of, is_on as has_power};
@@ -32,7 +31,7 @@ pub(crate) enum Settling<'a> {
     /// The store of a lane is opened.
     Opens(usize),
     /// A message that a lane has captured is sent.
-    Sends(usize, &'a Message),
+    Sends(usize, &'a [u8]),
     /// The oldest message of a lane's store is sent, and dropped behind its last copy.
     Drains(usize, bool),
 }
@@ -40,7 +39,7 @@ pub(crate) enum Settling<'a> {
 /// How many steps a lane has.
 fn steps_of(lane: &Lane<'_>, durable: bool, copies: usize) -> usize
     requires copies { copies ≤ 3 }
-    requires few { vec_len lane.now.captures ≤ 10000 }
+    requires few { length lane.now.captures.messages ≤ 10000 }
     ensures { result ≡ steps_in lane.now durable copies }
 {
     if !durable {
@@ -65,7 +64,7 @@ fn step_in<'a>(
     ensures { found_in lane.now index durable copies number result }
 {
     if !durable {
-        return Settling::Sends(index, &lane.captures[number / copies]);
+        return Settling::Sends(index, lane.captures.at(number / copies));
     }
     if number == 0 {
         return Settling::Opens(index);
@@ -81,7 +80,7 @@ pub(crate) fn settlement<'a>(
 ) -> Option<Settling<'a>>
     requires scenario { IsScenario scenario.now }
     requires few { length lanes.now ≤ 16 }
-    requires captures { All (λ lane. vec_len lane.captures ≤ 10000) lanes.now }
+    requires captures { All (λ lane. length lane.captures.messages ≤ 10000) lanes.now }
     ensures { (rows : List LaneRow) → AreRows lanes.now rows → IsStepOf (durable_of scenario.now) (slice_get (settlements_from scenario.now 0 rows) number) result }
 {
     let copies = usize::from(scenario.copies);

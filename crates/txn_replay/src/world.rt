@@ -17,7 +17,7 @@ ghost use Rattle.txn_replay.specs.declared.event.Event.TheVariants as event;
 
 use crate::audit::{audit_step, carry_out};
 use crate::bank::{give_pages, give_stores, take_pages, take_stores};
-use crate::exchange::{exchange, is_held};
+use crate::exchange::{Common, exchange, is_held};
 use crate::lane::{Lane, all_ended, are_done, data_in, new_lanes};
 use crate::lines::Lines;
 use crate::payment::{dialect_at, payment_at};
@@ -47,8 +47,7 @@ pub struct World<'s, P: Pages> {
     lanes: Vec<Lane<'s>>,
     /// The store of each lane that keeps its captures durably.
     shelves: Vec<Shelf<P>>,
-    host: Host<'s>,
-    tally: Tally,
+    common: Common<'s>,
     /// The pages that no card and no store has.
     spare: Vec<P>,
 }
@@ -65,8 +64,8 @@ impl<'s, P: Pages> Model for World<'s, P> {
       slots = w.slots.items;
       lanes = w.lanes.items;
       shelves = w.shelves.items;
-      host = w.host;
-      tally = w.tally;
+      host = w.common.host;
+      tally = w.common.tally;
       spare = map P.memory w.spare.items;
     } };
 
@@ -75,8 +74,8 @@ impl<'s, P: Pages> Model for World<'s, P> {
       slots = w.slots.items;
       lanes = w.lanes.items;
       shelves = w.shelves.items;
-      host = w.host;
-      tally = w.tally;
+      host = w.common.host;
+      tally = w.common.tally;
       spare = map P.memory w.spare.items;
     }) × (64 ≤ vec_capacity w.spare) };
 }
@@ -119,8 +118,10 @@ impl<'s, P: Pages> World<'s, P> {
             slots,
             lanes,
             shelves,
-            host,
-            tally: Tally::new(),
+            common: Common {
+                host,
+                tally: Tally::new(),
+            },
             spare,
         })
     }
@@ -155,8 +156,7 @@ impl<'s, P: Pages> World<'s, P> {
             &mut self.lanes[lane],
             &mut self.shelves[lane],
             &mut self.slots[card],
-            &mut self.host,
-            &mut self.tally,
+            &mut self.common,
             lines,
         )?;
         Ok(true)
@@ -194,13 +194,13 @@ impl<'s, P: Pages> World<'s, P> {
             }
             Settling::Sends(lane, message) => {
                 let iso = dialect_at(scenario, lane as u8);
-                send(iso, lane as u8, message.as_slice(), &mut self.host, lines)?;
+                send(iso, lane as u8, message, &mut self.common.host, lines)?;
                 Ok(true)
             }
             Settling::Drains(lane, drops) => {
                 let iso = dialect_at(scenario, lane as u8);
                 let shelf = &mut self.shelves[lane];
-                drain(iso, lane as u8, drops, shelf, &mut self.host, lines)?;
+                drain(iso, lane as u8, drops, shelf, &mut self.common.host, lines)?;
                 Ok(true)
             }
         }
@@ -264,7 +264,7 @@ impl<'s, P: Pages> World<'s, P> {
         ensures { (w : SpecWorld) → WorldStands self.now w
             → result ≡ balance_after self.now.scenario.issuer self.now.scenario.accounts w.messages pan.now }
     {
-        self.host.balance(pan)
+        self.common.host.balance(pan)
     }
 
     /// How many purchases have ended.
@@ -286,10 +286,10 @@ impl<'s, P: Pages> World<'s, P> {
             slots,
             lanes: _,
             shelves,
-            host: _,
-            tally,
+            common,
             spare,
         } = self;
+        let Common { host: _, tally } = common;
         (give_stores(shelves, give_pages(slots, spare)), tally)
     }
 }

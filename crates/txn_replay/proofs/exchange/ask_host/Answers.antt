@@ -17,7 +17,7 @@ use Rattle.txn_replay.proofs.exchange.ask_host.Goals as goal
 
 pub returns-clause-led : goal.returns-clause-led
 returns-clause-led g c = λ replies part runs stood.
-    let p = seen_payment c.args.host.now.keys c.args.host.now.accounts c.args.at.now in
+    let p = seen_payment c.args.common.now.host.keys c.args.common.now.host.accounts c.args.at.now in
     let message : List ℕ = told_bytes (dialogue (deal_for p) replies) in
     let reply : Option (List ℕ) = heard p.planned.link (host_reply p.issuer p.accounts part.messages message) in
     let back = c.in_ok-comes.ensures.heard p replies part.messages runs.lane_is.running stood in
@@ -41,13 +41,13 @@ returns-clause-led g c = λ replies part runs stood.
     record {
       moved = subst (λ (xs : List Line). MovedTo p c.settle.new.lane c.settle.new.shelf c.settle.new.slot c.settle.new.lines.items (settled p more after xs)) lines
           (c.settle.ensures.moved p.issuer p.accounts more after on);
-      counted = subst (λ (xs : List Line). IsCounted c.args.tally.now c.settle.new.tally part.lane.ended (settled p more after xs).part.lane.ended) lines
+      counted = subst (λ (xs : List Line). IsCounted c.args.common.now.tally c.settle.new.tally part.lane.ended (settled p more after xs).part.lane.ended) lines
           (c.settle.ensures.counted p.issuer p.accounts more after on);
     }
 
 pub returns-clause-messages : goal.returns-clause-messages
 returns-clause-messages g c = λ replies part runs stood.
-    let p = seen_payment c.args.host.now.keys c.args.host.now.accounts c.args.at.now in
+    let p = seen_payment c.args.common.now.host.keys c.args.common.now.host.accounts c.args.at.now in
     let message : List ℕ = told_bytes (dialogue (deal_for p) replies) in
     let reply : Option (List ℕ) = heard p.planned.link (host_reply p.issuer p.accounts part.messages message) in
     let after : Part = sending p message part in

@@ -10,7 +10,7 @@ use Rattle.txn_replay.proofs.exchange.begin_next.Goals as goal
 
 pub prepare-requires-clause-stands : goal.prepare-requires-clause-stands
 prepare-requires-clause-stands g c =
-    let p = seen_payment c.args.host.now.keys c.args.host.now.accounts c.args.at.now in
+    let p = seen_payment c.args.common.now.host.keys c.args.common.now.host.accounts c.args.at.now in
     let part = c.requires.stands.0 in
     (part, resting p c.args.lane.now c.args.shelf.now c.args.slot.now part c.requires.stands.1, c.requires.stands.2)
 
@@ -21,18 +21,18 @@ begin-requires-clause-off g c =
 
 pub returns-in-Ok-true-clause-led : goal.returns-in-Ok-true-clause-led
 returns-in-Ok-true-clause-led g c = λ part rests messages.
-    let p = seen_payment c.args.host.now.keys c.args.host.now.accounts c.args.at.now in
+    let p = seen_payment c.args.common.now.host.keys c.args.common.now.host.accounts c.args.at.now in
     let prepared = c.in-Ok-true.ensures.prepared part (resting p c.args.lane.now c.args.shelf.now c.args.slot.now part rests) messages in
     let begins =
     begins_here p c.args.lane.now c.args.shelf.now c.args.slot.now part rests prepared.0 c.prepare.new.lane c.prepare.new.shelf c.prepare.new.host c.prepare.new.lines.items
     (subst (λ (b : Bool). PreparedBy p c.prepare.new.lane c.prepare.new.shelf c.prepare.new.host c.prepare.new.lines.items b (before p part prepared.0)) c.in-Ok-true.field-0-test
     prepared.1) in
-    let led = c.begin.ensures.led c.args.host.now.keys c.args.host.now.accounts begins.on begins.starts in
+    let led = c.begin.ensures.led c.args.common.now.host.keys c.args.common.now.host.accounts begins.on begins.starts in
     let is = piece_begins p begins.on led.0 begins.starts.rests begins.starts.free in
     let leads = begins.leads led.0 in (
       leads.0,
       leads.1,
-      led_whole p c.args.lane.now c.args.shelf.now c.args.slot.now part rests c.begin.new.lane c.begin.new.shelf c.begin.new.slot c.args.tally.now c.begin.new.tally
+      led_whole p c.args.lane.now c.args.shelf.now c.args.slot.now part rests c.begin.new.lane c.begin.new.shelf c.begin.new.slot c.args.common.now.tally c.begin.new.tally
           c.begin.new.lines.items begins.on _ (lane_piece p part leads.0 leads.1) begins.same
           (leads.2 ∙ ap (λ (m : Moved). m.part) is) (leads.3 ∙ ap (λ (m : Moved). m.lines) is) led.1,
       subst (λ (ms : List (List ℕ)). HostStands c.prepare.new.host ms)
@@ -41,11 +41,11 @@ returns-in-Ok-true-clause-led g c = λ part rests messages.
 
 pub returns-in-Ok-false-clause-led : goal.returns-in-Ok-false-clause-led
 returns-in-Ok-false-clause-led g c = λ part rests messages.
-    let p = seen_payment c.args.host.now.keys c.args.host.now.accounts c.args.at.now in
+    let p = seen_payment c.args.common.now.host.keys c.args.common.now.host.accounts c.args.at.now in
     let prepared = c.in-Ok-false.ensures.prepared part (resting p c.args.lane.now c.args.shelf.now c.args.slot.now part rests) messages in
     let ends =
     ends_here p c.args.lane.now c.args.shelf.now c.args.slot.now part rests prepared.0 c.prepare.new.lane c.prepare.new.shelf c.prepare.new.host c.prepare.new.lines.items
-    c.args.tally.now c.in-Ok-false.ensures.rests
+    c.args.common.now.tally c.in-Ok-false.ensures.rests
     (subst (λ (b : Bool). PreparedBy p c.prepare.new.lane c.prepare.new.shelf c.prepare.new.host c.prepare.new.lines.items b (before p part prepared.0)) c.in-Ok-false.field-0-test
     prepared.1) in
     (prepared.0, false, ends.0, ends.1)

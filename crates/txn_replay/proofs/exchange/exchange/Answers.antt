@@ -17,7 +17,7 @@ use Rattle.txn_replay.proofs.exchange.exchange.Goals as goal
 
 pub begin_next-requires-clause-stands : goal.begin_next-requires-clause-stands
 begin_next-requires-clause-stands g c =
-    let p = seen_payment c.args.host.now.keys c.args.host.now.accounts c.args.at.now in
+    let p = seen_payment c.args.common.now.host.keys c.args.common.now.host.accounts c.args.at.now in
     let later : Lane = c.make_room.new.lane in
     let same : SameLane c.args.lane.now later = c.make_room.ensures.same in
     let none : c.args.lane.now.running ≡ None = none_runs c.args.lane.now.running next_of (waits_same c.args.lane.now.running later.running same.running ∙ sym c.waits_for.ensures.exact ∙ c.in-None.is) in
@@ -33,7 +33,7 @@ begin_next-requires-clause-stands g c =
 
 pub returns-in_ok-begin_next-in-None-clause-led : goal.returns-in_ok-begin_next-in-None-clause-led
 returns-in_ok-begin_next-in-None-clause-led g c = λ part stands stood.
-    let p = seen_payment c.args.host.now.keys c.args.host.now.accounts c.args.at.now in
+    let p = seen_payment c.args.common.now.host.keys c.args.common.now.host.accounts c.args.at.now in
     let later : Lane = c.make_room.new.lane in
     let same : SameLane c.args.lane.now later = c.make_room.ensures.same in
     let none : c.args.lane.now.running ≡ None = none_runs c.args.lane.now.running next_of (waits_same c.args.lane.now.running later.running same.running ∙ sym c.waits_for.ensures.exact ∙ c.in-None.is) in
@@ -47,7 +47,7 @@ returns-in_ok-begin_next-in-None-clause-led g c = λ part stands stood.
 
 pub returns-in-Some-ToCard-clause-led : goal.returns-in-Some-ToCard-clause-led
 returns-in-Some-ToCard-clause-led g c = λ part stands stood.
-    let p = seen_payment c.args.host.now.keys c.args.host.now.accounts c.args.at.now in
+    let p = seen_payment c.args.common.now.host.keys c.args.common.now.host.accounts c.args.at.now in
     let later : Lane = c.make_room.new.lane in
     let same : SameLane c.args.lane.now later = c.make_room.ensures.same in
     let kernel = some_runs c.args.lane.now.running next_of next.ToCard (waits_same c.args.lane.now.running later.running same.running ∙ sym c.waits_for.ensures.exact ∙ c.in-Some-ToCard.is ∙ ap (λ (n : Next). Some n) c.in-Some-ToCard.field-0-is) in
@@ -58,18 +58,18 @@ returns-in-Some-ToCard-clause-led g c = λ part stands stood.
     let is = runs_through p part false false run.replies run.ran ∙ piece_card p part false run.replies run.ran waits in (
       false,
       false,
-      subst (λ (m : Moved). Led p c.ask_card.new.lane c.ask_card.new.shelf c.ask_card.new.slot c.args.tally.now c.ask_card.new.tally c.ask_card.new.lines.items part m) (sym is)
+      subst (λ (m : Moved). Led p c.ask_card.new.lane c.ask_card.new.shelf c.ask_card.new.slot c.args.common.now.tally c.ask_card.new.tally c.ask_card.new.lines.items part m) (sym is)
           (record {
-            moved = c.ask_card.ensures.moved c.args.host.now.keys c.args.host.now.accounts run.replies part run.runs;
-            counted = c.ask_card.ensures.counted c.args.host.now.keys c.args.host.now.accounts run.replies part run.runs;
+            moved = c.ask_card.ensures.moved c.args.common.now.host.keys c.args.common.now.host.accounts run.replies part run.runs;
+            counted = c.ask_card.ensures.counted c.args.common.now.host.keys c.args.common.now.host.accounts run.replies part run.runs;
           }),
-      subst (λ (ms : List (List ℕ)). HostStands c.args.host.now ms)
+      subst (λ (ms : List (List ℕ)). HostStands c.args.common.now.host ms)
           (sym (ap (λ (m : Moved). m.part.messages) is ∙ card_messages p run.replies (told_bytes (dialogue (deal_for p) run.replies)) part)) stood,
     )
 
 pub returns-in_ok-ask_host-in-Some-ToHost-clause-led : goal.returns-in_ok-ask_host-in-Some-ToHost-clause-led
 returns-in_ok-ask_host-in-Some-ToHost-clause-led g c = λ part stands stood.
-    let p = seen_payment c.args.host.now.keys c.args.host.now.accounts c.args.at.now in
+    let p = seen_payment c.args.common.now.host.keys c.args.common.now.host.accounts c.args.at.now in
     let later : Lane = c.make_room.new.lane in
     let same : SameLane c.args.lane.now later = c.make_room.ensures.same in
     let kernel = some_runs c.args.lane.now.running next_of next.ToHost (waits_same c.args.lane.now.running later.running same.running ∙ sym c.waits_for.ensures.exact ∙ c.in-Some-ToHost.is ∙ ap (λ (n : Next). Some n) c.in-Some-ToHost.field-0-is) in
@@ -80,15 +80,15 @@ returns-in_ok-ask_host-in-Some-ToHost-clause-led g c = λ part stands stood.
     let is = runs_through p part false false run.replies run.ran ∙ piece_host p part false run.replies run.ran waits in (
       false,
       false,
-      subst (λ (m : Moved). Led p c.ask_host.new.lane c.ask_host.new.shelf c.ask_host.new.slot c.args.tally.now c.ask_host.new.tally c.ask_host.new.lines.items part m) (sym is)
+      subst (λ (m : Moved). Led p c.ask_host.new.lane c.ask_host.new.shelf c.ask_host.new.slot c.args.common.now.tally c.ask_host.new.common.tally c.ask_host.new.lines.items part m) (sym is)
           (c.in_ok-ask_host-in-Some-ToHost.ensures.led run.replies part run.runs stood),
-      subst (λ (ms : List (List ℕ)). HostStands c.ask_host.new.host ms) (sym (ap (λ (m : Moved). m.part.messages) is))
+      subst (λ (ms : List (List ℕ)). HostStands c.ask_host.new.common.host ms) (sym (ap (λ (m : Moved). m.part.messages) is))
           (c.in_ok-ask_host-in-Some-ToHost.ensures.messages run.replies part run.runs stood),
     )
 
 pub ask_card-requires-clause-taken : goal.ask_card-requires-clause-taken
 ask_card-requires-clause-taken g c =
-    let p = seen_payment c.args.host.now.keys c.args.host.now.accounts c.args.at.now in
+    let p = seen_payment c.args.common.now.host.keys c.args.common.now.host.accounts c.args.at.now in
     let later : Lane = c.make_room.new.lane in
     let same : SameLane c.args.lane.now later = c.make_room.ensures.same in
     let kernel = some_runs c.args.lane.now.running next_of next.ToCard (waits_same c.args.lane.now.running later.running same.running ∙ sym c.waits_for.ensures.exact ∙ c.in-Some-ToCard.is ∙ ap (λ (n : Next). Some n) c.in-Some-ToCard.field-0-is) in
@@ -96,7 +96,7 @@ ask_card-requires-clause-taken g c =
 
 pub ask_host-requires-clause-taken : goal.ask_host-requires-clause-taken
 ask_host-requires-clause-taken g c =
-    let p = seen_payment c.args.host.now.keys c.args.host.now.accounts c.args.at.now in
+    let p = seen_payment c.args.common.now.host.keys c.args.common.now.host.accounts c.args.at.now in
     let later : Lane = c.make_room.new.lane in
     let same : SameLane c.args.lane.now later = c.make_room.ensures.same in
     let kernel = some_runs c.args.lane.now.running next_of next.ToHost (waits_same c.args.lane.now.running later.running same.running ∙ sym c.waits_for.ensures.exact ∙ c.in-Some-ToHost.is ∙ ap (λ (n : Next). Some n) c.in-Some-ToHost.field-0-is) in

@@ -21,7 +21,7 @@ returns-then-left-steps c = λ rows are.
     subst (λ (b : Bool). step_in lane l b s.copies c.loop-index.left c.step_in.result) durable
     (subst (λ (n : ℕ). step_in lane l c.is_durable-durable.result n c.loop-index.left c.step_in.result) copies c.step_in.ensures) in
     let within : c.loop-index.left < steps_of lane (durable_of s l) s.copies = omega (arith, steps, c.if-left-steps.true) in
-    let step = step_found s l lane row.0 c.loop-index.left c.step_in.result c.requires.scenario.tables.one_copy lane.captures.ok.0 keeps within found in
+    let step = step_found s l lane row.0 c.loop-index.left c.step_in.result c.requires.scenario.tables.one_copy keeps within found in
     subst (λ (o : Option Settlement). IsStepOf (durable_of s) o (Some c.step_in.result))
     (sym (own_step s rows l row.0 c.loop-index.left step.0 row.1 step.1) ∙ c.loop-index.invariant.same rows are) step.2
 
@@ -38,7 +38,7 @@ loop-index-preserved c = record {
       let copies : c.from-copies.result ≡ s.copies = c.loop-index.invariant.copies in
       let count : c.steps_of-steps.result ≡ length (lane_settlements s.copies l row.0 (durable_of s l)) =
       c.steps_of-steps.ensures ∙ (λ i. steps_of lane (durable i) (copies i))
-      ∙ steps_count s.copies l lane row.0 (durable_of s l) c.requires.scenario.tables.one_copy lane.captures.ok.0 keeps in
+      ∙ steps_count s.copies l lane row.0 (durable_of s l) c.requires.scenario.tables.one_copy keeps in
       ap (λ n. slice_get (settlements_from s (l + 1) (drop (l + 1) rows)) (c.loop-index.left - n)) count
       ∙ sym (later_step s rows l row.0 c.loop-index.left row.1 (omega (arith, count, c.if-left-steps.false)))
       ∙ c.loop-index.invariant.same rows are);

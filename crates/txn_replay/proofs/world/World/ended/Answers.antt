@@ -16,8 +16,8 @@ all_ended-requires g c =
       slots = c.self.inside.slots.items;
       lanes = c.self.inside.lanes.items;
       shelves = c.self.inside.shelves.items;
-      host = c.self.inside.host;
-      tally = c.self.inside.tally;
+      host = c.self.inside.common.host;
+      tally = c.self.inside.common.tally;
       spare = map g.P.Pages.memory c.self.inside.spare.items;
     } in
     let few : ended_count w ≤ purchase_count v.scenario.lanes = ended_few v w stands in
@@ -33,8 +33,8 @@ returns g c = λ w stands.
       slots = c.self.inside.slots.items;
       lanes = c.self.inside.lanes.items;
       shelves = c.self.inside.shelves.items;
-      host = c.self.inside.host;
-      tally = c.self.inside.tally;
+      host = c.self.inside.common.host;
+      tally = c.self.inside.common.tally;
       spare = map g.P.Pages.memory c.self.inside.spare.items;
     } in
     let seen : WorldStands v w = subst (λ (x : WorldSeen). WorldStands x w) (sym c.self.view_is) stands in

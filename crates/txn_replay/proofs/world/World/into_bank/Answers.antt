@@ -14,8 +14,8 @@ give_pages-requires g c =
       slots = c.self.inside.slots.items;
       lanes = c.self.inside.lanes.items;
       shelves = c.self.inside.shelves.items;
-      host = c.self.inside.host;
-      tally = c.self.inside.tally;
+      host = c.self.inside.common.host;
+      tally = c.self.inside.common.tally;
       spare = map g.P.Pages.memory c.self.inside.spare.items;
     } in
     let spare : length v.spare ≡ length c.self.inside.spare.items = length-map c.self.inside.spare.items g.P.Pages.memory in
@@ -32,8 +32,8 @@ give_stores-requires-clause-pages g c =
       slots = c.self.inside.slots.items;
       lanes = c.self.inside.lanes.items;
       shelves = c.self.inside.shelves.items;
-      host = c.self.inside.host;
-      tally = c.self.inside.tally;
+      host = c.self.inside.common.host;
+      tally = c.self.inside.common.tally;
       spare = map g.P.Pages.memory c.self.inside.spare.items;
     } in
     let spare : length v.spare ≡ length c.self.inside.spare.items = length-map c.self.inside.spare.items g.P.Pages.memory in
@@ -50,8 +50,8 @@ returns-clause-bank g c = λ w stands.
       slots = c.self.inside.slots.items;
       lanes = c.self.inside.lanes.items;
       shelves = c.self.inside.shelves.items;
-      host = c.self.inside.host;
-      tally = c.self.inside.tally;
+      host = c.self.inside.common.host;
+      tally = c.self.inside.common.tally;
       spare = map g.P.Pages.memory c.self.inside.spare.items;
     } in
     let seen : WorldStands v w = subst (λ (x : WorldSeen). WorldStands x w) (sym c.self.view_is) stands in

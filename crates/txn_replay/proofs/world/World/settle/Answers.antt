@@ -1,16 +1,14 @@
-use Rattle.std.proofs.Common.{◌≤◌, List, sym, subst, arith}
-use Rattle.std.specs.Vec.{vec_len}
+use Rattle.std.proofs.Common.{◌≤◌, List, length, sym, subst, arith}
 use Rattle.txn_replay.specs.declared.lane.Lane.{Lane}
 use Rattle.std.specs.List.{All}
-use Rattle.auth_message.specs.Whole.{IsMessage}
 use Rattle.txn_replay.specs.declared.settlement.Settling.TheVariants as settling
-use Rattle.txn_replay.proofs.Reaching.{past_it, past_goes, step_there, step_few, lane_inside, lane_fits, opens_off, opens_so, opens_done, opens_whole, sends_message, sends_so, sends_whole, drains_from, drains_so, drains_whole}
+use Rattle.txn_replay.proofs.Reaching.{past_it, past_goes, step_there, step_few, lane_inside, lane_fits, opens_off, opens_so, opens_done, opens_whole, sends_message, sends_short, sends_so, sends_whole, drains_from, drains_so, drains_whole}
 use Rattle.txn_replay.proofs.Settlements.{captured_few}
 use Rattle.txn_replay.proofs.world.World.settle.Goals as goal
 
 pub settlement-requires-clause-captures : goal.settlement-requires-clause-captures
 settlement-requires-clause-captures g c =
-    subst (λ (lanes : List Lane). All (λ lane. vec_len lane.captures ≤ 10000) lanes) (sym c.as_slice.ensures.value)
+    subst (λ (lanes : List Lane). All (λ lane. length lane.captures.messages ≤ 10000) lanes) (sym c.as_slice.ensures.value)
     (captured_few _ c.self.invariant.0.standing.0 c.self.invariant.0.standing.1 c.self.invariant.0.scenario)
 
 pub returns-in_default-clause-past : goal.returns-in_default-clause-past
@@ -64,16 +62,19 @@ pub overflow_cast-lane-in-Sends : goal.overflow_cast-lane-in-Sends
 overflow_cast-lane-in-Sends g c = omega (arith, lane_fits _ _ c.self.invariant.0 c.self.view_is _ c.as_slice.ensures.value c.args.number c.in-Some.step (λ rows are. c.in-Some.ensures rows are) (settling.Sends c.in-Sends.lane c.in-Sends.message) c.in-Sends.is)
 
 pub send-requires-clause-message : goal.send-requires-clause-message
-send-requires-clause-message g c = λ iso. subst IsMessage (sym c.as_slice-in-Sends.ensures.value) (sends_message _ _ c.self.invariant.0 c.self.view_is _ c.as_slice.ensures.value c.args.number c.in-Some.step (λ rows are. c.in-Some.ensures rows are) c.requires.done c.in-Sends.lane c.in-Sends.message c.in-Sends.is)
+send-requires-clause-message g c = λ iso. sends_message _ _ c.self.invariant.0 c.self.view_is _ c.as_slice.ensures.value c.args.number c.in-Some.step (λ rows are. c.in-Some.ensures rows are) c.requires.done c.in-Sends.lane c.in-Sends.message c.in-Sends.is
+
+pub send-requires-clause-short : goal.send-requires-clause-short
+send-requires-clause-short g c = sends_short _ _ c.self.invariant.0 c.self.view_is _ c.as_slice.ensures.value c.args.number c.in-Some.step (λ rows are. c.in-Some.ensures rows are) c.requires.done c.in-Sends.lane c.in-Sends.message c.in-Sends.is
 
 pub send-requires-clause-stands : goal.send-requires-clause-stands
 send-requires-clause-stands g c = (c.self.invariant.0.standing.0.messages, c.self.invariant.0.standing.1.messages)
 
 pub returns-in_ok-send-in-Sends-clause-ok : goal.returns-in_ok-send-in-Sends-clause-ok
-returns-in_ok-send-in-Sends-clause-ok g c = λ w stands through. sends_so _ _ c.self.invariant.0 c.self.view_is _ c.as_slice.ensures.value c.args.number c.in-Some.step (λ rows are. c.in-Some.ensures rows are) c.requires.done c.in-Sends.lane c.in-Sends.message c.in-Sends.is _ c.as_slice-in-Sends.ensures.value _ c.dialect_at-iso.ensures _ c.send.new.lines.items c.requires.empty c.send.new.host (λ messages stands. c.in_ok-send-in-Sends.ensures.stands messages stands) (λ messages stands. c.in_ok-send-in-Sends.ensures.lines messages stands) w stands
+returns-in_ok-send-in-Sends-clause-ok g c = λ w stands through. sends_so _ _ c.self.invariant.0 c.self.view_is _ c.as_slice.ensures.value c.args.number c.in-Some.step (λ rows are. c.in-Some.ensures rows are) c.requires.done c.in-Sends.lane c.in-Sends.message c.in-Sends.is _ c.dialect_at-iso.ensures _ c.send.new.lines.items c.requires.empty c.send.new.host (λ messages stands. c.in_ok-send-in-Sends.ensures.stands messages stands) (λ messages stands. c.in_ok-send-in-Sends.ensures.lines messages stands) w stands
 
 pub invariant_of-self-in-Sends : goal.invariant_of-self-in-Sends
-invariant_of-self-in-Sends g c = (sends_whole _ _ c.self.invariant.0 c.self.view_is _ c.as_slice.ensures.value c.args.number c.in-Some.step (λ rows are. c.in-Some.ensures rows are) c.requires.done c.in-Sends.lane c.in-Sends.message c.in-Sends.is _ c.as_slice-in-Sends.ensures.value _ c.dialect_at-iso.ensures _ c.send.new.lines.items c.requires.empty c.send.new.host (λ messages stands. c.in_ok-send-in-Sends.ensures.stands messages stands) (λ messages stands. c.in_ok-send-in-Sends.ensures.lines messages stands) c.send.ensures.keys c.send.ensures.accounts, c.self.invariant.1)
+invariant_of-self-in-Sends g c = (sends_whole _ _ c.self.invariant.0 c.self.view_is _ c.as_slice.ensures.value c.args.number c.in-Some.step (λ rows are. c.in-Some.ensures rows are) c.requires.done c.in-Sends.lane c.in-Sends.message c.in-Sends.is _ c.dialect_at-iso.ensures _ c.send.new.lines.items c.requires.empty c.send.new.host (λ messages stands. c.in_ok-send-in-Sends.ensures.stands messages stands) (λ messages stands. c.in_ok-send-in-Sends.ensures.lines messages stands) c.send.ensures.keys c.send.ensures.accounts, c.self.invariant.1)
 
 -- a message of a store is sent
 pub overflow_cast-lane-in-Drains : goal.overflow_cast-lane-in-Drains

@@ -1,4 +1,6 @@
+use Rattle.std.proofs.Common.{ap}
 use Rattle.txn_replay.specs.Steps.{part_of}
+use Rattle.txn_replay.specs.declared.exchange.Common.{Common}
 use Rattle.txn_replay.proofs.AtHand.{stands_for, none_left, card_held, few_ended, own_fits, part_at, whole_after, unmoved, moved_on}
 use Rattle.txn_replay.proofs.Turned.{on_err}
 use Rattle.txn_replay.proofs.world.World.turn.Goals as goal
@@ -59,14 +61,14 @@ invariant_of-self g c =
     c.in-Some.at c.in-Some.ensures.payment c.in-Some.ensures.card
     c.index_mut.result.now c.index_mut.ensures.value c.index_mut-3.result.now c.index_mut-3.ensures.value
     c.index_mut-2.result.now c.index_mut-2.ensures.value
-    c.exchange.new.lane c.exchange.new.shelf c.exchange.new.slot c.exchange.new.host c.exchange.new.tally
-    c.in_err-exchange.ensures.err.0 c.in_err-exchange.ensures.err.1 c.in_err-exchange.ensures.err.2 c.in_err-exchange.ensures.err.3 c.in_err-exchange.ensures.err.4
+    c.exchange.new.lane c.exchange.new.shelf c.exchange.new.slot c.exchange.new.common.host c.exchange.new.common.tally
+    c.in_err-exchange.ensures.err.0 c.in_err-exchange.ensures.err.1 c.in_err-exchange.ensures.err.2 (ap (λ (x : Common). x.host) c.in_err-exchange.ensures.err.3) (ap (λ (x : Common). x.tally) c.in_err-exchange.ensures.err.3)
     w c.self.invariant.0.standing.1 in (
       whole_after _ _ c.self.view_is c.self.invariant.0 c.args.lane c.requires.lane c.index.result.now c.index.ensures
           c.in-Some.at c.in-Some.ensures.payment c.in-Some.ensures.card
           c.index_mut.result.now c.index_mut.ensures.value c.index_mut-3.result.now c.index_mut-3.ensures.value
           c.index_mut-2.result.now c.index_mut-2.ensures.value
-          c.exchange.new.lane c.exchange.new.shelf c.exchange.new.slot c.exchange.new.host c.exchange.new.tally
+          c.exchange.new.lane c.exchange.new.shelf c.exchange.new.slot c.exchange.new.common.host c.exchange.new.common.tally
           c.exchange.ensures.fits c.exchange.ensures.keys c.exchange.ensures.accounts (w, stands),
       c.self.invariant.1,
     )
@@ -78,8 +80,8 @@ returns-in_err-exchange-clause-err g c =
     c.in-Some.at c.in-Some.ensures.payment c.in-Some.ensures.card
     c.index_mut.result.now c.index_mut.ensures.value c.index_mut-3.result.now c.index_mut-3.ensures.value
     c.index_mut-2.result.now c.index_mut-2.ensures.value
-    c.exchange.new.lane c.exchange.new.shelf c.exchange.new.slot c.exchange.new.host c.exchange.new.tally
-    c.in_err-exchange.ensures.err.0 c.in_err-exchange.ensures.err.1 c.in_err-exchange.ensures.err.2 c.in_err-exchange.ensures.err.3 c.in_err-exchange.ensures.err.4
+    c.exchange.new.lane c.exchange.new.shelf c.exchange.new.slot c.exchange.new.common.host c.exchange.new.common.tally
+    c.in_err-exchange.ensures.err.0 c.in_err-exchange.ensures.err.1 c.in_err-exchange.ensures.err.2 (ap (λ (x : Common). x.host) c.in_err-exchange.ensures.err.3) (ap (λ (x : Common). x.tally) c.in_err-exchange.ensures.err.3)
     w (stands_for _ _ c.self.view_is c.self.invariant.0 c.args.lane c.requires.lane c.index.result.now c.index.ensures w stands))
 
 pub invariant_of-self-2 : goal.invariant_of-self-2
@@ -96,7 +98,7 @@ invariant_of-self-2 g c =
     c.in-Some.at c.in-Some.ensures.payment c.in-Some.ensures.card
     c.index_mut.result.now c.index_mut.ensures.value c.index_mut-3.result.now c.index_mut-3.ensures.value
     c.index_mut-2.result.now c.index_mut-2.ensures.value
-    c.exchange.new.lane c.exchange.new.shelf c.exchange.new.slot c.exchange.new.host c.exchange.new.tally
+    c.exchange.new.lane c.exchange.new.shelf c.exchange.new.slot c.exchange.new.common.host c.exchange.new.common.tally
     c.index-2.result.now c.index-2.ensures c.index-3.result.now c.index-3.ensures
     c.is_held.result c.is_held.ensures.exact c.if-is_held.false
     c.exchange.new.lines.items w stands led.0 led.1 led.2 led.3 in (
@@ -104,7 +106,7 @@ invariant_of-self-2 g c =
           c.in-Some.at c.in-Some.ensures.payment c.in-Some.ensures.card
           c.index_mut.result.now c.index_mut.ensures.value c.index_mut-3.result.now c.index_mut-3.ensures.value
           c.index_mut-2.result.now c.index_mut-2.ensures.value
-          c.exchange.new.lane c.exchange.new.shelf c.exchange.new.slot c.exchange.new.host c.exchange.new.tally
+          c.exchange.new.lane c.exchange.new.shelf c.exchange.new.slot c.exchange.new.common.host c.exchange.new.common.tally
           c.exchange.ensures.fits c.exchange.ensures.keys c.exchange.ensures.accounts (goes.after, goes.stands),
       c.self.invariant.1,
     )
@@ -121,7 +123,7 @@ returns-clause-ok g c = λ w stands.
     c.in-Some.at c.in-Some.ensures.payment c.in-Some.ensures.card
     c.index_mut.result.now c.index_mut.ensures.value c.index_mut-3.result.now c.index_mut-3.ensures.value
     c.index_mut-2.result.now c.index_mut-2.ensures.value
-    c.exchange.new.lane c.exchange.new.shelf c.exchange.new.slot c.exchange.new.host c.exchange.new.tally
+    c.exchange.new.lane c.exchange.new.shelf c.exchange.new.slot c.exchange.new.common.host c.exchange.new.common.tally
     c.index-2.result.now c.index-2.ensures c.index-3.result.now c.index-3.ensures
     c.is_held.result c.is_held.ensures.exact c.if-is_held.false
     c.exchange.new.lines.items w seen led.0 led.1 led.2 led.3
