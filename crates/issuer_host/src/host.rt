@@ -154,7 +154,6 @@ impl<'a> Host<'a> {
             self.accounts,
             &self.records,
             &self.served,
-            &key,
             fields,
             out,
         );

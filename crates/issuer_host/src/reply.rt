@@ -10,7 +10,9 @@ ghost use Rattle.issuer_host.specs.Reply.{request_key as key_of_request, present
 
 use crate::account::Account;
 use crate::code::Code;
-use crate::decision::{is_made_under, present_code, request_code, reversal_code, session};
+use crate::decision::{
+    is_made_under, present_code, request_code, request_key, reversal_code, session,
+};
 use crate::keys::HostKeys;
 use crate::records::Records;
 use crate::response::issuer_data;
@@ -48,12 +50,10 @@ pub fn request_reply(
     account: Option<&Account>,
     served: bool,
     records: &Records,
-    key: &Key,
     fields: &RequestFields,
     out: &mut Message,
 ) -> Answered
     requires account { IfSome account (λ a. IsAccount a.now) }
-    requires key { key.now ≡ key_of_request fields.now }
     requires known { IfSome account (λ a. balance_left records.now a.now.pan ≡ Some (pos a.now.balance -ℤ pos (taken a.now.pan records.now.books))) }
     requires served { IfSome account (λ a. served ≡ is_served a.now.pan records.now.books) }
     ensures bytes { out.new.items ≡ said_bytes (spec.request_reply keys.now (option_map (λ a. a.now) account.entry) records.now.books fields.now) }
@@ -63,12 +63,13 @@ pub fn request_reply(
     let Some(account) = account else {
         return plain(Code::UnknownAccount, out);
     };
-    let session = session(&keys.ac, key);
+    let key = request_key(fields);
+    let session = session(&keys.ac, &key);
     if !is_made_under(&session, fields) {
         return plain(Code::Declined, out);
     }
-    let code = request_code(keys, account, records, key, fields);
-    let scripts = scripts(keys, account, served, records, key, fields);
+    let code = request_code(keys, account, records, &key, fields);
+    let scripts = scripts(keys, account, served, records, &key, fields);
     online_reply(&session, account, fields, code, &scripts, out);
     Answered { code, online: true }
 }

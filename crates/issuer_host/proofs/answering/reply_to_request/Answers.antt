@@ -3,12 +3,11 @@ use Rattle.std.specs.Prelude.{option_map}
 use Rattle.std.specs.Option.{is_some}
 use Rattle.emv_dict.specs.Bcd.{number_in}
 use Rattle.auth_message.specs.Data.{RequestData}
-use Rattle.host_ledger.specs.declared.key.Key.{Key}
 use Rattle.issuer_host.specs.Balance.{account_of, taken}
 use Rattle.issuer_host.specs.Code.{is_approved}
 use Rattle.issuer_host.specs.Holds.{place_in, account_in, flag_at}
 use Rattle.issuer_host.specs.Records.{balance_left}
-use Rattle.issuer_host.specs.Reply.{request_reply, said_bytes, is_served, is_closed}
+use Rattle.issuer_host.specs.Reply.{request_key, request_reply, said_bytes, is_served}
 use Rattle.issuer_host.proofs.Approved.{request_open, open_where}
 use Rattle.issuer_host.proofs.Hosting.{known_balance, flag_known, seen_some}
 use Rattle.issuer_host.proofs.Places.{account_found, has_pan}
@@ -71,8 +70,9 @@ returns-clause-held c = λ approved.
     let code = c.request_reply.ensures.code ∙ ap (λ a. (request_reply c.args.keys.now a c.args.records.now.books f).code) found in
     let facts = request_open c.args.keys.now (account_of f.pan c.args.accounts.now) c.args.records.now.books f (ap is_approved (sym code) ∙ approved) in
     let number = has_pan f.pan c.args.accounts.now facts.own facts.known in
-    let same_pan : c.args.key.now.pan ≡ facts.own.pan = ap (λ (k : Key). k.pan) c.requires.key ∙ sym number in
-    open_where c.args.records.now c.args.key.now (number_in f.t9f02) (pos facts.own.balance -ℤ pos (taken facts.own.pan c.args.records.now.books))
-    (ap (is_closed c.args.records.now.books) c.requires.key ∙ facts.closed)
+    let key = request_key f in
+    let same_pan : key.pan ≡ facts.own.pan = sym number in
+    open_where c.args.records.now key (number_in f.t9f02) (pos facts.own.balance -ℤ pos (taken facts.own.pan c.args.records.now.books))
+    facts.closed
     (ap (balance_left c.args.records.now) same_pan ∙ known_balance c.args.accounts.now c.args.records.now c.args.served.now f.pan facts.own c.requires.holds facts.known)
     facts.covered

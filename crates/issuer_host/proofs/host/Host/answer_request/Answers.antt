@@ -102,10 +102,10 @@ returns-else-answered-clause-books c =
 pub keep_request-requires-clause-held : goal.keep_request-requires-clause-held
 keep_request-requires-clause-held c = λ approved.
     let amount : c.in_ok-kept.kept.amount ≡ number_in c.args.fields.now.t9f02 = c.in_ok-kept.ensures.amount ∙ c.amount.ensures.value ∙ ap (λ (d : RequestData). number_in d.t9f02) c.fields.view_is in
-    rw amount (c.reply_to_request-answered.ensures.held (ap is_approved (sym c.in_ok-kept.ensures.code) ∙ approved))
+    rw amount (rw c.request_key-key.ensures (c.reply_to_request-answered.ensures.held (ap is_approved (sym c.in_ok-kept.ensures.code) ∙ approved)))
 
-pub reply_to_request-answered-requires-clause-holds : goal.reply_to_request-answered-requires-clause-holds
-reply_to_request-answered-requires-clause-holds c = subst (Holds c.self.inside.accounts.now c.self.inside.records) (sym c.deref.ensures.value) c.self.invariant
+pub reply_to_request-answered-requires : goal.reply_to_request-answered-requires
+reply_to_request-answered-requires c = record { holds = subst (Holds c.self.inside.accounts.now c.self.inside.records) (sym c.deref.ensures.value) c.self.invariant }
 
 pub invariant_of-self : goal.invariant_of-self
 invariant_of-self c = subst (λ r. Holds c.self.inside.accounts.now r c.self.inside.served.items) (sym c.in_err-keep_request.ensures.err) c.self.invariant
