@@ -7,7 +7,8 @@ ghost use Rattle.report_lines.specs.Bytes.{bytes_told};
 ghost use Rattle.report_lines.specs.Reading.{seen_what};
 ghost use Rattle.word_lines.specs.Pieces.{Tells};
 
-use crate::ending::{hex_number, tell_break};
+use crate::digits::hex_number;
+use crate::ending::tell_break;
 use crate::phrases::{OR_MISSING, TRACE_DIFFERS};
 use ber_tlv::Tag;
 use explain_words::{REFUSALS, word_of};
