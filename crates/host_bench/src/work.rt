@@ -5,7 +5,7 @@ ghost use Rattle.issuer_host.specs.Account.{IsAccount};
 ghost use Rattle.issuer_host.specs.History.{HostStands};
 
 use app_cryptogram::{AcFields, ac};
-use auth_message::{Message, RequestFields, write_request};
+use auth_message::{Message, Named, Paid, RequestFields, write_request};
 use ber_tlv::append;
 use card_keys::{master_key, session_ac};
 use emv_dict::Digits;
@@ -89,21 +89,25 @@ fn write_card_request(place: u16, counter: u16, out: &mut Message)
     let issuer_data = [0x01, 0x80, 0, 0, 0x03, 0x01];
     let cryptogram = ac(&session_ac(&master, counter), &covered, &issuer_data);
     let fields = RequestFields {
-        t9f1c: *b"TERM0001",
-        pan,
-        t5f34: Some([1]),
+        named: Named {
+            t9f1c: *b"TERM0001",
+            pan,
+            t5f34: Some([1]),
+        },
         t5f24: [0x26, 0x12, 0x31],
-        t9f02: covered.amount,
-        t9f03: covered.other,
-        t9f1a: covered.country,
-        t95: covered.tvr,
-        t5f2a: covered.currency,
-        t9a: covered.date,
-        t9c: [covered.trade],
-        t9f37: covered.number,
-        t82: covered.aip,
-        t9f36: covered.counter,
-        t9f26: cryptogram,
+        paid: Paid {
+            t9f02: covered.amount,
+            t9f03: covered.other,
+            t9f1a: covered.country,
+            t95: covered.tvr,
+            t5f2a: covered.currency,
+            t9a: covered.date,
+            t9c: [covered.trade],
+            t9f37: covered.number,
+            t82: covered.aip,
+            t9f36: covered.counter,
+            t9f26: cryptogram,
+        },
         t9f10: &issuer_data,
         tdf11: None,
     };

@@ -18,9 +18,9 @@ use Rattle.auth_message.specs.Field.{is_fixed, fixed_value}
 use Rattle.auth_message.specs.Fields.{◌>>=◌, given, behind, if_there, fixed_at, some_at, pan_at, fixed_if_there, ended}
 use Rattle.auth_message.specs.Groups.{named_at, paid_at}
 use Rattle.auth_message.specs.Message.{message_in, message_of}
-use Rattle.auth_message.specs.Messages.{present_of, request_at, present_at, reversal_at}
+use Rattle.auth_message.specs.Messages.{request_at, present_at, reversal_at}
 use Rattle.auth_message.specs.Outer.{outer_of}
-use Rattle.auth_message.specs.Spelling.{optional, spelled, named_fields, paid_fields, request_bytes, present_named, present_paid, reversal_named, present_fields, present_bytes, reversal_fields, reversal_bytes}
+use Rattle.auth_message.specs.Spelling.{optional, spelled, named_fields, paid_fields, request_bytes, reversal_named, present_fields, present_bytes, reversal_fields, reversal_bytes}
 use Rattle.auth_message.specs.Whole.{message_bytes, IsAccepted, IsMessage}
 use Rattle.iso_message.proofs.ItemsSpelled.{fixed_taken}
 use Rattle.iso_message.proofs.Steps.{read_of, same_read}
@@ -230,8 +230,8 @@ outer_size tag content one few =
     (omega (arith, size, one), omega (arith, size, one, lengths, few))
 
 record PresentSizes (f : PresentData) : Type 0 where
-  named : NamedSizes (present_named f)
-  paid : PaidSizes (present_paid f)
+  named : NamedSizes f.named
+  paid : PaidSizes f.paid
   code : length f.t8a ≡ 2
 
 present_sized : (items : List ItemData) (f : PresentData) → present_at items ≡ Ok f → PresentSizes f
@@ -242,7 +242,7 @@ present_sized items f is =
     let third = read_of (some_at 0 32 0x9F10 second.value.1) _ f second.behind in
     let fourth = read_of (fixed_at 2 false 0x8A third.value.1) _ f third.behind in
     let fifth = read_of (ended fourth.value.1) _ f fourth.behind in
-    subst PresentSizes (same_read (present_of first.value.0 second.value.0 third.value.0 fourth.value.0) f fifth.behind)
+    subst PresentSizes (same_read (record { named = first.value.0; paid = second.value.0; t9f10 = third.value.0; t8a = fourth.value.0 }) f fifth.behind)
     (record {
       named = named_sized items first.value first.made;
       paid = paid_sized first.value.1 second.value second.made;
@@ -253,8 +253,8 @@ present_short : (items : List ItemData) (f : PresentData) → IsPresent f → pr
 unfolding present_bytes
 present_short items f right is =
     let so = present_sized items f is in
-    let behind_it = payment_size (present_paid f) f.t9f10 f.t8a so.paid right.issuer_data so.code in
-    let whole = named_size (present_named f) (paid_fields (present_paid f) ++ ((0x9F10, f.t9f10) ∷ (0x8A, f.t8a) ∷ [])) so.named right.account_number in
+    let behind_it = payment_size f.paid f.t9f10 f.t8a so.paid right.issuer_data so.code in
+    let whole = named_size f.named (paid_fields f.paid ++ ((0x9F10, f.t9f10) ∷ (0x8A, f.t8a) ∷ [])) so.named right.account_number in
     outer_size 0xE3 (spelled (present_fields f)) refl (omega (arith, whole, behind_it))
 
 record ReversalSizes (f : ReversalFields) : Type 0 where
