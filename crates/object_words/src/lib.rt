@@ -15,7 +15,7 @@ pub mod style;
 pub use command::tell_script_command;
 pub use fields::{Fields, fits, has_field, next_entry, next_field, value_in};
 pub use lists::tell_rule;
-pub use object::{Object, tell_object, tell_objects, tell_value};
+pub use object::{Object, next_item, tell_object, tell_objects, tell_value};
 pub use plain::{digits_in, number_in, tell_digits, tell_hex};
 pub use results::tell_results;
 pub use style::{KnownCodes, ResultsStyle, Style};

@@ -1,7 +1,8 @@
 //! Values that are numbers, digits or characters. Each teller says whether it told the value: a value of
 //! another length or content is left as it is.
-ghost use Rattle.std.specs.Prelude.{◌≡◌, is_some};
-ghost use Rattle.std.specs.List.{list_all};
+ghost use Rattle.std.specs.Prelude.{◌≡◌, false, is_some};
+ghost use Rattle.std.specs.List.{flat_map, list_all};
+ghost use Rattle.object_words.specs.Digits as digits;
 ghost use Rattle.object_words.specs.Plain as spec;
 ghost use Rattle.object_words.specs.Plain.{or_nothing};
 ghost use Rattle.word_lines.specs.Pieces.{Tells};
@@ -59,7 +60,9 @@ pub(crate) fn tell_text(out: &mut WordLines, value: &[u8]) -> bool
 }
 
 /// Whether a half byte may stand behind filler or none, and whether it is filler: digits stand before F.
-fn after_half(filler: bool, half: u8) -> Option<bool> {
+fn after_half(filler: bool, half: u8) -> Option<bool>
+    ensures { result ≡ digits.after_half filler half }
+{
     if half == 15 {
         Some(true)
     } else if half <= 9 && !filler {
@@ -69,54 +72,93 @@ fn after_half(filler: bool, half: u8) -> Option<bool> {
     }
 }
 
+/// The same behind the two half bytes of a byte.
+fn after_byte(filler: bool, byte: u8) -> Option<bool>
+    ensures { result ≡ digits.after_byte filler byte }
+{
+    match after_half(filler, byte / 16) {
+        Some(behind) => after_half(behind, byte % 16),
+        None => None,
+    }
+}
+
 /// Whether the half bytes are digits, and F behind them.
-fn are_filled_digits(value: &[u8]) -> bool {
+fn are_filled(value: &[u8]) -> bool
+    ensures { result ≡ digits.are_filled false value.now }
+{
     let mut filler = false;
     for byte in value {
-        let Some(high) = after_half(filler, *byte / 16) else {
-            return false;
-        };
-        let Some(low) = after_half(high, *byte % 16) else {
-            return false;
-        };
-        filler = low;
+        match after_byte(filler, *byte) {
+            Some(behind) => filler = behind,
+            None => return false,
+        }
     }
-    !value.is_empty()
+    true
+}
+
+/// Whether there are half bytes, digits and F behind them.
+fn are_filled_digits(value: &[u8]) -> bool
+    ensures { result ≡ digits.are_filled_digits value.now }
+{
+    !value.is_empty() && are_filled(value)
+}
+
+/// How many digits a half byte is.
+fn half_count(half: u8) -> u64
+    ensures { result ≡ digits.half_count half }
+{
+    if half == 15 { 0 } else { 1 }
 }
 
 /// How many decimal digits stand before the filler F; `None` where other half bytes stand there.
-pub fn digits_in(value: &[u8]) -> Option<u64> {
+pub fn digits_in(value: &[u8]) -> Option<u64>
+    ensures { result ≡ digits.digits_in value.now }
+{
     if !are_filled_digits(value) {
         return None;
     }
     let mut count: u64 = 0;
     for byte in value {
-        if *byte / 16 != 15 {
-            count = count.saturating_add(1);
-        }
-        if *byte % 16 != 15 {
-            count = count.saturating_add(1);
-        }
+        count = count.saturating_add(half_count(*byte / 16) + half_count(*byte % 16));
     }
     Some(count)
 }
 
 /// Tells a half byte that is no filler.
-fn tell_half(out: &mut WordLines, half: u8) {
+fn tell_half(out: &mut WordLines, half: u8)
+    ensures { Tells out.old out.new (digits.half_words half) }
+{
     if half != 15 {
         out.number(u64::from(half));
     }
 }
 
+/// Tells the two half bytes of a byte that are no filler.
+fn tell_pair(out: &mut WordLines, byte: u8)
+    ensures { Tells out.old out.new (digits.pair_words byte) }
+{
+    tell_half(out, byte / 16);
+    tell_half(out, byte % 16);
+}
+
+/// Tells the half bytes that are no filler.
+fn tell_halves(out: &mut WordLines, value: &[u8])
+    ensures { Tells out.old out.new (flat_map digits.pair_words value.now) }
+{
+    for byte in value {
+        tell_pair(out, *byte);
+    }
+}
+
 /// Tells decimal digits, without the filler F.
-pub fn tell_digits(out: &mut WordLines, value: &[u8]) -> bool {
+pub fn tell_digits(out: &mut WordLines, value: &[u8]) -> bool
+    ensures words { Tells out.old out.new (or_nothing (digits.digits_words value.now)) }
+    ensures told { result ≡ is_some (digits.digits_words value.now) }
+{
     if !are_filled_digits(value) {
         return false;
     }
-    for byte in value {
-        tell_half(out, *byte / 16);
-        tell_half(out, *byte % 16);
-    }
+    tell_halves(out, value);
     true
 }
 
