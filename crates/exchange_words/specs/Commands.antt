@@ -17,10 +17,10 @@ use Rattle.explain_words.specs.declared.codes.TheConstants.{CRYPTOGRAMS}
 use Rattle.explain_words.specs.declared.names.Form.{Form}
 use Rattle.explain_words.specs.declared.names.Form.TheVariants.{Authentication}
 use Rattle.object_words.specs.Commands.{script_command_words}
-use Rattle.object_words.specs.Digits.{digits_in, digits_words}
-use Rattle.object_words.specs.Fields.{fields_of, are_fitting, value_among}
+use Rattle.list_words.specs.Digits.{digits_in, digits_words}
+use Rattle.list_words.specs.Fields.{fields_of, are_fitting, value_among}
 use Rattle.object_words.specs.Objects.{name_of, plain, value_words}
-use Rattle.object_words.specs.Plain.{number_in, or_nothing}
+use Rattle.list_words.specs.Plain.{number_in, or_nothing}
 use Rattle.object_words.specs.declared.style.KnownCodes.{KnownCodes}
 use Rattle.object_words.specs.declared.style.ResultsStyle.TheVariants.{Codes}
 use Rattle.object_words.specs.declared.style.Style.{Style}

@@ -3,9 +3,9 @@ use Rattle.std.specs.Prelude.{ℕ, ◌==◌, Bool, not, ◌&&◌, ◌||◌, if�
 use Rattle.std.specs.List.{filter, flat_map}
 use Rattle.word_lines.specs.Pieces.{Piece, line, text, hex}
 use Rattle.ber_tlv.specs.Written.{tag_bytes}
-use Rattle.object_words.specs.Fields.{fields_of, are_fitting, is_among}
+use Rattle.list_words.specs.Fields.{fields_of, are_fitting, is_among}
 use Rattle.object_words.specs.Objects.{object_words}
-use Rattle.object_words.specs.Plain.{hex_words}
+use Rattle.list_words.specs.Plain.{hex_words}
 use Rattle.object_words.specs.declared.style.Style.{Style}
 
 -- data that are not as long as their list wants

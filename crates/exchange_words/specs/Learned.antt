@@ -6,7 +6,7 @@ use Rattle.ber_tlv.specs.Item.{ItemData}
 use Rattle.ber_tlv.specs.Left.{items_of}
 use Rattle.ber_tlv.specs.Tag.{names_template}
 use Rattle.object_words.specs.Leading.{leading_items}
-use Rattle.object_words.specs.Plain.{number_in}
+use Rattle.list_words.specs.Plain.{number_in}
 use Rattle.exchange_words.specs.Lanes.{kept}
 use Rattle.exchange_words.specs.declared.lane.LaneState.{LaneState}
 

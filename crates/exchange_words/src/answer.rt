@@ -3,7 +3,7 @@ ghost use Rattle.std.specs.Prelude.{◌≡◌, Some, is_some, option_map};
 ghost use Rattle.exchange_words.specs.Answers as words;
 ghost use Rattle.exchange_words.specs.Lanes.{KeepsRest, torn_words, left_open, command_name as name_of_command};
 ghost use Rattle.exchange_words.specs.Statuses as spec;
-ghost use Rattle.object_words.specs.Plain.{or_nothing};
+ghost use Rattle.list_words.specs.Plain.{or_nothing};
 ghost use Rattle.word_lines.specs.Pieces.{Tells};
 
 use crate::command::{command_name, may_keep};
@@ -254,12 +254,7 @@ fn tell_limits(out: &mut WordLines, lower: Option<u64>, upper: Option<u64>)
 
 /// Tells how many transactions came behind the last one online, where both counters are known, and the
 /// limits.
-fn tell_since(
-    out: &mut WordLines,
-    lane: &LaneState,
-    last_online: Option<u64>,
-    counter: Option<u64>,
-)
+fn tell_since(out: &mut WordLines, lane: &LaneState, last_online: Option<u64>, counter: Option<u64>)
     ensures { Tells out.old out.new (words.since_words lane.now last_online counter) }
 {
     if let Some(last_online) = last_online {
@@ -302,13 +297,7 @@ fn learn_body(lane: &mut LaneState, command: &[u8], answer: &[u8], body: &[u8])
 }
 
 /// Tells a body, by what is known with it.
-fn tell_new_body(
-    out: &mut WordLines,
-    lane: &LaneState,
-    command: &[u8],
-    body: &[u8],
-    brief: bool,
-)
+fn tell_new_body(out: &mut WordLines, lane: &LaneState, command: &[u8], body: &[u8], brief: bool)
     ensures { Tells out.old out.new (words.new_body lane.now command.now body.now brief) }
 {
     tell_told(out, command, body, brief);

@@ -16,7 +16,8 @@ use action_words::Row;
 use apdu_core::{Command, read_command};
 use ber_tlv::{Tag, sole_value, tag_bytes};
 use explain_words::{Form, name_of};
-use object_words::{Fields, Style, digits_in, tell_digits, tell_script_command, tell_value};
+use list_words::{Fields, digits_in, tell_digits};
+use object_words::{Style, tell_script_command, tell_value};
 use word_lines::WordLines;
 
 /// Whether a command has this class and this instruction.
@@ -167,9 +168,7 @@ fn tell_get_data(out: &mut WordLines, command: &Command<'_>)
 fn is_pin_block(control: u8, digits: &[u8]) -> bool
     ensures { result ≡ words.is_pin_block control digits.now }
 {
-    control / 16 == 2
-        && digits.len() == 7
-        && digits_in(digits) == Some(u64::from(control % 16))
+    control / 16 == 2 && digits.len() == 7 && digits_in(digits) == Some(u64::from(control % 16))
 }
 
 /// Tells the PIN where the data are a plaintext PIN block.

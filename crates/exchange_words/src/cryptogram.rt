@@ -17,7 +17,8 @@ use apdu_core::Command;
 use ber_tlv::{Tag, first_value, sole_value};
 use emv_dict::Kind;
 use explain_words::{CRYPTOGRAMS, word_of};
-use object_words::{Fields, KnownCodes, ResultsStyle, Style, fits, number_in, value_in};
+use list_words::{Fields, fits, number_in, value_in};
+use object_words::{KnownCodes, ResultsStyle, Style};
 use word_lines::WordLines;
 
 /// The short name of a kind.

@@ -2,13 +2,14 @@
 ghost use Rattle.std.specs.Prelude.{◌≡◌, ◌||◌, ◌++◌, [], if◌then◌else◌, codes};
 ghost use Rattle.std.specs.List.{filter, flat_map};
 ghost use Rattle.exchange_words.specs.Fields as spec;
-ghost use Rattle.object_words.specs.Fields.{fields_of};
+ghost use Rattle.list_words.specs.Fields.{fields_of};
 ghost use Rattle.object_words.specs.Objects.{object_words};
 ghost use Rattle.word_lines.specs.Pieces as piece;
 ghost use Rattle.word_lines.specs.Pieces.{Tells};
 
 use ber_tlv::{Tag, tag_bytes};
-use object_words::{Fields, Object, Style, fits, has_field, next_field, tell_hex, tell_object};
+use list_words::{Fields, fits, has_field, next_field, tell_hex};
+use object_words::{Object, Style, tell_object};
 use word_lines::WordLines;
 
 /// Tells data that are not as long as their list wants.

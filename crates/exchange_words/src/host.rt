@@ -7,7 +7,8 @@ use crate::iso::{message_type, reply_code, tell_message};
 use crate::lane::{LaneState, Settled};
 use crate::repeated::{known_fields, message_style, tell_fields_of};
 use ber_tlv::{Tag, first_fault, first_value, sole_value};
-use object_words::{Fields, Style, tell_objects};
+use list_words::Fields;
+use object_words::{Style, tell_objects};
 use word_lines::WordLines;
 
 /// The message type of a request (ISO 8583:1987).

@@ -5,7 +5,8 @@ ghost use Rattle.std.specs.Prelude.{◌≡◌, ◌<◌, ◌≤◌, length, IfSom
 use crate::answer::DEPTH;
 use crate::repeated::tell_fields_of;
 use explain_words::{FIELDS, Form, MESSAGE_TYPES, word_of};
-use object_words::{Fields, Style, tell_hex, tell_objects, tell_value};
+use list_words::{Fields, tell_hex};
+use object_words::{Style, tell_objects, tell_value};
 use word_lines::WordLines;
 
 /// The value of a decimal digit.

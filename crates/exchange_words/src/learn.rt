@@ -6,7 +6,8 @@ ghost use Rattle.exchange_words.specs.Learned as spec;
 use crate::lane::{LaneState, keep};
 use arrayvec::ArrayVec;
 use ber_tlv::{Cursor, Tag, is_constructed, sole_value};
-use object_words::{next_item, number_in};
+use list_words::number_in;
+use object_words::next_item;
 
 /// How deep objects within objects are looked for.
 const DEPTH: u8 = 8;

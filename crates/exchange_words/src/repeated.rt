@@ -1,7 +1,8 @@
 //! The objects of a message, and those of them that the last GENERATE AC had as well.
 use crate::lane::LaneState;
 use ber_tlv::{Cursor, tag_bytes};
-use object_words::{Fields, Object, ResultsStyle, Style, has_field, tell_object};
+use list_words::{Fields, has_field};
+use object_words::{Object, ResultsStyle, Style, tell_object};
 use word_lines::WordLines;
 
 /// Fields of a message at this level, with the bits of results in one line.

@@ -18,7 +18,8 @@ use explain_words::{
     CAUSES, CRYPTOGRAMS, Form, OUTCOMES, RESPONSES, STATUS_BITS, STEPS, name_of, word_of,
     word_of_text,
 };
-use object_words::{tell_results, tell_rule};
+use list_words::tell_rule;
+use object_words::tell_results;
 use report_lines::{EndFields, Ending};
 use word_lines::WordLines;
 

@@ -5,7 +5,7 @@ use Rattle.explain_words.specs.Words.{word_in}
 use Rattle.explain_words.specs.declared.bits.TheConstants.{UPDATE_BITS}
 use Rattle.explain_words.specs.declared.codes.TheConstants.{CRYPTOGRAMS, RESPONSES}
 use Rattle.object_words.specs.Bits.{behind_comma, bit_words}
-use Rattle.object_words.specs.Plain.{told_if}
+use Rattle.list_words.specs.Plain.{told_if}
 use Rattle.object_words.specs.declared.phrases.TheConstants.{STATUS_UPDATE, REFUSED, OFFLINE_APPROVALS, PIN_TRIES, APPLICATION_BLOCKED, AUTHENTICATION_FAILED, RESPONSE_CRYPTOGRAM}
 
 -- the kind of cryptogram of a byte's two high bits, behind a comma (EMV 4.3 Book 3 section 6.5.5.4)

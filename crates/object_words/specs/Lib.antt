@@ -1,11 +1,6 @@
 pub mod Bits
 pub mod Commands
-pub mod Digits
-pub mod Fields
 pub mod Issuer
 pub mod Leading
-pub mod Lists
 pub mod Objects
-pub mod Plain
 pub mod Results
-pub mod Rules

@@ -14,11 +14,11 @@ use Rattle.explain_words.specs.declared.names.Form.TheVariants as form
 use Rattle.explain_words.specs.declared.names.TheConstants.{NAMES}
 use Rattle.object_words.specs.Bits.{bit_numbers, bits_words, flags_words, coded_words}
 use Rattle.object_words.specs.Commands.{command_words}
-use Rattle.object_words.specs.Digits.{digits_words}
+use Rattle.list_words.specs.Digits.{digits_words}
 use Rattle.object_words.specs.Issuer.{information_words, issuer_data_words, authentication_words, response_code_words}
 use Rattle.object_words.specs.Leading.{leading_items}
-use Rattle.object_words.specs.Lists.{list_words, locator_words, methods_words, method_result_words}
-use Rattle.object_words.specs.Plain.{number_in, hex_words, told_if, text_words, number_words, amount_words, code_words, date_words, time_words, log_entry_words, priority_words}
+use Rattle.list_words.specs.Lists.{list_words, locator_words, methods_words, method_result_words}
+use Rattle.list_words.specs.Plain.{number_in, hex_words, told_if, text_words, number_words, amount_words, code_words, date_words, time_words, log_entry_words, priority_words}
 use Rattle.object_words.specs.Results.{result_lines}
 use Rattle.object_words.specs.declared.style.ResultsStyle.{ResultsStyle}
 use Rattle.object_words.specs.declared.style.ResultsStyle.TheVariants.{Lines, OneLine, Codes}

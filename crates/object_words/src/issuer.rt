@@ -1,13 +1,13 @@
 //! Values that the issuer gives or reads.
 ghost use Rattle.std.specs.Prelude.{◌≡◌, is_some, option_map};
 ghost use Rattle.object_words.specs.Issuer as spec;
-ghost use Rattle.object_words.specs.Plain.{or_nothing};
+ghost use Rattle.list_words.specs.Plain.{or_nothing};
 ghost use Rattle.word_lines.specs.Pieces.{Tells};
 
 use crate::bits::tell_bit_words;
 use crate::phrases::{
-    APPLICATION_BLOCKED, AUTHENTICATION_FAILED, OFFLINE_APPROVALS, PIN_TRIES, REFUSED, RESPONSE_CRYPTOGRAM,
-    STATUS_UPDATE,
+    APPLICATION_BLOCKED, AUTHENTICATION_FAILED, OFFLINE_APPROVALS, PIN_TRIES, REFUSED,
+    RESPONSE_CRYPTOGRAM, STATUS_UPDATE,
 };
 use crate::style::Style;
 use explain_words::{CRYPTOGRAMS, RESPONSES, UPDATE_BITS, word_of};

@@ -1,7 +1,7 @@
 use Rattle.std.proofs.Common.{length, codes, false}
 use Rattle.std.specs.List.{filter}
 use Rattle.word_lines.proofs.Telling.{Left}
-use Rattle.object_words.specs.Fields.{fields_of}
+use Rattle.list_words.specs.Fields.{fields_of}
 use Rattle.exchange_words.specs.Fields.{is_known}
 use Rattle.exchange_words.proofs.Known.{tags_left}
 use Rattle.exchange_words.proofs.fields.tell_known.Given as goal

@@ -1,7 +1,7 @@
 use Rattle.std.proofs.Common.{sym, ap}
 use Rattle.std.specs.List.{flat_map}
 use Rattle.word_lines.proofs.Telling.{left_start, left_more, left_as, left_end}
-use Rattle.object_words.specs.Fields.{fields_of}
+use Rattle.list_words.specs.Fields.{fields_of}
 use Rattle.exchange_words.specs.Fields.{new_words, is_known}
 use Rattle.exchange_words.proofs.fields.tell_new.Goals as goal
 

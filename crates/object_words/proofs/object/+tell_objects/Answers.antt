@@ -15,8 +15,8 @@ loop-item-init t c =
     let told = told_item c.args.more c.args.style.now in
     let cursor = c.new-cursor.result in
     let words = objects-each c.args.more c.args.style.now c.args.bytes.now
-        ∙ ap (λ (b : List ℕ). flat_map told (leading_behind b 0)) (sym c.new-cursor.ensures.bytes)
-        ∙ ap (λ (p : ℕ). flat_map told (leading_behind cursor.bytes p)) (sym c.new-cursor.ensures.place) in
+    ∙ ap (λ (b : List ℕ). flat_map told (leading_behind b 0)) (sym c.new-cursor.ensures.bytes)
+    ∙ ap (λ (p : ℕ). flat_map told (leading_behind cursor.bytes p)) (sym c.new-cursor.ensures.place) in
     record {
       within = omega arith;
       left = left_as _ _ _ _ _ words (left_start _ _);
