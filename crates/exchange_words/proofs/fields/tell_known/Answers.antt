@@ -1,4 +1,4 @@
-use Rattle.std.proofs.Common.{List, ◌×◌, ℕ, codes, sym, ap, ◌∙◌}
+use Rattle.std.proofs.Common.{List, ℕ, codes, sym, ap, ◌∙◌}
 use Rattle.std.specs.List.{filter}
 use Rattle.word_lines.proofs.Telling.{left_start, left_more, left_as, left_end}
 use Rattle.list_words.specs.Fields.{fields_of}
