@@ -38,10 +38,12 @@ impl CardData {
         ensures card { IfSome result (λ card. card ≡ card_of env) }
         ensures read { IsSome result ↔ HasForms env }
     {
-        if has_options(&env) && objects_fault(&env).is_none() {
-            Some(CardData::new(env))
-        } else {
-            None
+        if !has_options(&env) {
+            return None;
+        }
+        match objects_fault(&env) {
+            None => Some(CardData::new(env)),
+            Some(_) => None,
         }
     }
 
