@@ -1,5 +1,5 @@
 -- Action analysis and the first GENERATE AC.
-use Rattle.std.proofs.Common.{◌≡◌, refl, ◌∙◌, ℕ, false, List, [], ◌∷◌, None}
+use Rattle.std.proofs.Common.{◌≡◌, refl, ◌∙◌, ℕ, List, [], ◌∷◌, None}
 use Rattle.emv_dict.specs.declared.ending.Cause.TheVariants.{Dol}
 use Rattle.emv_dict.specs.declared.ending.Ending.TheVariants.{Terminated}
 use Rattle.emv_dict.specs.declared.ending.Kind.{Kind}
@@ -12,6 +12,7 @@ use Rattle.kernel.specs.Reply.{Reply}
 use Rattle.kernel.specs.Stages.{TradingStands, Begins}
 use Rattle.kernel.specs.declared.stage.Trading.TheVariants as trading
 use Rattle.online_step.specs.Generate.{list_data, generated}
+use Rattle.online_step.specs.declared.ac.GenerateAc.TheVariants as generate
 use Rattle.restrictions.specs.Restricted.{restricted}
 use Rattle.terminal_state.specs.Marks.{Mark, HasRead, HasRestricted, HasAnalysed, HasFirst, moment}
 use Rattle.terminal_state.specs.declared.table.Table.{Table}
@@ -28,7 +29,7 @@ analysed trade marks asked log rest t t2 begins is tied = record {
 pub first_unfilled : (trade : Trade) → (marks : List Mark) → (asked : Kind) → (log : List Logged) → (rest : List Reply → Standing Mark) → (t t2 : Table) → Begins t trade.card marks rest (first trade asked marks log) → list_data 0x8C trade.card (objects_at trade marks) ≡ None → t2.moment ≡ t.moment → TradingStands t2 trade (trading.Over (Terminated step.First (Dol (record { 0 = 0x8C })))) log rest
 unfolding first
 first_unfilled trade marks asked log rest t t2 begins none kept =
-    trading_stopped t t2 trade step.First marks log (generated 0x8C asked false (list_data 0x8C trade.card (objects_at trade marks)))
+    trading_stopped t t2 trade step.First marks log (generated 0x8C asked generate.First (list_data 0x8C trade.card (objects_at trade marks)))
     (λ ac. first_answered trade ac (HasFirst ac ∷ marks) ac.kind) (Dol (record { 0 = 0x8C })) rest kept
     (record { passed = begins.passed; tied = begins.tied; read = begins.read }) (λ later. rw none refl)
 

@@ -19,7 +19,7 @@ use action_analysis::{codes_of, wanted};
 use arrayvec::ArrayVec;
 use ber_tlv::Tag;
 use emv_dict::{Ac, Cause, Ending, Kind, Step};
-use online_step::{fill_list, read_ac, write_generate};
+use online_step::{GenerateAc, fill_list, read_ac, write_generate};
 use terminal_state::{Moment, Table, put_terminal};
 
 /// The object list of the first GENERATE AC (CDOL1).
@@ -99,7 +99,7 @@ pub(crate) fn on_first<'s>(
     ensures room { HasRoom table.new (scripts_left table.new.reply.scripts result) }
     ensures asked { HasMessage table.new result }
 {
-    match read_ac(reply, asked, false) {
+    match read_ac(reply, asked, GenerateAc::First) {
         Ok(ac) => decide(table, transaction, ac),
         Err(cause) => Trading::Over(Ending::Terminated(Step::First, cause)),
     }

@@ -6,8 +6,8 @@ use Rattle.kernel.proofs.second.begin_second.Goals as goal
 
 pub returns-else-fill_list-clause-stands : goal.returns-else-fill_list-clause-stands
 returns-else-fill_list-clause-stands c = λ marks log rest begins.
-    second_unfilled c.args.table.now _ (trade_of c.args.transaction.now) marks log rest c.args.state.online c.args.state.asked
-    (behind_if c.args.state.online c.args.table.now.reply.scripts) begins
+    second_unfilled c.args.table.now _ (trade_of c.args.transaction.now) marks log rest c.args.state.outcome c.args.state.asked
+    (behind_if c.args.state.outcome c.args.table.now.reply.scripts) begins
     (rw (sym begins.tied) (rw (sym c.put_terminal.ensures) c.if-fill_list.ensures)) refl
 
 pub returns-then-fill_list-clause-stands : goal.returns-then-fill_list-clause-stands
