@@ -11,14 +11,14 @@ ghost use Rattle.kernel.specs.declared.stage.Trading.TheVariants as stage;
 ghost use Rattle.terminal_state.specs.Marks.{Mark, HasSecond};
 ghost use Rattle.terminal_state.specs.Table.{deal_of};
 
+use crate::generate::ask_generate;
 use crate::issuer_scripts::run_behind;
 use crate::stage::{AtSecond, OnlineOutcome, Trading};
 use crate::transaction::Transaction;
-use arrayvec::ArrayVec;
 use ber_tlv::Tag;
 use emv_dict::{Ac, Cause, Ending, Kind, Step};
-use online_step::{GenerateAc, fill_list, read_ac, write_generate};
-use terminal_state::{Table, put_terminal};
+use online_step::{GenerateAc, read_ac};
+use terminal_state::Table;
 
 /// The object list of the second GENERATE AC (CDOL2).
 const SECOND_LIST: Tag = Tag(0x8d);
@@ -39,16 +39,7 @@ pub(crate) fn begin_second<'s>(
     ensures room { HasRoom table.new (scripts_left table.new.reply.scripts result) }
     ensures asked { HasMessage table.new result }
 {
-    put_terminal(
-        &mut table.objects,
-        transaction.settings,
-        transaction.purchase,
-        transaction.row,
-        &table.moment,
-    );
-    let mut filled = ArrayVec::new();
-    if fill_list(SECOND_LIST, transaction.card, &table.objects, &mut filled) {
-        write_generate(state.asked, &filled, &mut table.command);
+    if ask_generate(table, transaction, SECOND_LIST, state.asked) {
         Trading::Second(state)
     } else {
         Trading::Over(Ending::Terminated(Step::Second, Cause::Dol(SECOND_LIST)))

@@ -2,8 +2,6 @@
 ghost use Rattle.std.specs.Prelude.{◌≡◌, ◌≤◌, ◌<◌, ◌∷◌, ◌++◌, [], List, Option, Some, None, IsSome, false, option_map};
 ghost use Rattle.std.specs.List.{All, list_any};
 ghost use Rattle.emv_dict.specs.Settings.{IsAidRow, most_amount};
-ghost use Rattle.emv_dict.specs.declared.ending.Ending.TheVariants.{Terminated};
-ghost use Rattle.emv_dict.specs.declared.ending.Step.TheVariants as steps;
 ghost use Rattle.emv_dict.specs.declared.purchase.Logged.{Logged as LoggedRow};
 ghost use Rattle.kernel.specs.Course.{Standing};
 ghost use Rattle.kernel.specs.Dialogue.{dialogue, restrictions};
@@ -16,8 +14,6 @@ ghost use Rattle.kernel.specs.Reply.{Reply, CardSaid, CardGone, HostSaid, HostSi
 ghost use Rattle.kernel.specs.Stages.{OpeningStands};
 ghost use Rattle.kernel.specs.Trades.{trade_of};
 ghost use Rattle.kernel.specs.declared.kernel.Next.TheVariants as next;
-ghost use Rattle.kernel.specs.declared.stage.Opening.TheVariants as openings;
-ghost use Rattle.kernel.specs.declared.stage.Stage.TheVariants as stages;
 ghost use Rattle.object_lists.specs.CardRead.{ReadCard, card_of};
 ghost use Rattle.terminal_state.specs.Marks.{Mark};
 ghost use Rattle.terminal_state.specs.Table.{IsDeal, deal_of};
@@ -28,7 +24,7 @@ use crate::reading::on_read;
 use crate::stage::{AtTrading, Opening, Stage, Trading};
 use crate::transaction::Transaction;
 use crate::verification::begin_trading;
-use emv_dict::{AidRow, Cause, Ending, Logged, Step};
+use emv_dict::{AidRow, Ending, Logged, Step};
 use read_records::CourseStep;
 use std::mem;
 use terminal_state::{HeldCard, Table};
@@ -209,13 +205,6 @@ fn transaction_at<'d, 's>(
     }
 }
 
-/// Reading ended for this cause.
-fn end_reading(stage: &mut Stage<'_>, cause: Cause)
-    ensures { stage.new ≡ stages.Opening (openings.Over (Terminated steps.Read cause)) }
-{
-    *stage = Stage::Opening(Opening::Over(Ending::Terminated(Step::Read, cause)));
-}
-
 /// The card's answer at any stage.
 fn stage_said<'s>(
     table: &mut Table<'s>,
@@ -243,7 +232,10 @@ fn stage_said<'s>(
                 let trading = has_read(table, held, row, log);
                 *stage = Stage::Trading(AtTrading { row, trading });
             }
-            CourseStep::Ended(cause) => end_reading(stage, cause),
+            CourseStep::Ended(cause) => {
+                let ending = Ending::Terminated(Step::Read, cause);
+                *stage = Stage::Opening(Opening::Over(ending));
+            }
         },
         Stage::Opening(opening) => opening_said(table, opening, reply),
         Stage::Trading(at) => trading_said(table, held, at, reply, log),
