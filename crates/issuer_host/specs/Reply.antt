@@ -69,16 +69,16 @@ ac_fields_of paid = record {
   counter = paid.t9f36;
 }
 
--- 9F26 is the cryptogram of the message's fields under a session key
-abbrev pub is_made_under : List ℕ → RequestData → Bool
-is_made_under session f = bytes_eq (ac_of session (ac_fields_of f.paid) f.t9f10) f.paid.t9f26
+-- 9F26 is the cryptogram of a payment and 9F10 under a session key
+abbrev pub is_made_under : List ℕ → Paid → List ℕ → Bool
+is_made_under session paid t9f10 = bytes_eq (ac_of session (ac_fields_of paid) t9f10) paid.t9f26
 
 -- 9F26 is the card's cryptogram of the message's fields
 abbrev pub request_is_genuine : HostKeys → RequestData → Bool
-request_is_genuine keys f = is_made_under (session_of keys.ac (request_key f)) f
+request_is_genuine keys f = is_made_under (session_of keys.ac (request_key f)) f.paid f.t9f10
 
 abbrev pub present_is_genuine : HostKeys → PresentData → Bool
-present_is_genuine keys f = bytes_eq (ac_of (session_of keys.ac (present_key f)) (ac_fields_of f.paid) f.t9f10) f.paid.t9f26
+present_is_genuine keys f = is_made_under (session_of keys.ac (present_key f)) f.paid f.t9f10
 
 -- year, month and day of three bytes of digits; they need not be a day of the calendar
 abbrev pub day_of : List ℕ → Date

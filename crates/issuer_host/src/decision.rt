@@ -70,7 +70,7 @@ pub fn session(issuer: &Key16, key: &Key) -> Key16
 }
 
 /// What a cryptogram covers of a payment, 9F10 aside (EMV 4.3 Book 2 section 8.1.1).
-fn covered(paid: &Paid) -> AcFields
+pub fn covered(paid: &Paid) -> AcFields
     ensures { result ≡ ac_fields_of paid.now }
 {
     let [trade] = paid.t9c;
@@ -88,11 +88,11 @@ fn covered(paid: &Paid) -> AcFields
     }
 }
 
-/// Whether 9F26 is the cryptogram of the request's fields under a session key.
-pub fn is_made_under(session: &Key16, fields: &RequestFields) -> bool
-    ensures { result ≡ spec.is_made_under session.now fields.now }
+/// Whether 9F26 is the cryptogram of a payment and 9F10 under a session key.
+pub fn is_made_under(session: &Key16, paid: &Paid, t9f10: &[u8]) -> bool
+    ensures { result ≡ spec.is_made_under session.now paid.now t9f10.now }
 {
-    ac(session, &covered(&fields.paid), fields.t9f10) == fields.paid.t9f26
+    ac(session, &covered(paid), t9f10) == paid.t9f26
 }
 
 /// Whether 9F26 is the card's cryptogram of the presentment's fields.
@@ -100,8 +100,7 @@ fn present_is_genuine(keys: &HostKeys, key: &Key, fields: &PresentFields) -> boo
     requires { key.now ≡ key_of_present fields.now }
     ensures { result ≡ spec.present_is_genuine keys.now fields.now }
 {
-    let session = session(&keys.ac, key);
-    ac(&session, &covered(&fields.paid), fields.t9f10) == fields.paid.t9f26
+    is_made_under(&session(&keys.ac, key), &fields.paid, fields.t9f10)
 }
 
 /// The day of three bytes of digits, which need not be one of the calendar.

@@ -65,7 +65,7 @@ pub fn request_reply(
     };
     let key = request_key(fields);
     let session = session(&keys.ac, &key);
-    if !is_made_under(&session, fields) {
+    if !is_made_under(&session, &fields.paid, fields.t9f10) {
         return plain(Code::Declined, out);
     }
     let code = request_code(keys, account, records, &key, fields);

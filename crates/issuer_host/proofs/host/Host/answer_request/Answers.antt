@@ -101,7 +101,7 @@ returns-else-answered-clause-books c =
 
 pub keep_request-requires-clause-held : goal.keep_request-requires-clause-held
 keep_request-requires-clause-held c = λ approved.
-    let amount : c.in_ok-kept.kept.amount ≡ number_in c.args.fields.now.paid.paid.t9f02 = c.in_ok-kept.ensures.amount ∙ c.amount.ensures.value ∙ ap (λ (d : RequestData). number_in d.paid.t9f02) c.fields.view_is in
+    let amount : c.in_ok-kept.kept.amount ≡ number_in c.args.fields.now.paid.t9f02 = c.in_ok-kept.ensures.amount ∙ c.amount.ensures.value ∙ ap (λ (d : RequestData). number_in d.paid.t9f02) c.fields.view_is in
     rw amount (rw c.request_key-key.ensures (c.reply_to_request-answered.ensures.held (ap is_approved (sym c.in_ok-kept.ensures.code) ∙ approved)))
 
 pub reply_to_request-answered-requires : goal.reply_to_request-answered-requires
