@@ -11,8 +11,8 @@ ghost use Rattle.trace_check.specs.declared.entry.Entry.TheVariants as entries;
 ghost use Rattle.terminal_at_reader.specs.Talk.{line_of};
 
 use kernel::{EndRecord, Kernel, Next, Tally};
-use report_text::pieces::{append, hex_or_dash};
 use report_text::Text;
+use report_text::pieces::{append, hex_or_dash};
 use trace_check::add_end_text;
 
 /// The line of an end.

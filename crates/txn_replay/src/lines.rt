@@ -12,8 +12,8 @@ use card_counters::shown_all;
 use card_files::Image;
 use card_state::CardState;
 use kernel::EndRecord;
-pub use report_text::Lines;
 use report_text::EndParts;
+pub use report_text::Lines;
 
 /// What the end line of a purchase tells.
 pub(crate) fn end_parts(ended: &EndRecord) -> EndParts
