@@ -88,7 +88,8 @@ fn write_card_request(place: u16, counter: u16, out: &mut Message)
         t9f26: [0; 8],
     };
     let issuer_data = [0x01, 0x80, 0, 0, 0x03, 0x01];
-    paid.t9f26 = ac(&session_ac(&master, counter), &covered(&paid), &issuer_data);
+    let cryptogram = ac(&session_ac(&master, counter), &covered(&paid), &issuer_data);
+    paid.t9f26 = cryptogram;
     let fields = RequestFields {
         named: Named {
             t9f1c: *b"TERM0001",

@@ -1,5 +1,6 @@
 //! The items of field 55.
 ghost use Rattle.std.specs.Prelude.{◌≡◌, Ok, Err, MatchResult};
+ghost use Rattle.auth_message.specs.Data.{PaidSizes};
 ghost use Rattle.iso_message.specs.Items.{chip_at, chip_of, paid_of, request_in as request_items, present_in as present_items, reversal_in as reversal_items, reply_in as reply_items};
 
 use crate::front::{Acceptor, Numbers, PresentFront, RequestFront, ReversalFront};
@@ -66,8 +67,9 @@ fn read_chip(fields: &mut Fields) -> Found<ChipData>
 }
 
 /// The payment whose other fields stand before field 55.
-fn paid(numbers: Numbers, acceptor: Acceptor, t9c: [u8; 1], chip: &ChipData) -> Paid
-    ensures { result ≡ paid_of numbers acceptor t9c chip.now }
+fn paid(numbers: &Numbers, acceptor: &Acceptor, t9c: [u8; 1], chip: &ChipData) -> Paid
+    ensures value { result ≡ paid_of numbers.now acceptor.now t9c chip.now }
+    ensures sizes { PaidSizes result }
 {
     Paid {
         t9f02: numbers.t9f02,
@@ -89,6 +91,8 @@ fn paid(numbers: Numbers, acceptor: Acceptor, t9c: [u8; 1], chip: &ChipData) -> 
 pub fn request_in<'a>(front: RequestFront, fields: &mut Fields<'a>) -> Found<RequestFields<'a>>
     ensures { MatchResult result (λ found. request_items front fields.old.left ≡ Ok found) (λ fault. request_items front fields.old.left ≡ Err fault) }
 {
+    let t9f1c = front.acceptor.t9f1c;
+    let tdf11 = front.tdf11;
     let t5f34 = fields.fixed_if_there(0x5F34, true)?;
     let t5f24 = fields.fixed(0x5F24, true)?;
     let chip = read_chip(fields)?;
@@ -96,14 +100,14 @@ pub fn request_in<'a>(front: RequestFront, fields: &mut Fields<'a>) -> Found<Req
     fields.end()?;
     Ok(RequestFields {
         named: Named {
-            t9f1c: front.acceptor.t9f1c,
+            t9f1c,
             pan: front.pan.copy(),
             t5f34,
         },
         t5f24,
-        paid: paid(front.numbers, front.acceptor, front.t9c, &chip),
+        paid: paid(&front.numbers, &front.acceptor, front.t9c, &chip),
         t9f10,
-        tdf11: front.tdf11,
+        tdf11,
     })
 }
 
@@ -112,19 +116,21 @@ pub fn request_in<'a>(front: RequestFront, fields: &mut Fields<'a>) -> Found<Req
 pub fn present_in<'a>(front: PresentFront, fields: &mut Fields<'a>) -> Found<PresentFields<'a>>
     ensures { MatchResult result (λ found. present_items front fields.old.left ≡ Ok found) (λ fault. present_items front fields.old.left ≡ Err fault) }
 {
+    let t9f1c = front.acceptor.t9f1c;
+    let t8a = front.t8a;
     let t5f34 = fields.fixed_if_there(0x5F34, true)?;
     let chip = read_chip(fields)?;
     let t9f10 = fields.some(0x9F10, 0, 32)?;
     fields.end()?;
     Ok(PresentFields {
         named: Named {
-            t9f1c: front.acceptor.t9f1c,
+            t9f1c,
             pan: front.pan.copy(),
             t5f34,
         },
-        paid: paid(front.numbers, front.acceptor, front.t9c, &chip),
+        paid: paid(&front.numbers, &front.acceptor, front.t9c, &chip),
         t9f10,
-        t8a: front.t8a,
+        t8a,
     })
 }
 
