@@ -1,8 +1,9 @@
 """Where in a document the fault of a refusal stands, for people: the program's own line names the path alone."""
+import json
 import re
 from difflib import get_close_matches
 
-from schema import read_schema, table_at
+from schema import read_schema, resolved, table_at
 
 LINE = re.compile(r"refused \d (\w+)(?: (.*))?\n", re.DOTALL)
 SKIPPED = re.compile(r"(?:[ \t\r\n]+|#[^\n]*)*")
@@ -181,6 +182,17 @@ def keys_at(table, is_trace):
     return (table_at(place, schema) or {}).get("properties", {})
 
 
+def values_of(row):
+    """The values that a key may have by its row of the schema, where they are few or lie between two numbers."""
+    if "$ref" in row:
+        row = resolved(row["$ref"], read_schema())
+    if "enum" in row:
+        return f" (one of {', '.join(map(json.dumps, row['enum']))})"
+    if "minimum" in row and "maximum" in row:
+        return f" (from {row['minimum']} to {row['maximum']})"
+    return ""
+
+
 def key_hint(text, fault, path, place, is_trace):
     """Where a key or an element stands, and what may be meant in its place."""
     name = path[-1] if isinstance(path[-1], str) else as_text(path)
@@ -190,8 +202,9 @@ def key_hint(text, fault, path, place, is_trace):
         return said + near(name, keys)
     if fault == "UnknownName" and name == "card":
         return said + name_hint(text, place)
-    meant = keys.get(name, {}).get("description")
-    return said + (f": {meant}" if meant else "")
+    row = keys.get(name, {})
+    meant = row.get("description")
+    return said + (f": {meant}" if meant else "") + values_of(row)
 
 
 def default_hint(text, places, table, key):
