@@ -1,11 +1,10 @@
 use Rattle.std.proofs.Common.{◌≡◌, sym, ◌∙◌, subst, List}
 use Rattle.std.proofs.lemmas.Option.{same_Some}
 use Rattle.emv_dict.specs.declared.purchase.Logged.{Logged}
-use Rattle.kernel.proofs.Traded.{trade_with, trade_is}
+use Rattle.kernel.proofs.Traded.{trade_with, trade_is, stands_in}
 use Rattle.kernel.proofs.kernel.taking.has_read.Goals as goal
 use Rattle.kernel.specs.Dialogue.{Trade, restrictions}
 use Rattle.kernel.specs.Reply.{Reply}
-use Rattle.kernel.specs.Stages.{TradingStands}
 use Rattle.kernel.specs.Trades.{trade_of}
 use Rattle.object_lists.specs.CardRead.{card_of}
 use Rattle.terminal_state.specs.Table.{deal_of}
@@ -22,5 +21,5 @@ returns-clause-stands c = λ rest passed.
     record {
       card = card;
       card_is = c.keep.ensures;
-      stands = rw c.begin_trading.ensures.same (rw facts.log at (subst (λ (trade : Trade). TradingStands _ trade _ _ rest) trade begun));
+      stands = rw c.begin_trading.ensures.same (rw facts.log at (stands_in trade begun));
     }
