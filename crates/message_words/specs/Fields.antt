@@ -1,5 +1,5 @@
 -- The fields of messages in the style of ISO 8583:1987: which ones a bitmap names, and where each ends.
-use Rattle.std.specs.Prelude.{ℕ, ◌+◌, ◌-◌, ◌*◌, ◌/◌, ◌%◌, ◌==◌, Bool, false, ◌&&◌, ◌||◌, nat_le, if◌then◌else◌, List, [], ◌∷◌, length, take, drop, filter, slice_index, slice_get, Option, Some, None}
+use Rattle.std.specs.Prelude.{ℕ, ◌+◌, ◌-◌, ◌*◌, ◌/◌, ◌%◌, ◌==◌, Bool, ◌&&◌, ◌||◌, nat_le, if◌then◌else◌, List, [], ◌∷◌, length, take, drop, filter, slice_index, Option, Some, None}
 use Rattle.std.specs.Int.{bit_at}
 use Rattle.std.specs.List.{range_with_len}
 
@@ -61,14 +61,9 @@ cut_field number bytes =
     else if number == 55 then cut_long bytes
     else cut (fixed_length number) bytes
 
--- a bit of a byte, from 0 at the right
-abbrev pub has_bit : Option ℕ → ℕ → Bool
-has_bit None place = false
-has_bit (Some byte) place = bit_at byte place == 1
-
 -- the bitmap has a bit for each field, that of field 1 the leftmost
 unfoldable pub is_named : List ℕ → ℕ → Bool
-is_named bitmap number = has_bit (slice_get bitmap ((number - 1) / 8)) (7 - (number - 1) % 8)
+is_named bitmap number = bit_at (slice_index bitmap ((number - 1) / 8)) (7 - (number - 1) % 8) == 1
 
 -- the fields from a number to 64 that it names
 abbrev pub named_from : List ℕ → ℕ → List ℕ

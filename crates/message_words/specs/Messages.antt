@@ -1,6 +1,5 @@
 -- Messages to the issuer and its replies in words, in both dialects.
 use Rattle.std.specs.Prelude.{ℕ, ◌==◌, Bool, if◌then◌else◌, List, [], ◌∷◌, ◌++◌, length, slice_index, codes, Option, Some, None, is_some, Result, Ok, Err}
-use Rattle.std.specs.Borrow.{Bor}
 use Rattle.ber_tlv.specs.Direct.{found_value, sole_value}
 use Rattle.ber_tlv.specs.Left.{items_of, fault_of}
 use Rattle.ber_tlv.specs.declared.item.TlvFault.{TlvFault}
@@ -69,10 +68,10 @@ unfoldable pub settled_by : List ℕ → Settled
 settled_by bytes = settled_of (message_of bytes) bytes
 
 -- what the response code 00 says behind it
-abbrev pub meaning : Settled → Option (Bor (List ℕ))
+abbrev pub meaning : Settled → Option (List ℕ)
 meaning Nothing = None
-meaning Presentment = Some BOOKED
-meaning Reversal = Some SET_FREE
+meaning Presentment = Some BOOKED.now
+meaning Reversal = Some SET_FREE.now
 
 -- a reply of data objects
 abbrev pub whole_reply : Style → List ℕ → List Piece

@@ -14,8 +14,15 @@ use Rattle.word_lines.specs.Pieces.{Piece, line, text, hex}
 use Rattle.message_words.specs.declared.phrases.TheConstants.{AS_BEFORE}
 
 -- the objects of a message at this level, with the bits of results in one line; `answer` is what the response code 00 says
-abbrev pub message_style : ℕ → Option (Bor (List ℕ)) → Style
-message_style level answer = record { level = level; results = OneLine; answer = answer }
+abbrev pub styled : ℕ → Option (Bor (List ℕ)) → Style
+styled level answer = record { level = level; results = OneLine; answer = answer }
+
+-- words that are borrowed from somewhere; where they stand is never told
+abbrev pub borrowed : List ℕ → Bor (List ℕ)
+borrowed words = record { ref_ptr = (0, 0); now = words }
+
+abbrev pub message_style : ℕ → Option (List ℕ) → Style
+message_style level answer = styled level (option_map borrowed answer)
 
 -- the fields that were sent before, each its tag and its value, where a message may repeat some
 abbrev pub sent_before : Option Fields → Option (List (ℕ × List ℕ))

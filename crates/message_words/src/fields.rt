@@ -119,14 +119,13 @@ pub(crate) fn cut_field(number: u32, bytes: &[u8]) -> Option<(&[u8], &[u8])>
 }
 
 /// Whether the bitmap names a field, from 1 to 64.
-#[tactic(auto, using(word_lines::proofs::Telling::telling), unfolding(crate::specs::Fields::is_named))]
 pub(crate) fn is_named(bitmap: &[u8], number: u32) -> bool
     requires { 0 < number }
     ensures { result ≡ spec.is_named bitmap.now number }
 {
     let place = number - 1;
     match bitmap.get((place / 8) as usize) {
-        Some(byte) => *byte >> (7 - place % 8) & 1 == 1,
+        Some(byte) => (*byte >> (7 - place % 8)) % 2 == 1,
         None => false,
     }
 }

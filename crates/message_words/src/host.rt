@@ -137,7 +137,7 @@ pub fn settled_by(message: &[u8]) -> Settled
 
 /// What the response code 00 means behind a message of the settlement.
 fn meaning(settled: Settled) -> Option<&'static [u8]>
-    ensures { result ≡ spec.meaning settled }
+    ensures { option_map (λ words. words.now) result ≡ spec.meaning settled }
 {
     match settled {
         Settled::Nothing => None,

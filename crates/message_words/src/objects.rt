@@ -15,7 +15,7 @@ use word_lines::WordLines;
 
 /// The objects of a message at this level, with the bits of results in one line.
 pub(crate) fn message_style(level: u8, answer: Option<&'static [u8]>) -> Style
-    ensures { result ≡ spec.message_style level answer.entry }
+    ensures { result ≡ spec.styled level answer.entry }
 {
     Style {
         level,
