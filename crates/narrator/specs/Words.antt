@@ -5,8 +5,9 @@ use Rattle.explain_words.specs.Words.{word_in}
 use Rattle.explain_words.specs.declared.codes.TheConstants.{REFUSALS}
 use Rattle.exchange_words.specs.Answers.{words_of_answer}
 use Rattle.exchange_words.specs.Commands.{words_of_command}
-use Rattle.lane_words.specs.Lanes.{torn_words, without_command}
+use Rattle.lane_words.specs.Lanes.{without_command}
 use Rattle.lane_words.specs.Terminals.{row_for}
+use Rattle.lane_words.specs.Torn.{torn_words}
 use Rattle.lane_words.specs.declared.terminal.Terminal.{Terminal}
 use Rattle.list_words.specs.Fields.{fields_of}
 use Rattle.message_words.specs.Messages.{call_words, reply_words}
