@@ -1,2 +1,5 @@
+pub mod Asking
 pub mod Deep
 pub mod Known
+pub mod Pins
+pub mod Scripts

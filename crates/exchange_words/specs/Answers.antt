@@ -1,17 +1,16 @@
 -- Answers in words (EMV 4.3 Book 3 section 6.5).
-use Rattle.std.specs.Prelude.{ℕ, ◌+◌, ◌-◌, ◌*◌, ◌/◌, ◌%◌, ◌==◌, Bool, false, ◌&&◌, ◌||◌, nat_lt, nat_le, if◌then◌else◌, List, [], ◌∷◌, ◌++◌, length, take, drop, slice_index, codes, Option, Some, None, is_some}
+use Rattle.std.specs.Prelude.{ℕ, ◌+◌, ◌-◌, ◌*◌, ◌/◌, ◌%◌, ◌==◌, Bool, false, not, ◌&&◌, ◌||◌, nat_lt, nat_le, if◌then◌else◌, List, [], ◌∷◌, ◌++◌, length, take, drop, slice_index, codes, Option, Some, None, is_some}
 use Rattle.std.specs.Str.{bytes_eq}
+use Rattle.apdu_core.specs.Response.{ResponseData, response_of}
+use Rattle.apdu_core.specs.Status.{no_error}
 use Rattle.ber_tlv.specs.Direct.{sole_value}
 use Rattle.ber_tlv.specs.Left.{items_of, fault_of}
 use Rattle.object_words.specs.Objects.{plain, object_words, objects_words}
 use Rattle.word_lines.specs.Pieces.{Piece, line, text, number, hex}
+use Rattle.lane_words.specs.Kinds.{kind_words, answered, with_kind}
 use Rattle.exchange_words.specs.Learned.{counter_in, with_counter, with_record, with_selected}
-use Rattle.exchange_words.specs.Statuses.{status_words}
-use Rattle.exchange_words.specs.declared.lane.LaneState.{LaneState}
-
--- a status in a line of its own
-abbrev pub status_line : ℕ → ℕ → List Piece
-status_line instruction status = line 1 ++ hex (status / 256 ∷ status % 256 ∷ []) ++ text (codes ": ") ++ status_words instruction status
+use Rattle.lane_words.specs.Statuses.{status_line}
+use Rattle.lane_words.specs.declared.lane.LaneState.{LaneState}
 
 -- the instruction of a command; 0 where it has none
 abbrev pub instruction_of : List ℕ → ℕ
@@ -124,4 +123,54 @@ new_body lane command body brief =
 abbrev pub words_of_body : LaneState → List ℕ → List ℕ → List ℕ → Bool → List Piece
 words_of_body lane command answer body brief =
     if is_same lane command answer then line 1 ++ text (codes "the same answer as before")
-    else new_body (left_by_body lane command answer body) command body brief
+    else new_body (left_by_new lane (instruction_of command) answer body) command body brief
+
+-- a status is told where it is not 9000, and where no body stands before it
+abbrev pub status_told : ℕ → ResponseData → List Piece
+status_told instruction response =
+    if not (response.status == no_error) || length response.body == 0 then status_line instruction response.status else []
+
+-- a body, where there is one, and what it leaves
+abbrev pub body_told : LaneState → List ℕ → List ℕ → List ℕ → Bool → List Piece
+body_told lane command answer body brief = (if length body == 0 then [] else words_of_body lane command answer body brief)
+
+abbrev pub left_by_some : LaneState → List ℕ → List ℕ → List ℕ → LaneState
+left_by_some lane command answer body = (if length body == 0 then lane else left_by_body lane command answer body)
+
+-- a cryptogram: its kind
+abbrev pub gives_cryptogram : List ℕ → ResponseData → Bool
+gives_cryptogram command response = instruction_of command == 0xAE && response.status == no_error
+
+abbrev pub kind_told : LaneState → List ℕ → ResponseData → List Piece
+kind_told lane command response = (if gives_cryptogram command response then kind_words lane (answered response.body) else [])
+
+abbrev pub left_by_kind : LaneState → List ℕ → ResponseData → LaneState
+left_by_kind lane command response = (if gives_cryptogram command response then with_kind lane (answered response.body) else lane)
+
+-- a response: its status, its body, and the kind of cryptogram that it gives
+abbrev pub words_of_response : LaneState → List ℕ → List ℕ → ResponseData → Bool → List Piece
+words_of_response lane command answer response brief =
+    status_told (instruction_of command) response ++ body_told lane command answer response.body brief
+    ++ kind_told (left_by_some lane command answer response.body) command response
+
+abbrev pub left_by_response : LaneState → List ℕ → List ℕ → ResponseData → LaneState
+left_by_response lane command answer response = left_by_kind (left_by_some lane command answer response.body) command response
+
+-- too few or too many bytes for one
+abbrev pub no_response : List ℕ → List Piece
+no_response answer = line 1 ++ (if nat_lt (length answer) 2 then text (codes "fewer than two bytes") else text (codes "more than 258 bytes"))
+
+abbrev pub words_by_response : LaneState → List ℕ → List ℕ → Option ResponseData → Bool → List Piece
+words_by_response lane command answer None brief = no_response answer
+words_by_response lane command answer (Some response) brief = words_of_response lane command answer response brief
+
+abbrev pub left_with_response : LaneState → List ℕ → List ℕ → Option ResponseData → LaneState
+left_with_response lane command answer None = lane
+left_with_response lane command answer (Some response) = left_by_response lane command answer response
+
+-- an answer to this command, and what it leaves for the lines behind it
+unfoldable pub words_of_answer : LaneState → List ℕ → List ℕ → Bool → List Piece
+words_of_answer lane command answer brief = words_by_response lane command answer (response_of answer) brief
+
+unfoldable pub left_by_answer : LaneState → List ℕ → List ℕ → LaneState
+left_by_answer lane command answer = left_with_response lane command answer (response_of answer)

@@ -26,8 +26,8 @@ use Rattle.object_words.specs.declared.style.ResultsStyle.TheVariants.{Codes}
 use Rattle.object_words.specs.declared.style.Style.{Style}
 use Rattle.word_lines.specs.Pieces.{Piece, line, text, number, hex, word_or}
 use Rattle.exchange_words.specs.Fields.{fields_words, beside_words}
-use Rattle.exchange_words.specs.Lanes.{kept}
-use Rattle.exchange_words.specs.declared.lane.LaneState.{LaneState}
+use Rattle.lane_words.specs.Lanes.{kept}
+use Rattle.lane_words.specs.declared.lane.LaneState.{LaneState}
 
 -- SELECT (EMV 4.3 Book 1 section 11.3)
 abbrev pub selected_name : List ℕ → List Piece

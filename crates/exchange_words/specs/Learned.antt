@@ -7,8 +7,8 @@ use Rattle.ber_tlv.specs.Left.{items_of}
 use Rattle.ber_tlv.specs.Tag.{names_template}
 use Rattle.object_words.specs.Leading.{leading_items}
 use Rattle.list_words.specs.Plain.{number_in}
-use Rattle.exchange_words.specs.Lanes.{kept}
-use Rattle.exchange_words.specs.declared.lane.LaneState.{LaneState}
+use Rattle.lane_words.specs.Lanes.{kept}
+use Rattle.lane_words.specs.declared.lane.LaneState.{LaneState}
 
 -- the value of the first object of this tag among these, where `within` finds it in a constructed one
 abbrev pub found_in : ℕ → (List ℕ → Option (List ℕ)) → List ItemData → Option (List ℕ)

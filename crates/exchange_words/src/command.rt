@@ -6,75 +6,18 @@ ghost use Rattle.object_words.specs.Objects.{name_of as name_in};
 ghost use Rattle.word_lines.specs.Pieces as piece;
 ghost use Rattle.word_lines.specs.Pieces.{Tells};
 ghost use Rattle.exchange_words.specs.Commands as words;
-ghost use Rattle.exchange_words.specs.Lanes as spec;
-ghost use Rattle.exchange_words.specs.Lanes.{KeepsRest};
+ghost use Rattle.lane_words.specs.Lanes as spec;
 
 use crate::cryptogram::tell_question;
 use crate::fields::tell_fields;
-use crate::lane::{LaneState, keep};
 use action_words::Row;
 use apdu_core::{Command, read_command};
 use ber_tlv::{Tag, sole_value, tag_bytes};
 use explain_words::{Form, name_of};
+use lane_words::{LaneState, keep};
 use list_words::{Fields, digits_in, tell_digits};
 use object_words::{Style, tell_script_command, tell_value};
 use word_lines::WordLines;
-
-/// Whether a command has this class and this instruction.
-fn is_command(class: u8, instruction: u8, command: &[u8]) -> bool
-    ensures { result ≡ spec.is_command class instruction command.now }
-{
-    match command {
-        [first, second, ..] => *first == class && *second == instruction,
-        _ => false,
-    }
-}
-
-/// Whether a command is one of a script, by its class.
-fn is_of_script(command: &[u8]) -> bool
-    ensures { result ≡ spec.is_of_script command.now }
-{
-    match command {
-        [class, ..] => *class == 0x84 || *class == 0x04,
-        _ => false,
-    }
-}
-
-/// The name of a command, as far as it may be left without an answer; `None` where it is not known.
-#[tactic(auto, unfolding(crate::specs::Lanes::command_name))]
-pub(crate) fn command_name(command: &[u8]) -> Option<&'static [u8]>
-    ensures { option_map (λ name. name.now) result ≡ spec.command_name command.now }
-{
-    if is_command(0x00, 0xa4, command) {
-        Some(b"SELECT")
-    } else if is_command(0x80, 0xa8, command) {
-        Some(b"GET PROCESSING OPTIONS")
-    } else if is_command(0x00, 0xb2, command) {
-        Some(b"READ RECORD")
-    } else if is_command(0x00, 0x20, command) {
-        Some(b"VERIFY")
-    } else if is_command(0x80, 0xca, command) {
-        Some(b"GET DATA")
-    } else if is_command(0x80, 0xae, command) {
-        Some(b"GENERATE AC")
-    } else if is_command(0x00, 0x82, command) {
-        Some(b"EXTERNAL AUTHENTICATE")
-    } else if is_of_script(command) {
-        Some(b"the script command")
-    } else {
-        None
-    }
-}
-
-/// Whether the card may keep something before it answers this command.
-#[tactic(auto, unfolding(crate::specs::Lanes::may_keep))]
-pub(crate) fn may_keep(command: &[u8]) -> bool
-    ensures { result ≡ spec.may_keep command.now }
-{
-    !(is_command(0x00, 0xa4, command)
-        || is_command(0x00, 0xb2, command)
-        || is_command(0x80, 0xca, command))
-}
 
 /// Tells the name of SELECT.
 fn tell_selected_name(out: &mut WordLines, name: &[u8])
@@ -225,7 +168,6 @@ fn tell_own(
 )
     ensures words { Tells out.old out.new (words.own_words lane.old (seen_command command.now) row brief) }
     ensures left { lane.new ≡ words.left_own lane.old (seen_command command.now) row }
-    ensures rest { KeepsRest lane.old lane.new }
 {
     match command.ins {
         0xa8 => tell_options(out, lane, command.body, brief),
@@ -238,7 +180,6 @@ fn tell_own(
 /// Keeps the name of SELECT.
 fn keep_name(lane: &mut LaneState, command: &Command<'_>)
     ensures left { lane.new ≡ words.with_name lane.old (seen_command command.now) }
-    ensures rest { KeepsRest lane.old lane.new }
 {
     if command.ins == 0xa4 {
         keep(&mut lane.name, command.body);
@@ -259,6 +200,7 @@ fn tell_common(out: &mut WordLines, command: &Command<'_>, brief: bool)
 }
 
 /// Tells a command by its class and instruction.
+#[tactic(auto, using(word_lines::proofs::Telling::telling), unfolding(crate::specs::Commands::words_of_command))]
 fn tell_known(
     out: &mut WordLines,
     lane: &mut LaneState,
@@ -268,7 +210,6 @@ fn tell_known(
 )
     ensures words { Tells out.old out.new (words.words_of_command lane.old bytes.now row brief) }
     ensures left { lane.new ≡ words.left_of lane.old (command_of bytes.now) row }
-    ensures rest { KeepsRest lane.old lane.new }
 {
     match read_command(bytes) {
         Ok(command) => match command.class {
@@ -291,9 +232,6 @@ pub fn tell_command(
     row: Option<Row>,
     brief: bool,
 )
-    ensures command { lane.new.command.items ≡ spec.kept 261 bytes.now }
-    ensures settled { lane.new.settled ≡ lane.old.settled }
-    ensures last_end { lane.new.last_end ≡ lane.old.last_end }
     ensures words { Tells out.old out.new (words.words_of_command lane.old bytes.now row brief) }
     ensures left { lane.new ≡ words.left_by_command lane.old bytes.now row }
 {

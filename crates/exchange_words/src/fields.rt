@@ -34,7 +34,7 @@ fn tell_each(out: &mut WordLines, fields: Fields<'_>, style: &Style)
 
 /// Tells each field in a line of its own, or the data where they are not as long as the list wants.
 pub(crate) fn tell_fields(out: &mut WordLines, fields: Fields<'_>, style: &Style)
-    ensures { Tells out.old out.new (spec.fields_words style.now fields.list.now fields.data.now) }
+    ensures { Tells out.old out.new (spec.fields_words style.now fields.entry.list.now fields.entry.data.now) }
 {
     if fits(fields) {
         tell_each(out, fields, style);
@@ -46,7 +46,7 @@ pub(crate) fn tell_fields(out: &mut WordLines, fields: Fields<'_>, style: &Style
 /// Whether a field is among those that were sent before. Terminal verification results are only where they
 /// may be.
 fn is_known(known: Fields<'_>, with_results: bool, tag: Tag, value: &[u8]) -> bool
-    ensures { result ≡ spec.is_known (fields_of known.list.now known.data.now) with_results (tag.0, value.now) }
+    ensures { result ≡ spec.is_known (fields_of known.entry.list.now known.entry.data.now) with_results (tag.0, value.now) }
 {
     (with_results || tag.0 != 0x95) && has_field(known, tag, value)
 }
@@ -101,7 +101,7 @@ fn tell_known(
     level: u8,
 )
     ensures { Tells out.old out.new (spec.tags_words level (codes "as in the first:")
-        (filter (spec.is_known (fields_of known.list.now known.data.now) with_results) (fields_of fields.entry.list.now fields.entry.data.now))) }
+        (filter (spec.is_known (fields_of known.entry.list.now known.entry.data.now) with_results) (fields_of fields.entry.list.now fields.entry.data.now))) }
 {
     let mut told = false;
     let mut left = fields;
@@ -121,7 +121,7 @@ fn tell_new(
     style: &Style,
 )
     ensures { Tells out.old out.new (flat_map
-        (spec.new_words style.now (spec.is_known (fields_of known.list.now known.data.now) with_results)) (fields_of fields.entry.list.now fields.entry.data.now)) }
+        (spec.new_words style.now (spec.is_known (fields_of known.entry.list.now known.entry.data.now) with_results)) (fields_of fields.entry.list.now fields.entry.data.now)) }
 {
     let mut left = fields;
     while let Some((tag, value, rest)) = next_field(left) {
@@ -140,7 +140,7 @@ pub(crate) fn tell_fields_beside(
     with_results: bool,
     style: &Style,
 )
-    ensures { Tells out.old out.new (spec.beside_words style.now fields.list.now fields.data.now (fields_of known.list.now known.data.now) with_results) }
+    ensures { Tells out.old out.new (spec.beside_words style.now fields.entry.list.now fields.entry.data.now (fields_of known.entry.list.now known.entry.data.now) with_results) }
 {
     if fits(fields) {
         tell_new(out, fields, known, with_results, style);

@@ -1,11 +1,10 @@
 //! What an answer leaves for the lines behind it.
 ghost use Rattle.std.specs.Prelude.{◌≡◌, option_map};
-ghost use Rattle.exchange_words.specs.Lanes.{KeepsRest};
 ghost use Rattle.exchange_words.specs.Learned as spec;
 
-use crate::lane::{LaneState, keep};
 use arrayvec::ArrayVec;
 use ber_tlv::{Cursor, Tag, is_constructed, sole_value};
+use lane_words::{LaneState, keep};
 use list_words::number_in;
 use object_words::next_item;
 
@@ -65,7 +64,6 @@ fn keep_list(kept: &mut ArrayVec<u8, 255>, list: Option<&[u8]>)
 /// Keeps the lists, the action codes and the limits of a record's objects.
 fn learn_lists(lane: &mut LaneState, record: &[u8])
     ensures left { lane.new ≡ spec.with_lists lane.old record.now }
-    ensures rest { KeepsRest lane.old lane.new }
 {
     keep_list(&mut lane.cdol1, find_deep(record, Tag(0x8c), DEPTH));
     keep_list(&mut lane.cdol2, find_deep(record, Tag(0x8d), DEPTH));
@@ -79,7 +77,6 @@ fn learn_lists(lane: &mut LaneState, record: &[u8])
 /// Keeps the lists, the action codes and the limits of a record.
 pub(crate) fn learn_record(lane: &mut LaneState, body: &[u8])
     ensures left { lane.new ≡ spec.with_record lane.old body.now }
-    ensures rest { KeepsRest lane.old lane.new }
 {
     if let Some(record) = sole_value(body, Tag(0x70)) {
         learn_lists(lane, record);
@@ -89,7 +86,6 @@ pub(crate) fn learn_record(lane: &mut LaneState, body: &[u8])
 /// Keeps an answer to SELECT, and its list 9F38.
 pub(crate) fn learn_selected(lane: &mut LaneState, answer: &[u8], body: &[u8])
     ensures left { lane.new ≡ spec.with_selected lane.old answer.now body.now }
-    ensures rest { KeepsRest lane.old lane.new }
 {
     keep(&mut lane.selected, answer);
     lane.pdol.clear();
@@ -122,7 +118,6 @@ pub(crate) fn counter_in(body: &[u8], tag: u32) -> Option<u64>
 /// Keeps a counter that GET DATA gave.
 pub(crate) fn learn_counter(lane: &mut LaneState, body: &[u8])
     ensures left { lane.new ≡ spec.with_counter lane.old body.now }
-    ensures rest { KeepsRest lane.old lane.new }
 {
     lane.counter = counter_in(body, 0x9f36).or(lane.counter);
 }

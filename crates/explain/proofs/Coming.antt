@@ -170,7 +170,7 @@ kept_shown all false kept a = absurd (false≢true (sym (kept refl) ∙ a))
 -- a line has ended: what it is told as, as far as it was not handed on before
 pub record EndsLine (all : Way) (before after : StateData) (head p words : List ℕ) (shown : Bool) (piece : List ℕ) : Type 0 where
   pub word_lines : AreWordLines words
-  pub made : Narrates all.brief (head ++ p) before words after ⊎ IsUntold (record { text = head ++ p; words = words; shown = shown; after = after }) before
+  pub made : Narrates all.manner (head ++ p) before words after ⊎ IsUntold (record { text = head ++ p; words = words; shown = shown; after = after }) before
   pub kept : all.all ≡ true → shown ≡ true
   pub told : rest_of all.all head ++ piece ≡ told_of (record { text = head ++ p; words = words; shown = shown; after = after })
 
@@ -217,11 +217,11 @@ stopped_line all long after p seen words piece shown first old new s e more =
 
 -- a line that is not too long is handed on whole, with its words
 pub ends_short : (all : Way) (before after : StateData) (shown : Bool) (head p words : List ℕ) → head ≡ [] → AreWordLines words
-    → Narrates all.brief p before words after → (all.all ≡ true → shown ≡ true)
+    → Narrates all.manner p before words after → (all.all ≡ true → shown ≡ true)
     → EndsLine all before after head p words shown (cond shown ((p ++ 10 ∷ []) ++ words) [])
 ends_short all before after shown head p words none lines made kept = record {
   word_lines = lines;
-  made = inl (subst (λ (h : List ℕ). Narrates all.brief (h ++ p) before words after) (sym none) made);
+  made = inl (subst (λ (h : List ℕ). Narrates all.manner (h ++ p) before words after) (sym none) made);
   kept = kept;
   told = ap (λ (h : List ℕ). rest_of all.all h ++ cond shown ((p ++ 10 ∷ []) ++ words) []) none
       ∙ ap (λ (x : List ℕ). x ++ cond shown ((p ++ 10 ∷ []) ++ words) []) (rest_of-nothing all.all)
@@ -279,7 +279,7 @@ short_piece shown text words = cond shown ((text ++ 10 ∷ []) ++ words) []
 -- what is told of a short line: its words, and what it leaves
 pub record IsSaid (all : Way) (before after : StateData) (p words : List ℕ) (shown : Bool) : Type 0 where
   pub lines : AreWordLines words
-  pub made : Narrates all.brief p before words after
+  pub made : Narrates all.manner p before words after
   pub kept : shown ≡ false → all.all ≡ false
 
 pub so_far_short_at : (all : Way) (long : Stand) (after : StateData) (shown : Bool) (p seen text words empty : List ℕ) (first old new : Option (List ℕ)) → text ≡ p → empty ≡ []

@@ -2,30 +2,36 @@
 use Rattle.std.specs.Prelude.{ℕ, ◌≡◌, ◌==◌, ◌<◌, ◌≤◌, ◌⊎◌, Bool, true, false, if◌then◌else◌, List, [], ◌∷◌, ◌++◌, length}
 use Rattle.std.specs.List.{All, list_any, flat_map}
 use Rattle.std.specs.declared.option.Option.{Option}
+use Rattle.std.specs.declared.option.Option.TheVariants.{None}
 use Rattle.std.specs.Io.KnownBytes.{Appends, Consumes, IsAtEnd}
 use Rattle.emv_ports.specs.Growth.{AppendsFront}
 use Rattle.word_lines.specs.Lines.{AreWordLines}
 use Rattle.narrator.specs.Shown.{shows_all}
-use Rattle.narrator.specs.State.{StateData, start}
+use Rattle.narrator.specs.State.{Manner, StateData, start}
 use Rattle.narrator.specs.Words.{Narrates}
 use Rattle.narrator.specs.declared.filter.Filter.{Filter}
+use Rattle.explain.specs.declared.options.Options.{Options}
 
 -- a text within a line
 unfoldable pub HasNoNewline : List ℕ → Type 0
 HasNoNewline text = list_any (λ b. b == 10) text ≡ false
 
--- how lines are told: whether none is left out, since no filter is given; and whether words are left out
+-- how lines are told: whether none is left out, since no filter is given; and in which manner their words are made
 pub record Way : Type 0 where
   pub all : Bool
-  pub brief : Bool
+  pub manner : Manner
 
--- the way of a filter
-abbrev pub way_of : Filter → Way
-way_of filter = record { all = shows_all filter; brief = filter.brief }
+-- the way of these options
+abbrev pub way_of : Options → Way
+way_of options = record { all = shows_all options.filter; manner = record { filter = options.filter; terminals = options.terminals.items } }
 
--- each line, with all words
+-- every line with all its words
+abbrev pub unfiltered : Filter
+unfiltered = record { brief = false; ends = false; lane = None; purchase = None }
+
+-- each line, with all words, where nothing is known of the terminals
 abbrev pub whole : Way
-whole = record { all = true; brief = false }
+whole = record { all = true; manner = record { filter = unfiltered; terminals = [] } }
 
 -- the most bytes of a line that is told in words
 abbrev pub most_told : ℕ
@@ -49,7 +55,7 @@ pub record IsUntold (told : Told) (before : StateData) : Type 0 where
 pub record IsTold (way : Way) (before : StateData) (told : Told) : Type 0 where
   pub one_line : HasNoNewline told.text
   pub word_lines : AreWordLines told.words
-  pub made : Narrates way.brief told.text before told.words told.after ⊎ IsUntold told before
+  pub made : Narrates way.manner told.text before told.words told.after ⊎ IsUntold told before
 
 -- lines one behind the other, each told behind the state that those before it left
 abbrev pub Course : Way → StateData → List Told → StateData → Type 0

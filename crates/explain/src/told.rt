@@ -185,7 +185,7 @@ fn end_long<K: Sink>(teller: &mut Teller, sink: &mut K) -> Result<(), Stop>
 /// The words of the line that has come, and whether it is left by the filters.
 fn tell(teller: &mut Teller) -> Result<bool, AllocError>
     ensures words { OnOk result (AreWordLines teller.new.words.bytes) }
-    ensures made { OnOk result (Narrates (way_in teller.old).brief teller.old.line.items (seen_state teller.old.narrator) teller.new.words.bytes (seen_state teller.new.narrator)) }
+    ensures made { OnOk result (Narrates (way_in teller.old).manner teller.old.line.items (seen_state teller.old.narrator) teller.new.words.bytes (seen_state teller.new.narrator)) }
     ensures kept { IfOk result (λ shown. shown ≡ false → teller.old.all ≡ false) }
     ensures line { teller.new.line.items ≡ teller.old.line.items }
     ensures long { teller.new.long ≡ teller.old.long }

@@ -5,8 +5,10 @@ pub mod digits;
 pub mod ending;
 pub mod filter;
 pub mod narrator;
+pub mod past;
 pub mod phrases;
 pub mod report;
 
 pub use filter::Filter;
 pub use narrator::Narrator;
+pub use past::LanePast;

@@ -17,7 +17,7 @@ loop-tag-preserved c =
     ∙ tags-next (test (c.in-Some.tag.0, c.in-Some.value.now)) c.loop-tag.told c.args.level words (c.in-Some.tag.0, c.in-Some.value.now)
     (filter test (fields_of c.in-Some.rest.list.now c.in-Some.rest.data.now)) in
     rw c.tell_if_known-told.ensures.told
-    (rw c.is_known.ensures (left_more _ _ _ _ _ _ (left_as _ _ _ _ _ next c.loop-tag.invariant) (rw c.is_known.ensures at c.tell_if_known-told.ensures.words)))
+    (rw c.is_known-known.ensures (left_more _ _ _ _ _ _ (left_as _ _ _ _ _ next c.loop-tag.invariant) (rw c.is_known-known.ensures at c.tell_if_known-told.ensures.words)))
 
 pub returns : goal.returns
 returns c =

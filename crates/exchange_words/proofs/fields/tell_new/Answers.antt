@@ -12,7 +12,7 @@ pub loop-tag-preserved : goal.loop-tag-preserved
 loop-tag-preserved c =
     let words = new_words c.args.style.now (is_known (fields_of c.args.known.list.now c.args.known.data.now) c.args.with_results) in
     let next = sym (ap (flat_map words) c.in-Some.ensures.fields) in
-    left_more _ _ _ _ _ _ (left_as _ _ _ _ _ next c.loop-tag.invariant) (rw c.is_known.ensures at c.tell_if_new.ensures)
+    left_more _ _ _ _ _ _ (left_as _ _ _ _ _ next c.loop-tag.invariant) (rw c.is_known-known.ensures at c.tell_if_new.ensures)
 
 pub returns : goal.returns
 returns c =
