@@ -1,5 +1,5 @@
 -- Lists that are told part by part.
-use Rattle.std.proofs.Common.{◌≡◌, ℕ, ◌+◌, ◌<◌, ◌≤◌, Bool, true, false, List, [], ◌∷◌, ◌++◌, cond, length, get_or, drop, refl, ap, arith}
+use Rattle.std.proofs.Common.{◌≡◌, ℕ, ◌<◌, ◌≤◌, Bool, true, false, List, [], ◌∷◌, ◌++◌, cond, length, get_or, drop, refl, ap, arith}
 use Rattle.word_lines.specs.Pieces.{Piece, joined}
 use Rattle.list_words.specs.Lists.{rules_words, rule_line, groups_words, group_words, comma_before}
 
