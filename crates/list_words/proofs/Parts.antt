@@ -41,7 +41,3 @@ pub joined-next : (told : Bool) (between one : List Piece) (others : List (List 
     → joined told between (one ∷ others) ≡ cond told between [] ++ one ++ joined true between others
 joined-next true between one others = refl
 joined-next false between one others = refl
-
-pub joined-none : (told : Bool) (between : List Piece) → joined told between [] ≡ []
-joined-none true between = refl
-joined-none false between = refl

@@ -67,7 +67,8 @@ bits_next width between name bits told place n within =
     ∙ ap (joined told between) (map_cond (has_bit width bits place) name place others)
     ∙ joined_more (has_bit width bits place) told between (name place) (map name others)
 
-joined_none : (told : Bool) (between : List Piece) → joined told between [] ≡ []
+-- nothing stands between none
+pub joined_none : (told : Bool) (between : List Piece) → joined told between [] ≡ []
 joined_none true between = refl
 joined_none false between = refl
 
