@@ -1,10 +1,10 @@
 -- The entries of a data object list, and the fields that they make of data, one by one.
-use Rattle.std.proofs.Common.{◌≡◌, ℕ, zero, suc, ◌+◌, ◌-◌, ◌<◌, ◌≤◌, ◌==◌, Bool, true, false, ◌&&◌, List, [], ◌∷◌, cond, nat_le, length, take, drop, Option, Some, None, option_map, Result, Ok, Err, slice_get, refl, sym, ap, ◌∙◌, arith, length-drop}
+use Rattle.std.proofs.Common.{◌≡◌, ℕ, zero, suc, ◌+◌, ◌<◌, ◌≤◌, ◌==◌, Bool, ◌&&◌, List, [], ◌∷◌, length, take, drop, Option, Some, None, option_map, Result, Ok, Err, slice_get, refl, ap, ◌∙◌, arith, length-drop}
 use Rattle.std.proofs.lemmas.Bool.Decides.{nat_tests}
 use Rattle.std.proofs.lemmas.Option.{slice_get_within}
 use Rattle.ber_tlv.specs.Item.{tag_at}
 use Rattle.ber_tlv.specs.declared.item.TlvFault.{TlvFault}
-use Rattle.list_words.specs.Fields.{EntryData, entry_behind, next_entry, by_entry, entries_from, entries_of, wanted, filled, fields_of, are_fitting, is_whole_list}
+use Rattle.list_words.specs.Fields.{EntryData, entry_behind, next_entry, by_entry, entries_from, entries_of, wanted, filled, fields_of, are_fitting}
 
 behind-shorter : (list : List ℕ) (r : Result (ℕ × ℕ) TlvFault) (e : EntryData) → entry_behind list r ≡ Some e → length e.rest < length list
 behind-shorter list (Err fault) e is = absurd cc

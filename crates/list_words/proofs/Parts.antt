@@ -1,5 +1,5 @@
 -- Lists that are told part by part.
-use Rattle.std.proofs.Common.{◌≡◌, ℕ, ◌+◌, ◌<◌, ◌≤◌, Bool, true, false, List, [], ◌∷◌, ◌++◌, cond, length, get_or, drop, refl, ap, arith}
+use Rattle.std.proofs.Common.{◌≡◌, ℕ, ◌<◌, ◌≤◌, Bool, true, false, List, [], ◌∷◌, ◌++◌, cond, length, get_or, drop, refl, ap, arith}
 use Rattle.word_lines.specs.Pieces.{Piece, joined}
 use Rattle.list_words.specs.Lists.{rules_words, rule_line, groups_words, group_words, comma_before}
 
@@ -41,7 +41,3 @@ pub joined-next : (told : Bool) (between one : List Piece) (others : List (List 
     → joined told between (one ∷ others) ≡ cond told between [] ++ one ++ joined true between others
 joined-next true between one others = refl
 joined-next false between one others = refl
-
-pub joined-none : (told : Bool) (between : List Piece) → joined told between [] ≡ []
-joined-none true between = refl
-joined-none false between = refl

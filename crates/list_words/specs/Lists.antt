@@ -1,5 +1,5 @@
 -- Values that are lists, in words: rules, groups of records, entries.
-use Rattle.std.specs.Prelude.{ℕ, ◌+◌, ◌/◌, ◌%◌, ◌==◌, Bool, false, not, ◌&&◌, nat_le, if◌then◌else◌, List, [], ◌∷◌, ◌++◌, length, map, take, drop, slice_index, codes, Option, Some, None}
+use Rattle.std.specs.Prelude.{ℕ, ◌/◌, ◌%◌, ◌==◌, Bool, false, not, ◌&&◌, nat_le, if◌then◌else◌, List, [], ◌∷◌, ◌++◌, length, map, take, drop, slice_index, codes, Option, Some, None}
 use Rattle.word_lines.specs.Pieces.{Piece, line, text, number, hex, joined}
 use Rattle.ber_tlv.specs.Written.{tag_bytes}
 use Rattle.explain_words.specs.Words.{word_in}

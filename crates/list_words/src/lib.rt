@@ -1,6 +1,6 @@
 //! Values that are numbers, digits, characters or lists, in words; the entries of a data object list, and
 //! the fields that they make of data.
-#![tactic(auto, using(word_lines::proofs::Telling::telling))]
+#![tactic(auto)]
 
 pub mod fields;
 pub mod lists;

@@ -65,7 +65,6 @@ fn tag_name(tag: u32) -> Option<(&'static [u8], Form)>
 }
 
 /// Tells the name of a tag, whose number this is.
-#[tactic(auto, using(word_lines::proofs::Telling::telling))]
 fn tell_tag_name(out: &mut WordLines, number: u64)
     ensures { Tells out.old out.new (spec.tag_words number) }
 {
@@ -76,7 +75,6 @@ fn tell_tag_name(out: &mut WordLines, number: u64)
 }
 
 /// Tells the word of a kind of cryptogram.
-#[tactic(auto, using(word_lines::proofs::Telling::telling))]
 fn tell_kind(out: &mut WordLines, number: u64)
     ensures { Tells out.old out.new (spec.kind_words number) }
 {
@@ -97,7 +95,6 @@ fn names_tag(cause: &[u8]) -> bool
 }
 
 /// Tells what a cause names in words: a status, a kind, or a tag.
-#[tactic(auto, using(word_lines::proofs::Telling::telling))]
 fn tell_detail_words(out: &mut WordLines, step: &[u8], cause: &[u8], number: u64)
     ensures { Tells out.old out.new (spec.detail_words step.now cause.now (Some number)) }
 {
@@ -121,7 +118,6 @@ fn tell_named(out: &mut WordLines, step: &[u8], cause: &[u8], number: Option<u64
 }
 
 /// Tells what a cause names.
-#[tactic(auto, using(word_lines::proofs::Telling::telling))]
 fn tell_detail(out: &mut WordLines, step: &[u8], cause: &[u8], detail: &[u8])
     ensures { Tells out.old out.new (spec.in_brackets step.now cause.now detail.now) }
 {
@@ -152,7 +148,6 @@ fn tell_cause(out: &mut WordLines, cause: &[u8])
 }
 
 /// Tells that the terminal ended it, in a step and for a cause.
-#[tactic(auto, using(word_lines::proofs::Telling::telling))]
 fn tell_terminated(out: &mut WordLines, step: &[u8], cause: &[u8], detail: &[u8])
     ensures { Tells out.old out.new (spec.terminated_words step.now cause.now detail.now) }
 {
@@ -165,7 +160,6 @@ fn tell_terminated(out: &mut WordLines, step: &[u8], cause: &[u8], detail: &[u8]
 }
 
 /// Tells an ending that is no decision.
-#[tactic(auto, using(word_lines::proofs::Telling::telling))]
 pub(crate) fn tell_break(out: &mut WordLines, ending: &Ending<'_>)
     ensures { Tells out.old out.new (spec.break_words (seen_ending ending.now)) }
 {
@@ -185,7 +179,6 @@ pub(crate) fn tell_break(out: &mut WordLines, ending: &Ending<'_>)
 }
 
 /// Tells what the card answered.
-#[tactic(auto, using(word_lines::proofs::Telling::telling))]
 fn tell_answered(out: &mut WordLines, answered: Option<Kind>)
     ensures { Tells out.old out.new (spec.answered_words answered) }
 {
@@ -196,7 +189,6 @@ fn tell_answered(out: &mut WordLines, answered: Option<Kind>)
 }
 
 /// Tells what was asked for last, why, and what was answered.
-#[tactic(auto, using(word_lines::proofs::Telling::telling))]
 fn tell_decision(out: &mut WordLines, lane: &LaneState, asked: Kind, reason: Reason)
     ensures { Tells out.old out.new (spec.decided_words asked reason lane.now) }
 {
@@ -226,7 +218,6 @@ fn tell_ending(out: &mut WordLines, lane: &LaneState, ending: &Ending<'_>)
 
 /// Tells what was performed by its place among 16 bits, where it is set, behind a comma where others were told
 /// before; whether any was told.
-#[tactic(auto, using(word_lines::proofs::Telling::telling))]
 fn tell_performed_bit(out: &mut WordLines, status: u64, place: u8, told: bool) -> bool
     requires { place < 16 }
     ensures words { Tells out.old out.new
@@ -284,7 +275,6 @@ fn tell_performed(out: &mut WordLines, status: u64)
 }
 
 /// Tells whether cardholder verification was successful.
-#[tactic(auto, using(word_lines::proofs::Telling::telling))]
 fn tell_outcome(out: &mut WordLines, outcome: u8)
     ensures { Tells out.old out.new (spec.outcome_words outcome) }
 {
@@ -326,7 +316,7 @@ fn tell_reached(out: &mut WordLines, cvm: u64)
 }
 
 /// Tells the result of cardholder verification.
-#[tactic(auto, using(word_lines::proofs::Telling::telling), unfolding(crate::specs::Endings::verification_words))]
+#[tactic(auto, unfolding(crate::specs::Endings::verification_words))]
 fn tell_verification(out: &mut WordLines, cvm: u64)
     ensures { Tells out.old out.new (spec.verification_words cvm) }
 {
@@ -353,7 +343,6 @@ fn tell_code_words(out: &mut WordLines, code: u32)
 }
 
 /// Tells the response code.
-#[tactic(auto, using(word_lines::proofs::Telling::telling))]
 fn tell_code(out: &mut WordLines, arc: &[u8])
     ensures { Tells out.old out.new (spec.code_words arc.now) }
 {
@@ -370,7 +359,6 @@ fn tell_code(out: &mut WordLines, arc: &[u8])
 }
 
 /// Tells that a command failed.
-#[tactic(auto, using(word_lines::proofs::Telling::telling))]
 fn tell_failed(out: &mut WordLines, command: u64)
     ensures { Tells out.old out.new (spec.failed_words command) }
 {
@@ -384,7 +372,7 @@ fn tell_failed(out: &mut WordLines, command: u64)
 }
 
 /// Tells the result of a script: five bytes as one number (EMV 4.3 Book 4 Annex A5).
-#[tactic(auto, using(word_lines::proofs::Telling::telling), unfolding(crate::specs::Endings::script_words))]
+#[tactic(auto, unfolding(crate::specs::Endings::script_words))]
 fn tell_script(out: &mut WordLines, bytes: u64)
     ensures { Tells out.old out.new (spec.script_words bytes) }
 {
@@ -450,7 +438,6 @@ fn is_untouched(fields: &EndFields<'_>) -> bool
 }
 
 /// Tells the terminal verification results.
-#[tactic(auto, using(word_lines::proofs::Telling::telling))]
 fn tell_tvr(out: &mut WordLines, results: Option<u64>)
     ensures { Tells out.old out.new (spec.tvr_words results) }
 {
@@ -462,7 +449,6 @@ fn tell_tvr(out: &mut WordLines, results: Option<u64>)
 }
 
 /// Tells the transaction status information.
-#[tactic(auto, using(word_lines::proofs::Telling::telling))]
 fn tell_tsi(out: &mut WordLines, status: Option<u64>)
     ensures { Tells out.old out.new (spec.tsi_words status) }
 {
@@ -474,7 +460,6 @@ fn tell_tsi(out: &mut WordLines, status: Option<u64>)
 }
 
 /// Tells the bits of an end line.
-#[tactic(auto, using(word_lines::proofs::Telling::telling))]
 fn tell_end_bits(out: &mut WordLines, fields: &EndFields<'_>, brief: bool)
     ensures { Tells out.old out.new (spec.end_bits (seen_fields fields.now) brief) }
 {

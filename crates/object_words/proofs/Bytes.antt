@@ -1,5 +1,5 @@
 -- Bytes that are told one by one.
-use Rattle.std.proofs.Common.{◌≡◌, ℕ, ◌+◌, ◌<◌, ◌≤◌, List, [], ◌∷◌, ◌++◌, length, get_or, drop, ap}
+use Rattle.std.proofs.Common.{◌≡◌, ℕ, ◌+◌, ◌<◌, ◌≤◌, List, [], ◌++◌, length, get_or, drop, ap}
 use Rattle.std.proofs.lemmas.List.{drop_all}
 use Rattle.object_words.specs.Bits.{bit_numbers_from, byte_bits, bit_words_from, byte_words}
 use Rattle.list_words.proofs.Places.{from_place}

@@ -1,8 +1,7 @@
 -- Objects that are told with what they hold.
-use Rattle.std.proofs.Common.{◌≡◌, ℕ, zero, suc, ◌-◌, ◌<◌, Bool, true, false, List, ◌++◌, cond, refl, arith, ap}
+use Rattle.std.proofs.Common.{◌≡◌, ℕ, zero, suc, ◌-◌, ◌<◌, true, false, List, ◌++◌, refl, arith, ap}
 use Rattle.std.specs.List.{flat_map}
 use Rattle.ber_tlv.specs.Item.{ItemData}
-use Rattle.word_lines.specs.Pieces.{Piece}
 use Rattle.object_words.specs.Leading.{leading_items}
 use Rattle.object_words.specs.Objects.{objects_words, told_item, plain_item, is_opened, template_line, level_within, name_of}
 use Rattle.object_words.specs.declared.style.Style.{Style}

@@ -1,5 +1,5 @@
 -- Values that the issuer gives or reads, in words.
-use Rattle.std.specs.Prelude.{ℕ, ◌+◌, ◌*◌, ◌/◌, ◌%◌, ◌==◌, Bool, ◌&&◌, not, nat_le, if◌then◌else◌, List, [], ◌∷◌, ◌++◌, length, map, slice_index, take, drop, bit_and, codes, Option, Some, None}
+use Rattle.std.specs.Prelude.{ℕ, ◌+◌, ◌*◌, ◌/◌, ◌%◌, ◌==◌, Bool, ◌&&◌, nat_le, if◌then◌else◌, List, [], ◌∷◌, ◌++◌, length, map, slice_index, take, drop, bit_and, codes, Option, Some, None}
 use Rattle.word_lines.specs.Pieces.{Piece, text, number, hex, word_or}
 use Rattle.explain_words.specs.Words.{word_in}
 use Rattle.explain_words.specs.declared.bits.TheConstants.{UPDATE_BITS}

@@ -1,5 +1,5 @@
 //! Data objects in words: values by their form, objects within objects.
-#![tactic(auto, using(word_lines::proofs::Telling::telling))]
+#![tactic(auto)]
 
 pub mod bits;
 pub mod command;

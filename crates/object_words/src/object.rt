@@ -128,7 +128,7 @@ fn tell_by_form(out: &mut WordLines, form: Form, value: &[u8], style: &Style) ->
 }
 
 /// Tells a value by its form, or in hexadecimal where it is of another one.
-#[tactic(auto, using(word_lines::proofs::Telling::telling), unfolding(crate::specs::Objects::value_words))]
+#[tactic(auto, unfolding(crate::specs::Objects::value_words))]
 pub fn tell_value(out: &mut WordLines, form: Form, value: &[u8], style: &Style)
     ensures { Tells out.old out.new (spec.value_words form style.now value.now) }
 {
@@ -169,7 +169,7 @@ fn tell_named(
 
 /// Tells an object in a line of its own: its tag, its name, and its value by its form, else in
 /// hexadecimal.
-#[tactic(auto, using(word_lines::proofs::Telling::telling), unfolding(crate::specs::Objects::object_words))]
+#[tactic(auto, unfolding(crate::specs::Objects::object_words))]
 pub fn tell_object(out: &mut WordLines, object: &Object<'_>, style: &Style)
     ensures { Tells out.old out.new (spec.object_words style.now object.now.tag.0 object.now.value.now) }
 {

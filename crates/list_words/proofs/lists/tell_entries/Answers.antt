@@ -1,10 +1,10 @@
 use Rattle.std.proofs.Common.{List, [], ◌++◌, ℕ, true, append_assoc, cond, codes, map, sym, ap, ◌∙◌}
-use Rattle.word_lines.proofs.Telling.{left_start, left_more, left_as, left_end}
+use Rattle.word_lines.proofs.Telling.{left_start, left_more, left_as, left_end, joined_none}
 use Rattle.word_lines.specs.Pieces.{text, joined}
 use Rattle.list_words.specs.Fields.{entries_of}
 use Rattle.list_words.specs.Lists.{entry_words}
 use Rattle.list_words.proofs.Entries.{entries-some, entries-none}
-use Rattle.list_words.proofs.Parts.{joined-next, joined-none}
+use Rattle.list_words.proofs.Parts.{joined-next}
 use Rattle.list_words.proofs.lists.tell_entries.Goals as goal
 
 pub loop-tag-init : goal.loop-tag-init
@@ -23,5 +23,5 @@ loop-tag-preserved c =
 pub returns : goal.returns
 returns c =
     let end = ap (λ (m : List (ℕ × ℕ) × List ℕ). joined c.loop-tag.told (text (codes " ")) (map entry_words m.0)) (entries-none c.loop-tag.left.now (sym c.in_default.ensures.exact))
-    ∙ joined-none c.loop-tag.told (text (codes " ")) in
+    ∙ joined_none c.loop-tag.told (text (codes " ")) in
     left_end _ _ _ (left_as _ _ _ _ _ end c.loop-tag.invariant)

@@ -1,4 +1,4 @@
-use Rattle.std.proofs.Common.{◌≡◌, ℕ, List, [], ◌∷◌, ◌++◌, length, slice_index, arith, refl, sym, subst}
+use Rattle.std.proofs.Common.{◌≡◌, List, [], ◌∷◌, ◌++◌, length, slice_index, arith, refl, sym, subst}
 use Rattle.word_lines.specs.Pieces.{Piece, Tells, hex}
 use Rattle.word_lines.proofs.Telling.{tells_then}
 use Rattle.object_words.specs.Issuer.{update_data_words, update_words}

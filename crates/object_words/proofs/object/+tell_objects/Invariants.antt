@@ -1,4 +1,4 @@
-use Rattle.std.proofs.Common.{◌≡◌, ◌≤◌, length, ◌-◌}
+use Rattle.std.proofs.Common.{◌≤◌, length, ◌-◌}
 use Rattle.std.specs.List.{flat_map}
 use Rattle.word_lines.proofs.Telling.{Left}
 use Rattle.object_words.specs.Leading.{leading_behind}
