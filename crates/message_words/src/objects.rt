@@ -110,11 +110,7 @@ fn tell_repeated(out: &mut WordLines, objects: &[u8], known: Option<Fields<'_>>)
 
 /// Tells the objects of a message in lines of their own, but those that were sent before, whose tags stand
 /// in a last line.
-pub(crate) fn tell_objects_beside(
-    out: &mut WordLines,
-    objects: &[u8],
-    known: Option<Fields<'_>>,
-)
+pub(crate) fn tell_objects_beside(out: &mut WordLines, objects: &[u8], known: Option<Fields<'_>>)
     ensures { Tells out.old out.new (spec.beside_words (sent_before known.entry) objects.now) }
 {
     tell_new(out, objects, known);

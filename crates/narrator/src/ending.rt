@@ -13,11 +13,11 @@ use crate::phrases::{
 use action_words::{Reason, tell_reason};
 use ber_tlv::Tag;
 use emv_dict::Kind;
-use lane_words::{LaneState, kind_name, tell_status};
 use explain_words::{
     CAUSES, CRYPTOGRAMS, Form, OUTCOMES, RESPONSES, STATUS_BITS, STEPS, name_of, word_of,
     word_of_text,
 };
+use lane_words::{LaneState, kind_name, tell_status};
 use list_words::tell_rule;
 use object_words::tell_results;
 use report_lines::{EndFields, Ending};

@@ -21,12 +21,12 @@ loop-terminal-preserved c =
     let behind = row_for (drop (c.loop-terminal.terminal-index + 1) c.args.terminals.now) c.args.lane c.args.name.now in
     let test : ((one.lane == c.args.lane) && is_meant one c.args.name.now) ≡ false = elim c.else-terminal-lane.branch [
       | else-terminal-lane-via-then-terminal-lane+else-is_meant w ↦
-        let lane : (one.lane == c.args.lane) ≡ true = grind (arith, nat_tests) in
-        let named : is_meant one c.args.name.now ≡ false = sym w.is_meant.ensures ∙ w.if-is_meant.false in
-        rw (lane, named) refl
+          let lane : (one.lane == c.args.lane) ≡ true = grind (arith, nat_tests) in
+          let named : is_meant one c.args.name.now ≡ false = sym w.is_meant.ensures ∙ w.if-is_meant.false in
+          rw (lane, named) refl
       | else-terminal-lane-via-else-terminal-lane w ↦
-        let lane : (one.lane == c.args.lane) ≡ false = grind (arith, nat_tests) in
-        rw lane refl
+          let lane : (one.lane == c.args.lane) ≡ false = grind (arith, nat_tests) in
+          rw lane refl
     ] in
     let next = row-next c.args.terminals.now c.args.lane c.args.name.now c.loop-terminal.terminal-index one (omega arith) c.terminal-item.is in
     c.loop-terminal.invariant ∙ next ∙ ap (λ (b : Bool). cond b (Some one.row) behind) test
