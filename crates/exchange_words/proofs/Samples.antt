@@ -1,5 +1,6 @@
 -- What the definitions say of some commands and answers.
 use Rattle.std.proofs.Common.{◌≡◌, ℕ, [], ◌∷◌, None, codes, true, false, refl}
+use Rattle.std.specs.Fmt.{digits}
 use Rattle.apdu_core.specs.Command.{command_of}
 use Rattle.apdu_core.specs.Response.{response_of}
 use Rattle.ber_tlv.specs.Left.{items_behind, items_from}
@@ -13,7 +14,7 @@ use Rattle.exchange_words.specs.Commands.{words_of_command}
 
 -- the second record of the file 1
 pub record_read : lines_of (words_of_command fresh (0x00 ∷ 0xB2 ∷ 0x02 ∷ 0x0C ∷ 0x00 ∷ []) None true) ≡ codes "  READ RECORD 2 of file 1\n"
-unfolding words_of_command command_of with_piece begun opened closed stage_of next_stage
+unfolding digits words_of_command command_of with_piece begun opened closed stage_of next_stage
 record_read = refl
 
 -- an application by its name
