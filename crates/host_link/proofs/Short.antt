@@ -98,8 +98,7 @@ rest_sized a b c d e f items out one two three four five six is =
     let ninth = read_of (fixed_at 2 false 0x82 eighth.value.1) _ out eighth.behind in
     let tenth = read_of (fixed_at 2 false 0x9F36 ninth.value.1) _ out ninth.behind in
     let last = read_of (fixed_at 8 false 0x9F26 tenth.value.1) _ out tenth.behind in
-    subst (λ (q : Paid × List ItemData). PaidSizes q.0) (same_read _ out last.behind)
-    (
+    subst (λ (q : Paid × List ItemData). PaidSizes q.0) (same_read _ out last.behind) (
       one,
       two,
       three,
