@@ -1,5 +1,5 @@
 //! What a terminal asks, as a line.
-ghost use Rattle.std.specs.Prelude.{◌≡◌, ◌≢◌, ◌≤◌, ◌++◌, ◌∷◌, [], List, length};
+ghost use Rattle.std.specs.Prelude.{◌≡◌, ◌≢◌, ◌≤◌, ◌++◌, ◌∷◌, [], false, List, length};
 ghost use Rattle.kernel.specs.Dialogue.{dialogue};
 ghost use Rattle.kernel.specs.Kernel.{KernelStands, deal_in, deed_next, next_of};
 ghost use Rattle.kernel.specs.Reply.{Reply};
