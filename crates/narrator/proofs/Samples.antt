@@ -13,7 +13,7 @@ use Rattle.report_lines.specs.Reading.{line_in}
 use Rattle.lane_words.specs.Statuses.{status_word, answer_word}
 use Rattle.lane_words.specs.Terminals.{row_for}
 use Rattle.lane_words.specs.Torn.{command_name, may_keep}
-use Rattle.exchange_words.specs.Answers.{words_of_answer, left_by_answer}
+use Rattle.exchange_words.specs.Answers.{words_of_answer}
 use Rattle.exchange_words.specs.Commands.{words_of_command, left_by_command}
 use Rattle.narrator.specs.State.{Manner, StateData, start}
 use Rattle.narrator.specs.Words.{words_by, state_by}
