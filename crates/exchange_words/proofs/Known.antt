@@ -1,6 +1,6 @@
 -- Objects that are told but for those that were sent before.
 use Rattle.std.proofs.Common.{◌≡◌, ℕ, Bool, true, false, ◌||◌, List, [], ◌∷◌, ◌++◌, cond, refl}
-use Rattle.std.specs.List.{flat_map, filter}
+use Rattle.std.specs.List.{flat_map}
 use Rattle.word_lines.specs.Pieces.{Piece}
 use Rattle.exchange_words.specs.Fields.{tag_words, tags_words, known_words}
 

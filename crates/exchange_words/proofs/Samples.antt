@@ -1,9 +1,8 @@
 -- What the definitions say of some commands and answers.
-use Rattle.std.proofs.Common.{◌≡◌, ℕ, [], ◌∷◌, None, codes, true, false, refl}
+use Rattle.std.proofs.Common.{◌≡◌, [], ◌∷◌, None, codes, true, false, refl}
 use Rattle.std.specs.Fmt.{digits}
 use Rattle.apdu_core.specs.Command.{command_of}
 use Rattle.apdu_core.specs.Response.{response_of}
-use Rattle.ber_tlv.specs.Left.{items_behind, items_from}
 use Rattle.explain_words.specs.Words.{word_in}
 use Rattle.word_lines.specs.Lines.{closed, opened, begun, stage_of, next_stage}
 use Rattle.word_lines.specs.Pieces.{with_piece, lines_of}

@@ -1,5 +1,5 @@
 -- Commands of a script, and what is kept of commands.
-use Rattle.std.proofs.Common.{◌≡◌, Bool, true, List, ◌++◌, codes, Option, Some, None, is_some, refl}
+use Rattle.std.proofs.Common.{◌≡◌, true, List, ◌++◌, codes, Option, Some, None, is_some, refl}
 use Rattle.word_lines.specs.Pieces.{Piece, text}
 use Rattle.list_words.specs.Plain.{or_nothing}
 use Rattle.exchange_words.specs.Commands.{script_words}

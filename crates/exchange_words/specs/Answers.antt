@@ -1,12 +1,12 @@
 -- Answers in words (EMV 4.3 Book 3 section 6.5).
-use Rattle.std.specs.Prelude.{ℕ, ◌+◌, ◌-◌, ◌*◌, ◌/◌, ◌%◌, ◌==◌, Bool, false, not, ◌&&◌, ◌||◌, nat_lt, nat_le, if◌then◌else◌, List, [], ◌∷◌, ◌++◌, length, take, drop, slice_index, codes, Option, Some, None, is_some}
+use Rattle.std.specs.Prelude.{ℕ, ◌+◌, ◌-◌, ◌*◌, ◌==◌, Bool, false, not, ◌&&◌, ◌||◌, nat_lt, nat_le, if◌then◌else◌, List, [], ◌++◌, length, take, drop, slice_index, codes, Option, Some, None, is_some}
 use Rattle.std.specs.Str.{bytes_eq}
 use Rattle.apdu_core.specs.Response.{ResponseData, response_of}
 use Rattle.apdu_core.specs.Status.{no_error}
 use Rattle.ber_tlv.specs.Direct.{sole_value}
 use Rattle.ber_tlv.specs.Left.{items_of, fault_of}
 use Rattle.object_words.specs.Objects.{plain, object_words, objects_words}
-use Rattle.word_lines.specs.Pieces.{Piece, line, text, number, hex}
+use Rattle.word_lines.specs.Pieces.{Piece, line, text, number}
 use Rattle.lane_words.specs.Kinds.{kind_words, answered, with_kind}
 use Rattle.exchange_words.specs.Learned.{counter_in, with_counter, with_record, with_selected}
 use Rattle.lane_words.specs.Statuses.{status_line}

@@ -1,5 +1,5 @@
 -- Commands in words (EMV 4.3 Book 3 section 6.5).
-use Rattle.std.specs.Prelude.{ℕ, ◌+◌, ◌*◌, ◌/◌, ◌%◌, ◌==◌, Bool, true, false, not, ◌&&◌, nat_lt, nat_le, if◌then◌else◌, List, [], ◌∷◌, ◌++◌, length, map, drop, slice_index, codes, Option, Some, None, option_map, is_some, unwrap_or}
+use Rattle.std.specs.Prelude.{ℕ, ◌+◌, ◌*◌, ◌/◌, ◌%◌, ◌==◌, Bool, false, ◌&&◌, nat_lt, if◌then◌else◌, List, [], ◌∷◌, ◌++◌, length, map, codes, Option, Some, None, option_map, is_some, unwrap_or}
 use Rattle.std.specs.Option.{option_or}
 use Rattle.std.specs.Str.{bytes_eq}
 use Rattle.action_words.specs.Reasons.{reason_of}
@@ -21,7 +21,6 @@ use Rattle.list_words.specs.Digits.{digits_in, digits_words}
 use Rattle.list_words.specs.Fields.{fields_of, are_fitting, value_among}
 use Rattle.object_words.specs.Objects.{name_of, plain, value_words}
 use Rattle.list_words.specs.Plain.{number_in, or_nothing}
-use Rattle.object_words.specs.declared.style.KnownCodes.{KnownCodes}
 use Rattle.object_words.specs.declared.style.ResultsStyle.TheVariants.{Codes}
 use Rattle.object_words.specs.declared.style.Style.{Style}
 use Rattle.word_lines.specs.Pieces.{Piece, line, text, number, hex, word_or}

@@ -1,5 +1,5 @@
 //! Answers in words (EMV 4.3 Book 3 section 6.5).
-ghost use Rattle.std.specs.Prelude.{◌≡◌, Some};
+ghost use Rattle.std.specs.Prelude.{◌≡◌};
 ghost use Rattle.apdu_core.specs.Seen.{seen_response};
 ghost use Rattle.exchange_words.specs.Answers as words;
 ghost use Rattle.word_lines.specs.Pieces.{Tells};

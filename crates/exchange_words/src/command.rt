@@ -1,5 +1,5 @@
 //! Commands in words (EMV 4.3 Book 3 section 6.5).
-ghost use Rattle.std.specs.Prelude.{◌≡◌, ◌==◌, if◌then◌else◌, [], codes, option_map};
+ghost use Rattle.std.specs.Prelude.{◌≡◌, ◌==◌, if◌then◌else◌, option_map};
 ghost use Rattle.apdu_core.specs.Command.{command_of};
 ghost use Rattle.apdu_core.specs.Seen.{seen_command};
 ghost use Rattle.object_words.specs.Objects.{name_of as name_in};

@@ -1,7 +1,6 @@
 -- The rows of terminals, one by one.
-use Rattle.std.proofs.Common.{◌≡◌, ℕ, suc, ◌+◌, ◌<◌, ◌≤◌, ◌==◌, ◌&&◌, List, [], ◌∷◌, cond, Option, Some, None, length, get_or, drop, refl, sym, ap, ◌∙◌, add-one, drop-cons}
+use Rattle.std.proofs.Common.{◌≡◌, ℕ, suc, ◌+◌, ◌<◌, ◌≤◌, ◌==◌, ◌&&◌, List, ◌∷◌, cond, Some, None, length, get_or, drop, sym, ap, add-one, drop-cons}
 use Rattle.std.proofs.lemmas.List.{drop_all}
-use Rattle.action_words.specs.declared.asking.Row.{Row}
 use Rattle.lane_words.specs.Terminals.{is_meant, row_for}
 use Rattle.lane_words.specs.declared.terminal.Terminal.{Terminal}
 

@@ -1,5 +1,5 @@
 -- What the definitions say of some statuses and commands.
-use Rattle.std.proofs.Common.{◌≡◌, ℕ, [], ◌∷◌, codes, refl}
+use Rattle.std.proofs.Common.{◌≡◌, [], ◌∷◌, codes, refl}
 use Rattle.explain_words.specs.Words.{word_in}
 use Rattle.std.specs.Fmt.{digits}
 use Rattle.word_lines.specs.Lines.{closed, opened, begun, stage_of, next_stage}

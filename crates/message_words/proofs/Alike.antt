@@ -2,7 +2,6 @@
 use Rattle.std.proofs.Common.{◌≡◌, ℕ, zero, suc, Bool, true, false, List, [], ◌∷◌, ◌++◌, cond, Option, Some, None, option_map, unwrap_or, refl, ap, ◌∙◌}
 use Rattle.std.specs.Borrow.{Bor}
 use Rattle.std.specs.List.{flat_map}
-use Rattle.ber_tlv.specs.Item.{ItemData}
 use Rattle.ber_tlv.specs.Written.{tag_bytes}
 use Rattle.explain_words.specs.declared.names.Form.{Form}
 use Rattle.explain_words.specs.declared.names.Form.TheVariants as form

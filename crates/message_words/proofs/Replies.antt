@@ -5,8 +5,8 @@ use Rattle.ber_tlv.specs.Left.{fault_of, items_of}
 use Rattle.explain_words.specs.declared.names.Form.TheVariants.{Response}
 use Rattle.word_lines.specs.Pieces.{Piece, line, text, number}
 use Rattle.message_words.specs.Fields.{contents, named_from}
-use Rattle.message_words.specs.Iso.{MessageData, items_words, characters_words, field_words, field_word, content_words, fields_words, rest_words, message_words, behind_blank, type_word}
-use Rattle.message_words.specs.Messages.{objects_reply, whole_reply}
+use Rattle.message_words.specs.Iso.{MessageData, characters_words, field_word, content_words, message_words, behind_blank, type_word}
+use Rattle.message_words.specs.Messages.{objects_reply}
 use Rattle.message_words.specs.Objects.{styled, borrowed}
 use Rattle.message_words.proofs.Alike.{said, value-alike, objects-alike, each-alike}
 

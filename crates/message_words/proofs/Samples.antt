@@ -1,12 +1,11 @@
 -- What the definitions say of some messages.
-use Rattle.std.proofs.Common.{◌≡◌, ℕ, List, [], ◌∷◌, ◌++◌, Option, Some, codes, true, refl}
+use Rattle.std.proofs.Common.{◌≡◌, ℕ, List, [], ◌∷◌, ◌++◌, Some, codes, true, refl}
 use Rattle.explain_words.specs.Words.{word_in}
 use Rattle.word_lines.specs.Lines.{closed, opened, begun, stage_of, next_stage}
 use Rattle.word_lines.specs.Pieces.{with_piece, lines_of}
 use Rattle.message_words.specs.Fields.{contents, named_from, is_named, cut_field}
 use Rattle.message_words.specs.Iso.{message_of, type_word}
 use Rattle.message_words.specs.Messages.{call_words, code_in, settled_by}
-use Rattle.message_words.specs.declared.host.Settled.{Settled}
 use Rattle.message_words.specs.declared.host.Settled.TheVariants.{Presentment, Reversal}
 
 -- a bitmap that names the fields 39 and 55, and their contents

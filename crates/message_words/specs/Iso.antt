@@ -1,5 +1,5 @@
 -- Messages in the style of ISO 8583:1987 in words.
-use Rattle.std.specs.Prelude.{ℕ, ◌==◌, Bool, true, false, ◌&&◌, nat_le, if◌then◌else◌, List, [], ◌∷◌, ◌++◌, length, map, take, drop, slice_index, codes, Option, Some, None, option_map, is_some}
+use Rattle.std.specs.Prelude.{ℕ, ◌==◌, Bool, ◌&&◌, nat_le, if◌then◌else◌, List, [], ◌∷◌, ◌++◌, length, map, take, drop, slice_index, codes, Option, Some, None, option_map, is_some}
 use Rattle.std.specs.List.{flat_map}
 use Rattle.explain_words.specs.Words.{word_in}
 use Rattle.explain_words.specs.declared.codes.TheConstants.{FIELDS, MESSAGE_TYPES}

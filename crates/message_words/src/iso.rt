@@ -1,6 +1,6 @@
 //! Messages in the style of ISO 8583:1987: a type of four digits, a bitmap of eight bytes, and the fields
 //! that it names, in rising order.
-ghost use Rattle.std.specs.Prelude.{◌≡◌, ◌<◌, option_map, is_some};
+ghost use Rattle.std.specs.Prelude.{◌≡◌, ◌<◌, option_map};
 ghost use Rattle.word_lines.specs.Pieces.{Tells};
 ghost use Rattle.message_words.specs.Fields.{cut_field};
 ghost use Rattle.message_words.specs.Iso as spec;

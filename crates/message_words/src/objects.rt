@@ -1,5 +1,5 @@
 //! The objects of a message, and those of them that the first GENERATE AC had as well.
-ghost use Rattle.std.specs.Prelude.{◌≡◌, option_map};
+ghost use Rattle.std.specs.Prelude.{◌≡◌};
 ghost use Rattle.std.specs.List.{flat_map, list_any};
 ghost use Rattle.ber_tlv.specs.Seen.{seen};
 ghost use Rattle.object_words.specs.Leading.{leading_items};

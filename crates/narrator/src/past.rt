@@ -1,6 +1,5 @@
 //! What the lines of a lane leave for those behind them.
-ghost use Rattle.std.specs.Prelude.{◌≡◌, ◌<◌};
-ghost use Rattle.lane_words.specs.Terminals.{row_for as row_in};
+ghost use Rattle.std.specs.Prelude.{◌≡◌};
 ghost use Rattle.narrator.specs.State as state;
 ghost use Rattle.narrator.specs.Words as spec;
 ghost use Rattle.word_lines.specs.Pieces.{Tells};

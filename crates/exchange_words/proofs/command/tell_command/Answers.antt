@@ -1,6 +1,5 @@
 use Rattle.std.proofs.Common.{List, ℕ, ap, subst, ◌∙◌}
 use Rattle.apdu_core.specs.Command.{command_of}
-use Rattle.arrayvec.specs.ArrayVec.{ArrayVec}
 use Rattle.word_lines.specs.Pieces.{Piece, Tells}
 use Rattle.exchange_words.specs.Commands.{left_by_command, left_of}
 use Rattle.exchange_words.proofs.Asking.{words-kept}

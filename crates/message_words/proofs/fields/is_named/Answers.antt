@@ -1,4 +1,4 @@
-use Rattle.std.proofs.Common.{◌≡◌, ℕ, ◌-◌, ◌/◌, ◌%◌, ◌^◌, ◌==◌, sym, ap, ◌∙◌, arith}
+use Rattle.std.proofs.Common.{ℕ, ◌-◌, ◌/◌, ◌%◌, ◌^◌, ◌==◌, sym, ap, ◌∙◌, arith}
 use Rattle.std.proofs.Math.Nat.{zero-div}
 use Rattle.message_words.specs.Fields.{is_named}
 use Rattle.message_words.proofs.fields.is_named.Goals as goal
