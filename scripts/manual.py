@@ -44,7 +44,7 @@ SECTIONS = [
         "Without a proved program that is newer than all sources the launcher makes a trial build, in one to two "
         "minutes. It is not proved, it checks itself as it runs, and it is some 300 times slower: 15 ms for a purchase, "
         "where the proved program takes 0.05 ms. The launcher warns before work that takes a trial build more than five "
-        "seconds. `--build` takes about an hour of one processor from nothing, and less where several are free.",
+        "seconds. `--build` takes one to two and a half hours of one processor from nothing, and less where several are free.",
     ]),
     ("EXIT STATUS", [
         ("0", "The scenario was run to its end, whatever became of its purchases; or the trace was compared."),

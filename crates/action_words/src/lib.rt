@@ -1,6 +1,6 @@
 //! Why a terminal asked for a kind of cryptogram, as far as the terminal verification results and the
 //! action codes tell it (EMV 4.3 Book 3 section 10.7).
-#![tactic(auto, using(word_lines::proofs::Telling::telling))]
+#![tactic(auto)]
 
 pub mod asking;
 pub mod phrases;

@@ -1,34 +1,11 @@
 -- The fields of each message in their order, read from its items (own).
-use Rattle.std.specs.Prelude.{ℕ, true, false, List, Option, Result, Ok}
+use Rattle.std.specs.Prelude.{true, false, List, Result, Ok}
 use Rattle.ber_tlv.specs.Item.{ItemData}
 use Rattle.auth_message.specs.declared.fault.MessageFault.{MessageFault}
-use Rattle.auth_message.specs.declared.groups.Named.{Named}
-use Rattle.auth_message.specs.declared.groups.Paid.{Paid}
 use Rattle.auth_message.specs.declared.reversal.ReversalFields.{ReversalFields}
 use Rattle.auth_message.specs.Data.{RequestData, PresentData}
 use Rattle.auth_message.specs.Fields.{◌>>=◌, fixed_at, some_at, fixed_if_there, ended}
 use Rattle.auth_message.specs.Groups.{named_at, paid_at}
-
-abbrev pub request_of : Named → List ℕ → Paid → List ℕ → Option (List ℕ) → RequestData
-request_of named t5f24 paid t9f10 tdf11 = record {
-  t9f1c = named.t9f1c;
-  pan = named.pan;
-  t5f34 = named.t5f34;
-  t5f24 = t5f24;
-  t9f02 = paid.t9f02;
-  t9f03 = paid.t9f03;
-  t9f1a = paid.t9f1a;
-  t95 = paid.t95;
-  t5f2a = paid.t5f2a;
-  t9a = paid.t9a;
-  t9c = paid.t9c;
-  t9f37 = paid.t9f37;
-  t82 = paid.t82;
-  t9f36 = paid.t9f36;
-  t9f26 = paid.t9f26;
-  t9f10 = t9f10;
-  tdf11 = tdf11;
-}
 
 -- a request (E1): what names it, 5F24, the payment, 9F10 of at most 32 bytes, and DF11 if it is there
 unfoldable pub request_at : List ItemData → Result RequestData MessageFault
@@ -39,27 +16,7 @@ request_at items = do
   t9f10 ← some_at 0 32 0x9F10 paid.1
   tdf11 ← fixed_if_there 8 false 0xDF11 t9f10.1
   end ← ended tdf11.1
-  Ok (request_of named.0 t5f24.0 paid.0 t9f10.0 tdf11.0)
-
-abbrev pub present_of : Named → Paid → List ℕ → List ℕ → PresentData
-present_of named paid t9f10 t8a = record {
-  t9f1c = named.t9f1c;
-  pan = named.pan;
-  t5f34 = named.t5f34;
-  t9f02 = paid.t9f02;
-  t9f03 = paid.t9f03;
-  t9f1a = paid.t9f1a;
-  t95 = paid.t95;
-  t5f2a = paid.t5f2a;
-  t9a = paid.t9a;
-  t9c = paid.t9c;
-  t9f37 = paid.t9f37;
-  t82 = paid.t82;
-  t9f36 = paid.t9f36;
-  t9f26 = paid.t9f26;
-  t9f10 = t9f10;
-  t8a = t8a;
-}
+  Ok (record { named = named.0; t5f24 = t5f24.0; paid = paid.0; t9f10 = t9f10.0; tdf11 = tdf11.0 })
 
 -- a presentment (E3): what names it, the payment, 9F10 of at most 32 bytes, and 8A
 unfoldable pub present_at : List ItemData → Result PresentData MessageFault
@@ -69,7 +26,7 @@ present_at items = do
   t9f10 ← some_at 0 32 0x9F10 paid.1
   t8a ← fixed_at 2 false 0x8A t9f10.1
   end ← ended t8a.1
-  Ok (present_of named.0 paid.0 t9f10.0 t8a.0)
+  Ok (record { named = named.0; paid = paid.0; t9f10 = t9f10.0; t8a = t8a.0 })
 
 -- a reversal (E4): what names it, 9F36, 9F02, 5F2A and 8A
 unfoldable pub reversal_at : List ItemData → Result ReversalFields MessageFault

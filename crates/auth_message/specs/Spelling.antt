@@ -38,55 +38,19 @@ paid_fields paid =
     ∷ (0x9F26, paid.t9f26)
     ∷ []
 
-abbrev pub request_named : RequestData → Named
-request_named f = record { t9f1c = f.t9f1c; pan = f.pan; t5f34 = f.t5f34 }
-
-abbrev pub request_paid : RequestData → Paid
-request_paid f = record {
-  t9f02 = f.t9f02;
-  t9f03 = f.t9f03;
-  t9f1a = f.t9f1a;
-  t95 = f.t95;
-  t5f2a = f.t5f2a;
-  t9a = f.t9a;
-  t9c = f.t9c;
-  t9f37 = f.t9f37;
-  t82 = f.t82;
-  t9f36 = f.t9f36;
-  t9f26 = f.t9f26;
-}
-
 abbrev pub request_fields : RequestData → List (ℕ × List ℕ)
 request_fields f =
-    named_fields (request_named f)
-    ++ ((0x5F24, f.t5f24) ∷ (paid_fields (request_paid f) ++ ((0x9F10, f.t9f10) ∷ optional 0xDF11 f.tdf11)))
+    named_fields f.named
+    ++ ((0x5F24, f.t5f24) ∷ (paid_fields f.paid ++ ((0x9F10, f.t9f10) ∷ optional 0xDF11 f.tdf11)))
 
 -- a request
 unfoldable pub request_bytes : RequestData → List ℕ
 request_bytes f = written 0xE1 (spelled (request_fields f))
 
-abbrev pub present_named : PresentData → Named
-present_named f = record { t9f1c = f.t9f1c; pan = f.pan; t5f34 = f.t5f34 }
-
-abbrev pub present_paid : PresentData → Paid
-present_paid f = record {
-  t9f02 = f.t9f02;
-  t9f03 = f.t9f03;
-  t9f1a = f.t9f1a;
-  t95 = f.t95;
-  t5f2a = f.t5f2a;
-  t9a = f.t9a;
-  t9c = f.t9c;
-  t9f37 = f.t9f37;
-  t82 = f.t82;
-  t9f36 = f.t9f36;
-  t9f26 = f.t9f26;
-}
-
 abbrev pub present_fields : PresentData → List (ℕ × List ℕ)
 present_fields f =
-    named_fields (present_named f)
-    ++ (paid_fields (present_paid f) ++ ((0x9F10, f.t9f10) ∷ (0x8A, f.t8a) ∷ []))
+    named_fields f.named
+    ++ (paid_fields f.paid ++ ((0x9F10, f.t9f10) ∷ (0x8A, f.t8a) ∷ []))
 
 -- a presentment
 unfoldable pub present_bytes : PresentData → List ℕ

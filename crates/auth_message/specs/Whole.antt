@@ -25,8 +25,8 @@ pub record IsCoded (t5f2a t9c : List ℕ) : Type 0 where
   pub transaction_type : AreDigits t9c
 
 abbrev pub HasCodes : Incoming → Type 0
-HasCodes (Request f) = IsCoded f.t5f2a f.t9c
-HasCodes (Present f) = IsCoded f.t5f2a f.t9c
+HasCodes (Request f) = IsCoded f.paid.t5f2a f.paid.t9c
+HasCodes (Present f) = IsCoded f.paid.t5f2a f.paid.t9c
 HasCodes (Reverse f) = IsTrue (is_code f.t5f2a)
 
 -- the bytes are a message of a terminal, as it is written

@@ -6,7 +6,7 @@ use crate::fault::MessageFault;
 use crate::fields::Fields;
 use emv_dict::Digits;
 
-/// The terminal, the account and the card.
+/// The terminal, the account and the card; `pan` is the account number of 5A.
 #[derive(Drop)]
 pub struct Named {
     pub t9f1c: [u8; 8],

@@ -6,7 +6,7 @@
 pub mod fault;
 mod field;
 mod fields;
-mod groups;
+pub mod groups;
 pub mod message;
 mod outer;
 pub mod presentment;
@@ -17,6 +17,7 @@ pub mod write;
 
 pub use fault::MessageFault;
 pub use fields::Fields;
+pub use groups::{Named, Paid};
 pub use message::{Incoming, read_message};
 pub use presentment::PresentFields;
 pub use reply::{Reply, read_reply};

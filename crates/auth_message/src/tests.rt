@@ -65,12 +65,12 @@ fn messages_of_another_implementation_are_read(rt: HostRuntime) {
     let Ok(Incoming::Request(request)) = read_message(&REQUEST) else {
         panic!(rt; "a request");
     };
-    assert!(rt; request.pan.as_slice() == PAN.as_slice() && request.t5f34 == Some([1]));
-    assert!(rt; request.t9f1c == *b"TERM0001" && request.tdf11.is_none());
+    assert!(rt; request.named.pan.as_slice() == PAN.as_slice() && request.named.t5f34 == Some([1]));
+    assert!(rt; request.named.t9f1c == *b"TERM0001" && request.tdf11.is_none());
     let Ok(Incoming::Present(presentment)) = read_message(&PRESENTMENT) else {
         panic!(rt; "a presentment");
     };
-    assert!(rt; presentment.t8a == *b"Y1" && presentment.t9f36 == [0, 11]);
+    assert!(rt; presentment.t8a == *b"Y1" && presentment.paid.t9f36 == [0, 11]);
     let Ok(Incoming::Reverse(reversal)) = read_message(&REVERSAL) else {
         panic!(rt; "a reversal");
     };

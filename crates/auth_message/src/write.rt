@@ -28,34 +28,12 @@ pub fn write_request(fields: &RequestFields, out: &mut Message)
     requires { IsRequest fields.now }
     ensures exact { out.new.items ≡ request_bytes fields.now }
     ensures read_again { message_of (request_bytes fields.now) ≡ Ok (Request fields.now) }
-    ensures message { IsCoded fields.now.t5f2a fields.now.t9c → IsMessage out.new.items }
+    ensures message { IsCoded fields.now.paid.t5f2a fields.now.paid.t9c → IsMessage out.new.items }
 {
     let mut value = Message::new();
-    put_named(
-        &mut value,
-        &Named {
-            t9f1c: fields.t9f1c,
-            pan: fields.pan.copy(),
-            t5f34: fields.t5f34,
-        },
-    );
+    put_named(&mut value, &fields.named);
     put(&mut value, 0x5F24, &fields.t5f24);
-    put_paid(
-        &mut value,
-        &Paid {
-            t9f02: fields.t9f02,
-            t9f03: fields.t9f03,
-            t9f1a: fields.t9f1a,
-            t95: fields.t95,
-            t5f2a: fields.t5f2a,
-            t9a: fields.t9a,
-            t9c: fields.t9c,
-            t9f37: fields.t9f37,
-            t82: fields.t82,
-            t9f36: fields.t9f36,
-            t9f26: fields.t9f26,
-        },
-    );
+    put_paid(&mut value, &fields.paid);
     put(&mut value, 0x9F10, fields.t9f10);
     put_if_there(&mut value, 0xDF11, &fields.tdf11);
     finish(out, 0xE1, &value);
@@ -67,33 +45,11 @@ pub fn write_presentment(fields: &PresentFields, out: &mut Message)
     requires { IsPresent fields.now }
     ensures exact { out.new.items ≡ present_bytes fields.now }
     ensures read_again { message_of (present_bytes fields.now) ≡ Ok (Present fields.now) }
-    ensures message { IsCoded fields.now.t5f2a fields.now.t9c → IsMessage out.new.items }
+    ensures message { IsCoded fields.now.paid.t5f2a fields.now.paid.t9c → IsMessage out.new.items }
 {
     let mut value = Message::new();
-    put_named(
-        &mut value,
-        &Named {
-            t9f1c: fields.t9f1c,
-            pan: fields.pan.copy(),
-            t5f34: fields.t5f34,
-        },
-    );
-    put_paid(
-        &mut value,
-        &Paid {
-            t9f02: fields.t9f02,
-            t9f03: fields.t9f03,
-            t9f1a: fields.t9f1a,
-            t95: fields.t95,
-            t5f2a: fields.t5f2a,
-            t9a: fields.t9a,
-            t9c: fields.t9c,
-            t9f37: fields.t9f37,
-            t82: fields.t82,
-            t9f36: fields.t9f36,
-            t9f26: fields.t9f26,
-        },
-    );
+    put_named(&mut value, &fields.named);
+    put_paid(&mut value, &fields.paid);
     put(&mut value, 0x9F10, fields.t9f10);
     put(&mut value, 0x8A, &fields.t8a);
     finish(out, 0xE3, &value);

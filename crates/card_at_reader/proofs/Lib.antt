@@ -1,3 +1,2 @@
-pub mod Showing
 pub mod Sides
 pub mod Talking

@@ -15,7 +15,7 @@ use Rattle.card_state.specs.Totals.{totals}
 use Rattle.card_state.specs.declared.state.CardState.{CardState}
 use Rattle.emv_ports.specs.Cut.{is_named}
 use Rattle.report_text.specs.Text.{all_shown}
-use Rattle.card_at_reader.specs.Power.{shown_all}
+use Rattle.card_counters.specs.Counters.{shown_all}
 use Rattle.card_at_reader.specs.Words.{word_of}
 use Rattle.card_at_reader.specs.declared.word.Word.{Word}
 use Rattle.card_at_reader.specs.Desk.{turn_by, plan_of, Side, IsOn, IsOff, At, Stands, SideStands, IsTurn, off_side, turn, at_of, powered, power_turn, commanded, command_turn, power_text, torn_power, torn_text, other_text, answer_text}

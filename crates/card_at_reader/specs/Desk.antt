@@ -14,7 +14,7 @@ use Rattle.emv_ports.specs.Cut.{is_named, is_plan}
 use Rattle.emv_ports.specs.declared.tear.Tear.{Tear}
 use Rattle.report_text.specs.Pieces.{hex_or_dash}
 use Rattle.report_text.specs.Text.{all_shown}
-use Rattle.card_at_reader.specs.Power.{shown_all}
+use Rattle.card_counters.specs.Counters.{shown_all}
 use Rattle.card_at_reader.specs.Words.{word_of}
 use Rattle.card_at_reader.specs.declared.word.Word.{Word}
 use Rattle.card_at_reader.specs.declared.word.Word.TheVariants.{Power, Off, Command, Pull, Other}

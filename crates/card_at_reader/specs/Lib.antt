@@ -1,6 +1,5 @@
 pub mod Desk
 pub mod Document
-pub mod Power
 pub mod Talk
 pub mod Top
 pub mod Words

@@ -5,19 +5,19 @@ ghost use Rattle.card_app.specs.SeenChip.{ChipOff, ChipOn, IsChipOff, is_on as h
 ghost use Rattle.card_app.specs.Session.{Exchange};
 ghost use Rattle.card_pages.specs.Cuts.{cut_of};
 ghost use Rattle.card_app.specs.Answering.{card_answer};
+ghost use Rattle.card_counters.specs.Counters as counts;
 ghost use Rattle.card_state.specs.Decisions.{Decided};
 ghost use Rattle.emv_ports.specs.Cut.{is_plan};
 ghost use Rattle.emv_ports.specs.declared.tear.Tear.{Tear as Plan};
 ghost use Rattle.report_text.specs.Text.{all_shown};
-ghost use Rattle.card_at_reader.specs.Power as counts;
 ghost use Rattle.card_at_reader.specs.Desk as spec;
 ghost use Rattle.card_at_reader.specs.Desk.{ArePlans, At, IsAsked, IsTurn, Side, SideStands, Stands, at_of};
 
-use crate::power::shown_all;
 use crate::word::{Word, word_of};
 use apdu_core::Answer;
 use arrayvec::ArrayVec;
 use card_app::Chip;
+use card_counters::shown_all;
 use card_files::Image;
 use card_state::CardState;
 use emv_ports::{Gone, Pages, Tear};

@@ -4,7 +4,6 @@
 
 mod desk;
 mod document;
-mod power;
 mod talk;
 #[cfg(test)]
 mod tests;

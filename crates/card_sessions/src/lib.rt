@@ -94,6 +94,8 @@ mod directories;
 #[cfg(test)]
 mod issuers;
 #[cfg(test)]
+mod limits;
+#[cfg(test)]
 mod logs;
 #[cfg(test)]
 mod refusals;

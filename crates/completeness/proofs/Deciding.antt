@@ -32,18 +32,23 @@ use Rattle.emv_dict.specs.declared.purchase.Logged.{Logged}
 use Rattle.kernel.specs.Course.{cut_off, host_step}
 use Rattle.kernel.specs.Dialogue.{Trade, objects_at, decision, left_script, scripts_behind, second, kind_for, scripts_before, issuer_scripts, has_authentication, authentication_by, authentication, kind_unable, unable_online, reply_read, replied, is_offline_only, online, first_answered, first, kind_wanted, analysis}
 use Rattle.kernel.specs.Reply.{from_host}
+use Rattle.kernel.specs.declared.stage.OnlineOutcome.{OnlineOutcome}
+use Rattle.kernel.specs.declared.stage.OnlineOutcome.TheVariants.{Replied, Unable}
 use Rattle.online_step.specs.Authenticate.{authenticated}
 use Rattle.online_step.specs.Generate.{generated, list_data}
 use Rattle.online_step.specs.Request.{request_of}
+use Rattle.online_step.specs.declared.ac.GenerateAc.TheVariants as generate
 use Rattle.script_run.specs.Ran.{template_ran}
 use Rattle.terminal_state.specs.Marks as mark
 use Rattle.terminal_state.specs.Marks.{Mark, moment}
 use Rattle.terminal_state.specs.Scripts.{templates, are_few, kept}
+use Rattle.terminal_state.specs.declared.moment.OnlineRequest.{OnlineRequest}
+use Rattle.terminal_state.specs.declared.moment.OnlineRequest.TheVariants.{Sent, NotSent}
 
-is_decision : (sent : Bool) (kind : Kind) → IsDecided (decision sent kind)
-is_decision sent Tc = tt
-is_decision sent Aac = tt
-is_decision sent Arqc = tt
+is_decision : (outcome : OnlineOutcome) (kind : Kind) → IsDecided (decision outcome kind)
+is_decision outcome Tc = tt
+is_decision outcome Aac = tt
+is_decision outcome Arqc = tt
 
 -- the kinds that are asked for the second time are no requests
 reply_offline : (code : List ℕ) → is_online (kind_for code) ≡ false
@@ -79,18 +84,18 @@ behind_ends image ending decided (template ∷ others) marks now log =
     (λ at result post log. behind_ends image ending decided others (mark.HasRunBehind result ∷ marks) at log) log
 
 module _ (image : ImageData) (back : AnswersAreReadBack) (a : AppData) (app : ℕ) (own : slice_get image.apps app ≡ Some a) (trade : Trade) (lists : HasLists a trade.card) where
-  second_ends : (sent : Bool) (asked : Kind) (behind : List (List ℕ)) (marks : List Mark) (now : Now) (log : List Logged) → is_online asked ≡ false → IsOnline image app now
-      → Ends image now (second trade sent asked behind marks log)
+  second_ends : (outcome : OnlineOutcome) (asked : Kind) (behind : List (List ℕ)) (marks : List Mark) (now : Now) (log : List Logged) → is_online asked ≡ false → IsOnline image app now
+      → Ends image now (second trade outcome asked behind marks log)
   unfolding second
-  second_ends sent asked behind marks now log offline at =
-      chain (cut_off marks) step.Second marks (λ (ac : AcData). scripts_behind (decision sent ac.kind) behind (mark.HasSecond ac ∷ marks))
-      step.Second (generated 0x8D asked true (list_data 0x8D trade.card (objects_at trade marks))) (second_runs image back a app now asked trade.card (objects_at trade marks) own lists at offline)
-      (λ at ac post log. behind_ends image (decision sent ac.kind) (is_decision sent ac.kind) behind (mark.HasSecond ac ∷ marks) at log) log
+  second_ends outcome asked behind marks now log offline at =
+      chain (cut_off marks) step.Second marks (λ (ac : AcData). scripts_behind (decision outcome ac.kind) behind (mark.HasSecond ac ∷ marks))
+      step.Second (generated 0x8D asked generate.Second (list_data 0x8D trade.card (objects_at trade marks))) (second_runs image back a app now asked trade.card (objects_at trade marks) own lists at offline)
+      (λ at ac post log. behind_ends image (decision outcome ac.kind) (is_decision outcome ac.kind) behind (mark.HasSecond ac ∷ marks) at log) log
 
   before_ends : (reply : ReplyData) (scripts : List (List ℕ)) (marks : List Mark) (now : Now) (log : List Logged) → All IsPlainScript scripts → IsOnline image app now
       → Ends image now (scripts_before trade reply scripts marks log)
   unfolding scripts_before
-  before_ends reply [] marks now log plain at = second_ends true (kind_for reply.code) (templates 0x72 reply.scripts) marks now log (reply_offline reply.code) at
+  before_ends reply [] marks now log plain at = second_ends Replied (kind_for reply.code) (templates 0x72 reply.scripts) marks now log (reply_offline reply.code) at
   before_ends reply (template ∷ others) marks now log plain at =
       chain (cut_off marks) step.Script marks (λ result. scripts_before trade reply others (mark.HasRunBefore result ∷ marks))
       step.Script (template_ran template) (plain_runs image app now template (All-head IsPlainScript template others plain) at)
@@ -105,21 +110,21 @@ module _ (image : ImageData) (back : AnswersAreReadBack) (a : AppData) (app : �
       step.Authenticate (authenticated value) (authenticate_runs image app now value at)
       (λ later good still log. before_ends reply (templates 0x71 reply.scripts) (mark.HasAuthenticated good ∷ marks) later log plain still) log
 
-  unable_ends : (sent : Bool) (marks : List Mark) (now : Now) (log : List Logged) → IsOnline image app now → Ends image now (unable_online trade sent marks log)
+  unable_ends : (request : OnlineRequest) (marks : List Mark) (now : Now) (log : List Logged) → IsOnline image app now → Ends image now (unable_online trade request marks log)
   unfolding unable_online
-  unable_ends sent marks now log at =
-      second_ends false (kind_unable trade marks) [] (mark.WasUnable sent (kind_unable trade marks) ∷ marks) now log
+  unable_ends request marks now log at =
+      second_ends Unable (kind_unable trade marks) [] (mark.WasUnable request (kind_unable trade marks) ∷ marks) now log
       (unable_offline (moment marks).tvr (codes_of trade.card trade.row) trade.deal.settings.kind) at
 
   read_ends : (marks : List Mark) (r : Result ReplyData MessageFault) (now : Now) (log : List Logged) → IsPlainReply r → IsOnline image app now → Ends image now (reply_read trade marks r log)
   unfolding authentication
-  read_ends marks (Err fault) now log plain at = unable_ends true marks now log at
+  read_ends marks (Err fault) now log plain at = unable_ends Sent marks now log at
   read_ends marks (Ok reply) now log plain at =
       authentication_ends (kept reply) (mark.HasReply reply ∷ marks) (has_authentication trade.card) reply.auth now log
       (kept_plain reply.scripts plain (are_few (items_of reply.scripts))) at
 
   replied_ends : (marks : List Mark) (reply : Option (List ℕ)) (now : Now) (log : List Logged) → IsLinked reply → IsOnline image app now → Ends image now (replied trade marks reply log)
-  replied_ends marks None now log linked at = unable_ends true marks now log at
+  replied_ends marks None now log linked at = unable_ends Sent marks now log at
   replied_ends marks (Some reply) now log linked at = read_ends marks (reply_of reply) now log linked at
 
   -- the host's reply is taken
@@ -139,8 +144,8 @@ module _ (image : ImageData) (back : AnswersAreReadBack) (a : AppData) (app : �
       message : List ℕ
       message = request_of trade.card (objects_at trade marks) trade.deal.settings ac (moment marks).pin
 
-      by : (only : Bool) → Ends image now ((if only then unable_online trade false marks else host_step marks message (replied trade marks)) log)
-      by true = unable_ends false marks now log at
+      by : (only : Bool) → Ends image now ((if only then unable_online trade NotSent marks else host_step marks message (replied trade marks)) log)
+      by true = unable_ends NotSent marks now log at
       by false = sent_ends marks message now log at
 
   answered_ends : (ac : AcData) (marks : List Mark) (kind : Kind) (now : Now) (log : List Logged) → (kind ≡ Arqc → IsOnline image app now) → Ends image now (first_answered trade ac marks kind log)
@@ -152,7 +157,7 @@ module _ (image : ImageData) (back : AnswersAreReadBack) (a : AppData) (app : �
   unfolding first
   first_ends asked marks now log here =
       chain (cut_off marks) step.First marks (λ (ac : AcData). first_answered trade ac (mark.HasFirst ac ∷ marks) ac.kind)
-      step.First (generated 0x8C asked false (list_data 0x8C trade.card (objects_at trade marks))) (first_runs image back a app now asked trade.card (objects_at trade marks) own lists here)
+      step.First (generated 0x8C asked generate.First (list_data 0x8C trade.card (objects_at trade marks))) (first_runs image back a app now asked trade.card (objects_at trade marks) own lists here)
       (λ at ac waits log. answered_ends ac (mark.HasFirst ac ∷ marks) ac.kind at log waits) log
 
 -- from action analysis on

@@ -20,16 +20,17 @@ use Rattle.emv_dict.specs.declared.ending.Kind.{Kind}
 use Rattle.emv_dict.specs.declared.ending.Kind.TheVariants.{Aac, Tc, Arqc}
 use Rattle.online_step.specs.Ac.{ac_of, is_refused}
 use Rattle.online_step.specs.Laws.{Given, IsGiven, answer_one, answer_two, read_of}
+use Rattle.online_step.specs.declared.ac.GenerateAc.{GenerateAc}
 use Rattle.triple_des.specs.Bits.{bytes_of}
 use Rattle.triple_des.specs.Des.{enciphered}
 use Rattle.triple_des.specs.Mac.{mac}
 
 -- what a terminal reads of a card's answer, in either format
 pub record AnswersAreReadBack : Type 0 where
-  pub one : (given : Given) (asked : Kind) (second : Bool) → IsGiven given → is_refused given.kind asked second ≡ false
-      → ac_of (answer_one given) asked second ≡ Ok (read_of given)
-  pub two : (given : Given) (asked : Kind) (second : Bool) → IsGiven given → is_refused given.kind asked second ≡ false
-      → ac_of (answer_two given) asked second ≡ Ok (read_of given)
+  pub one : (given : Given) (asked : Kind) (which : GenerateAc) → IsGiven given → is_refused given.kind asked which ≡ false
+      → ac_of (answer_one given) asked which ≡ Ok (read_of given)
+  pub two : (given : Given) (asked : Kind) (which : GenerateAc) → IsGiven given → is_refused given.kind asked which ≡ false
+      → ac_of (answer_two given) asked which ≡ Ok (read_of given)
 
 -- the command for a kind of cryptogram
 abbrev pub generating : Kind → List ℕ → CommandData
@@ -48,14 +49,14 @@ unfolding cryptogram_of code_of_fields mac enciphered bytes_of
 eight_bytes key aip s kind given = refl
 
 -- a cryptogram of a kind that the terminal takes, and the answer that holds it
-pub record Holds (format : ℕ) (asked : Kind) (second : Bool) (reply : ReplyData) : Type 0 where
+pub record Holds (format : ℕ) (asked : Kind) (which : GenerateAc) (reply : ReplyData) : Type 0 where
   pub kind : Kind
   pub state : AppState
   pub cryptogram : List ℕ
   pub eight : length cryptogram ≡ 8
   pub body : reply.body ≡ body_with format state kind cryptogram
   pub status : reply.status ≡ 0x9000
-  pub allowed : is_refused kind asked second ≡ false
+  pub allowed : is_refused kind asked which ≡ false
 
 -- the same as what a card gives
 abbrev pub given_in : Kind → AppState → List ℕ → Given
@@ -85,24 +86,24 @@ answer_is_two kind state cryptogram =
     = simp (append_assoc, append-nil) in
     ap (λ (value : List ℕ). response_bytes (written 0x77 value) 0x9000) joined
 
-reads_with : AnswersAreReadBack → (format : ℕ) (kind asked : Kind) (second : Bool) (state : AppState) (cryptogram : List ℕ) → length cryptogram ≡ 8 → is_refused kind asked second ≡ false
-    → ac_of (response_bytes (body_with format state kind cryptogram) 0x9000) asked second ≡ Ok (read_of (given_in kind state cryptogram))
-reads_with back format kind asked second state cryptogram eight allowed = by (format == 1)
+reads_with : AnswersAreReadBack → (format : ℕ) (kind asked : Kind) (which : GenerateAc) (state : AppState) (cryptogram : List ℕ) → length cryptogram ≡ 8 → is_refused kind asked which ≡ false
+    → ac_of (response_bytes (body_with format state kind cryptogram) 0x9000) asked which ≡ Ok (read_of (given_in kind state cryptogram))
+reads_with back format kind asked which state cryptogram eight allowed = by (format == 1)
   where
-    by : (one : Bool) → ac_of (response_bytes (if one then body_one kind state.counter cryptogram (iad_of kind state) else body_two kind state.counter cryptogram (iad_of kind state)) 0x9000) asked second
+    by : (one : Bool) → ac_of (response_bytes (if one then body_one kind state.counter cryptogram (iad_of kind state) else body_two kind state.counter cryptogram (iad_of kind state)) 0x9000) asked which
         ≡ Ok (read_of (given_in kind state cryptogram))
-    by true = ap (λ (answer : List ℕ). ac_of answer asked second) (answer_is_one kind state cryptogram)
-        ∙ back.one (given_in kind state cryptogram) asked second (is_given kind state cryptogram eight) allowed
-    by false = ap (λ (answer : List ℕ). ac_of answer asked second) (answer_is_two kind state cryptogram)
-        ∙ back.two (given_in kind state cryptogram) asked second (is_given kind state cryptogram eight) allowed
+    by true = ap (λ (answer : List ℕ). ac_of answer asked which) (answer_is_one kind state cryptogram)
+        ∙ back.one (given_in kind state cryptogram) asked which (is_given kind state cryptogram eight) allowed
+    by false = ap (λ (answer : List ℕ). ac_of answer asked which) (answer_is_two kind state cryptogram)
+        ∙ back.two (given_in kind state cryptogram) asked which (is_given kind state cryptogram eight) allowed
 
 -- the terminal reads the cryptogram
-pub is_read : AnswersAreReadBack → (format : ℕ) (asked : Kind) (second : Bool) (reply : ReplyData) (holds : Holds format asked second reply)
-    → ac_of (response_bytes reply.body reply.status) asked second ≡ Ok (read_of (given_in holds.kind holds.state holds.cryptogram))
-is_read back format asked second reply holds =
-    ap (λ (body : List ℕ). ac_of (response_bytes body reply.status) asked second) holds.body
-    ∙ ap (λ (status : ℕ). ac_of (response_bytes (body_with format holds.state holds.kind holds.cryptogram) status) asked second) holds.status
-    ∙ reads_with back format holds.kind asked second holds.state holds.cryptogram holds.eight holds.allowed
+pub is_read : AnswersAreReadBack → (format : ℕ) (asked : Kind) (which : GenerateAc) (reply : ReplyData) (holds : Holds format asked which reply)
+    → ac_of (response_bytes reply.body reply.status) asked which ≡ Ok (read_of (given_in holds.kind holds.state holds.cryptogram))
+is_read back format asked which reply holds =
+    ap (λ (body : List ℕ). ac_of (response_bytes body reply.status) asked which) holds.body
+    ∙ ap (λ (status : ℕ). ac_of (response_bytes (body_with format holds.state holds.kind holds.cryptogram) status) asked which) holds.status
+    ∙ reads_with back format holds.kind asked which holds.state holds.cryptogram holds.eight holds.allowed
 
 byte_of_one : (kind : Kind) (high low : ℕ) (rest : List ℕ) → length rest ≡ 14 → slice_index (written 0x80 (kind_byte kind ∷ high ∷ low ∷ rest)) 2 ≡ kind_byte kind
 unfolding written
@@ -152,8 +153,8 @@ kind_with format state kind cryptogram eight = by (format == 1) refl
         ap kind_of (byte_of_two kind rest size) ∙ kind_again kind
 
 -- the card reads its kind again
-pub kind_read : (format : ℕ) (asked : Kind) (second : Bool) (reply : ReplyData) (holds : Holds format asked second reply) → kind_in format reply.body ≡ Some holds.kind
-kind_read format asked second reply holds = ap (kind_in format) holds.body ∙ kind_with format holds.state holds.kind holds.cryptogram holds.eight
+pub kind_read : (format : ℕ) (asked : Kind) (which : GenerateAc) (reply : ReplyData) (holds : Holds format asked which reply) → kind_in format reply.body ≡ Some holds.kind
+kind_read format asked which reply holds = ap (kind_in format) holds.body ∙ kind_with format holds.state holds.kind holds.cryptogram holds.eight
 
 short_with : (format : ℕ) (state : AppState) (kind : Kind) (cryptogram : List ℕ) → length cryptogram ≡ 8 → length (body_with format state kind cryptogram) ≤ 256
 unfolding body_one body_two
@@ -176,5 +177,5 @@ short_with format state kind cryptogram eight = by (format == 1)
         omega (arith, written_short 0x77 value)
 
 -- it has room in an answer
-pub body_short : (format : ℕ) (asked : Kind) (second : Bool) (reply : ReplyData) → Holds format asked second reply → length reply.body ≤ 256
-body_short format asked second reply holds = let short = short_with format holds.state holds.kind holds.cryptogram holds.eight in omega (arith, ap length holds.body)
+pub body_short : (format : ℕ) (asked : Kind) (which : GenerateAc) (reply : ReplyData) → Holds format asked which reply → length reply.body ≤ 256
+body_short format asked which reply holds = let short = short_with format holds.state holds.kind holds.cryptogram holds.eight in omega (arith, ap length holds.body)

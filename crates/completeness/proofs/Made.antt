@@ -28,24 +28,26 @@ use Rattle.emv_dict.specs.declared.ending.Kind.TheVariants.{Aac, Tc, Arqc}
 use Rattle.object_lists.specs.DolEntries.{total_of}
 use Rattle.online_step.specs.Ac.{is_refused}
 use Rattle.completeness.proofs.Generating.{Holds, generating, generates, eight_bytes}
+use Rattle.online_step.specs.declared.ac.GenerateAc.{GenerateAc}
+use Rattle.online_step.specs.declared.ac.GenerateAc.TheVariants as generate
 
-first_allowed : (asked : Kind) (s : AppState) (blocked : Bool) (which : Which) (amount : ℕ) → is_refused (first_kind asked s blocked which amount) asked false ≡ false
+first_allowed : (asked : Kind) (s : AppState) (blocked : Bool) (which : Which) (amount : ℕ) → is_refused (first_kind asked s blocked which amount) asked generate.First ≡ false
 unfolding first_kind
 first_allowed Aac s blocked which amount = refl
 first_allowed Arqc s blocked which amount = by (is_blocked s blocked)
   where
-    by : (b : Bool) → is_refused (if b then Aac else Arqc) Arqc false ≡ false
+    by : (b : Bool) → is_refused (if b then Aac else Arqc) Arqc generate.First ≡ false
     by true = refl
     by false = refl
 first_allowed Tc s blocked which amount = by (is_blocked s blocked) (approves s which amount)
   where
-    by : (b c : Bool) → is_refused (if b then Aac else if c then Tc else Arqc) Tc false ≡ false
+    by : (b c : Bool) → is_refused (if b then Aac else if c then Tc else Arqc) Tc generate.First ≡ false
     by true c = refl
     by false true = refl
     by false false = refl
 
 second_allowed : (asked : Kind) (s : AppState) (blocked : Bool) (which : Which) (amount : ℕ) (auth : Auth) (code : List ℕ) (issuer_auth : Bool) → is_online asked ≡ false
-    → is_refused (second_kind asked s blocked which amount auth code issuer_auth).0 asked true ≡ false
+    → is_refused (second_kind asked s blocked which amount auth code issuer_auth).0 asked generate.Second ≡ false
 unfolding second_kind
 second_allowed Aac s blocked which amount auth code issuer_auth offline = refl
 second_allowed Arqc s blocked which amount auth code issuer_auth offline = absurd (cc offline)
@@ -57,7 +59,7 @@ second_allowed Tc s blocked which amount auth code issuer_auth offline =
         (if told then decline_of auth
         else if right then with_how (online_how auth) Tc
         else if unable then with_how Offline (if alone then Tc else Aac) else with_how Alone (unauthenticated due)).0
-        Tc true
+        Tc generate.Second
         ≡ false
     by true right unable alone due = refl
     by false true unable alone due = refl
@@ -66,10 +68,10 @@ second_allowed Tc s blocked which amount auth code issuer_auth offline =
     by false false false alone true = refl
     by false false false alone false = refl
 
-made_holds : (format : ℕ) (asked : Kind) (second : Bool) (app : ℕ) (decision : Decision) (key aip : List ℕ) (s : AppState) (kind : Kind) (given : GivenData) → is_refused kind asked second ≡ false
-    → Holds format asked second (decides app decision (body_of format key aip s kind given) 0x9000)
+made_holds : (format : ℕ) (asked : Kind) (which : GenerateAc) (app : ℕ) (decision : Decision) (key aip : List ℕ) (s : AppState) (kind : Kind) (given : GivenData) → is_refused kind asked which ≡ false
+    → Holds format asked which (decides app decision (body_of format key aip s kind given) 0x9000)
 unfolding body_of
-made_holds format asked second app decision key aip s kind given allowed = record {
+made_holds format asked which app decision key aip s kind given allowed = record {
   kind = kind;
   state = s;
   cryptogram = cryptogram_of key aip s kind given;
@@ -90,13 +92,13 @@ module _ (image : ImageData) (state : CardState) (app : ℕ) (a : AppData) (s : 
 
   -- the first GENERATE AC, behind GET PROCESSING OPTIONS
   pub first_holds : (asked : Kind) (filled : List ℕ) → length filled ≡ total_of (cdol_of a.cdol1)
-      → Holds a.ac_format asked false (row image state (Started app) (generating asked filled))
+      → Holds a.ac_format asked generate.First (row image state (Started app) (generating asked filled))
   first_holds asked filled size =
       let given = first_given (cdol_of a.cdol1) filled in
       let kind = first_of state.blocked asked a s given in
       let decision : Decision = First kind (sale_for a given) in
-      subst (Holds a.ac_format asked false) (sym (generates image state (Started app) asked filled ∙ first_is asked filled size))
-      (made_holds a.ac_format asked false app decision a.ac_key a.aip (changed s decision) kind given
+      subst (Holds a.ac_format asked generate.First) (sym (generates image state (Started app) asked filled ∙ first_is asked filled size))
+      (made_holds a.ac_format asked generate.First app decision a.ac_key a.aip (changed s decision) kind given
       (first_allowed asked s state.blocked (sale_for a given).which (sale_for a given).amount))
 
   second_is : (first : FirstData) (sent : Option Auth) (asked : Kind) (filled : List ℕ) → length filled ≡ total_of (cdol_of a.cdol2) → is_online asked ≡ false
@@ -111,12 +113,12 @@ module _ (image : ImageData) (state : CardState) (app : ℕ) (a : AppData) (s : 
 
   -- the second one, behind a request to go online
   pub second_holds : (first : FirstData) (sent : Option Auth) (asked : Kind) (filled : List ℕ) → length filled ≡ total_of (cdol_of a.cdol2) → is_online asked ≡ false
-      → Holds a.ac_format asked true (row image state (Online app first sent) (generating asked filled))
+      → Holds a.ac_format asked generate.Second (row image state (Online app first sent) (generating asked filled))
   second_holds first sent asked filled size offline =
       let given = given_from (cdol_of a.cdol2) filled first.given in
       let code = code_given (cdol_of a.cdol2) filled in
       let made = second_by state.blocked asked a s sent code given in
       let decision : Decision = Second made.0 made.1 (sale_for a given) in
-      subst (Holds a.ac_format asked true) (sym (generates image state (Online app first sent) asked filled ∙ second_is first sent asked filled size offline))
-      (made_holds a.ac_format asked true app decision a.ac_key a.aip (changed s decision) made.0 given
+      subst (Holds a.ac_format asked generate.Second) (sym (generates image state (Online app first sent) asked filled ∙ second_is first sent asked filled size offline))
+      (made_holds a.ac_format asked generate.Second app decision a.ac_key a.aip (changed s decision) made.0 given
       (second_allowed asked s state.blocked (sale_for a given).which (sale_for a given).amount (auth_of sent) code (has_issuer_auth a.aip) offline))

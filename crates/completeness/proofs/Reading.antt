@@ -22,7 +22,7 @@ use Rattle.object_lists.specs.CardRead.{ReadCard, card_of}
 use Rattle.read_records.proofs.Gathering.{then_read, gathered_all-then}
 use Rattle.read_records.proofs.Stages.{record_taken, all_read}
 use Rattle.read_records.specs.Afl.{RecordPlace}
-use Rattle.read_records.specs.Checked.{objects_fault}
+use Rattle.object_lists.specs.Checked.{objects_fault}
 use Rattle.read_records.specs.DataRead.{card_unless, card_from, card_read, reading}
 use Rattle.read_records.specs.Options.{Opened}
 use Rattle.read_records.specs.Records.{held_in, held_in_all, gathered_all}

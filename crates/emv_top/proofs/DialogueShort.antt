@@ -21,9 +21,12 @@ use Rattle.emv_top.specs.Short.{AllShort, IsShort}
 use Rattle.kernel.specs.Course.{Standing, Rest, stands, by_progress, settled, card_step, cut_off, host_step}
 use Rattle.kernel.specs.Dialogue.{Trade, objects_at, decision, all_failed, left_script, scripts_behind, second, kind_for, scripts_before, issuer_scripts, has_authentication, authentication_by, authentication, kind_unable, unable_online, reply_read, replied, is_offline_only, online, first_answered, first, kind_wanted, analysis, risk, verification, restrictions, read, granted, initiation, opened, candidates_left, dialogue}
 use Rattle.kernel.specs.Reply.{Reply, CardSaid, CardGone, HostSaid, HostSilent, ToCard, Over}
+use Rattle.kernel.specs.declared.stage.OnlineOutcome.{OnlineOutcome}
+use Rattle.kernel.specs.declared.stage.OnlineOutcome.TheVariants.{Replied, Unable}
 use Rattle.online_step.specs.Authenticate.{authenticated}
 use Rattle.online_step.specs.Generate.{generated, list_data}
 use Rattle.online_step.specs.Request.{request_of}
+use Rattle.online_step.specs.declared.ac.GenerateAc.TheVariants as generate
 use Rattle.pse_directory.specs.Directory.{selecting_by}
 use Rattle.read_records.specs.DataRead.{reading}
 use Rattle.read_records.specs.Options.{Opened, initiating}
@@ -34,6 +37,8 @@ use Rattle.terminal_state.specs.Marks as mark
 use Rattle.terminal_state.specs.Marks.{Mark, moment, latest, card_of}
 use Rattle.terminal_state.specs.Scripts.{templates, kept}
 use Rattle.terminal_state.specs.Terminal.{Deal, terminal_objects}
+use Rattle.terminal_state.specs.declared.moment.OnlineRequest.{OnlineRequest}
+use Rattle.terminal_state.specs.declared.moment.OnlineRequest.TheVariants.{Sent, NotSent}
 
 abbrev pub IsShortMark : Mark → Type 0
 IsShortMark (mark.HasRead card) = IsShort card
@@ -52,7 +57,7 @@ latest_short (mark.HasJudged judged ∷ marks) short = latest_short marks short.
 latest_short (mark.HasAnalysed wanted ∷ marks) short = latest_short marks short.1
 latest_short (mark.HasFirst ac ∷ marks) short = latest_short marks short.1
 latest_short (mark.HasReply reply ∷ marks) short = latest_short marks short.1
-latest_short (mark.WasUnable sent wanted ∷ marks) short = latest_short marks short.1
+latest_short (mark.WasUnable request wanted ∷ marks) short = latest_short marks short.1
 latest_short (mark.HasAuthenticated good ∷ marks) short = latest_short marks short.1
 latest_short (mark.HasRunBefore result ∷ marks) short = latest_short marks short.1
 latest_short (mark.HasSecond ac ∷ marks) short = latest_short marks short.1
@@ -131,16 +136,16 @@ scripts_behind-short ending (template ∷ others) marks short =
     (λ answers value left is. tt) (λ result any. scripts_behind-short ending others (mark.HasRunBehind result ∷ marks) (tt, short))
 
 module _ (trade : Trade) where
-  second_short : (is_online : Bool) (asked : Kind) (behind : List (List ℕ)) (marks : List Mark) → AreShort marks → Keeps (second trade is_online asked behind marks)
+  second_short : (outcome : OnlineOutcome) (asked : Kind) (behind : List (List ℕ)) (marks : List Mark) → AreShort marks → Keeps (second trade outcome asked behind marks)
   unfolding second
-  second_short is_online asked behind marks short =
-      step_short step.Second step.Second marks (generated 0x8D asked true (list_data 0x8D trade.card (objects_at trade marks)))
-      (λ ac. scripts_behind (decision is_online ac.kind) behind (mark.HasSecond ac ∷ marks)) short
-      (λ ac. scripts_behind-short (decision is_online ac.kind) behind (mark.HasSecond ac ∷ marks) (tt, short))
+  second_short outcome asked behind marks short =
+      step_short step.Second step.Second marks (generated 0x8D asked generate.Second (list_data 0x8D trade.card (objects_at trade marks)))
+      (λ ac. scripts_behind (decision outcome ac.kind) behind (mark.HasSecond ac ∷ marks)) short
+      (λ ac. scripts_behind-short (decision outcome ac.kind) behind (mark.HasSecond ac ∷ marks) (tt, short))
 
   scripts_before-short : (reply : ReplyData) (scripts : List (List ℕ)) (marks : List Mark) → AreShort marks → Keeps (scripts_before trade reply scripts marks)
   unfolding scripts_before
-  scripts_before-short reply [] marks short = second_short true (kind_for reply.code) (templates 0x72 reply.scripts) marks short
+  scripts_before-short reply [] marks short = second_short Replied (kind_for reply.code) (templates 0x72 reply.scripts) marks short
   scripts_before-short reply (template ∷ others) marks short =
       step_short step.Script step.Script marks (template_ran template) (λ result. scripts_before trade reply others (mark.HasRunBefore result ∷ marks)) short
       (λ result. scripts_before-short reply others (mark.HasRunBefore result ∷ marks) (tt, short))
@@ -156,25 +161,25 @@ module _ (trade : Trade) where
   unfolding authentication
   authentication_short reply marks short = authentication_by-short reply marks (has_authentication trade.card) reply.auth short
 
-  unable_short : (sent : Bool) (marks : List Mark) → AreShort marks → Keeps (unable_online trade sent marks)
+  unable_short : (request : OnlineRequest) (marks : List Mark) → AreShort marks → Keeps (unable_online trade request marks)
   unfolding unable_online
-  unable_short sent marks short = second_short false (kind_unable trade marks) [] (mark.WasUnable sent (kind_unable trade marks) ∷ marks) (tt, short)
+  unable_short request marks short = second_short Unable (kind_unable trade marks) [] (mark.WasUnable request (kind_unable trade marks) ∷ marks) (tt, short)
 
   reply_short : (marks : List Mark) (reply : Result ReplyData MessageFault) → AreShort marks → Keeps (reply_read trade marks reply)
   reply_short marks (Ok reply) short = authentication_short (kept reply) (mark.HasReply reply ∷ marks) (tt, short)
-  reply_short marks (Err fault) short = unable_short true marks short
+  reply_short marks (Err fault) short = unable_short Sent marks short
 
   replied_short : (marks : List Mark) (reply : Option (List ℕ)) → AreShort marks → Keeps (replied trade marks reply)
-  replied_short marks None short = unable_short true marks short
+  replied_short marks None short = unable_short Sent marks short
   replied_short marks (Some reply) short = reply_short marks (reply_of reply) short
 
   online_short : (ac : AcData) (marks : List Mark) → AreShort marks → Keeps (online trade ac marks)
   online_short ac marks short = go (is_offline_only trade.deal.settings.kind)
     where
       go : (offline : Bool)
-          → Keeps (if offline then unable_online trade false marks
+          → Keeps (if offline then unable_online trade NotSent marks
           else host_step marks (request_of trade.card (objects_at trade marks) trade.deal.settings ac (moment marks).pin) (replied trade marks))
-      go true = unable_short false marks short
+      go true = unable_short NotSent marks short
       go false =
           host_step-short marks (request_of trade.card (objects_at trade marks) trade.deal.settings ac (moment marks).pin) (replied trade marks) short
           (λ reply. replied_short marks reply short)
@@ -187,7 +192,7 @@ module _ (trade : Trade) where
   first_short : (asked : Kind) (marks : List Mark) → AreShort marks → Keeps (first trade asked marks)
   unfolding first
   first_short asked marks short =
-      step_short step.First step.First marks (generated 0x8C asked false (list_data 0x8C trade.card (objects_at trade marks)))
+      step_short step.First step.First marks (generated 0x8C asked generate.First (list_data 0x8C trade.card (objects_at trade marks)))
       (λ ac. first_answered trade ac (mark.HasFirst ac ∷ marks) ac.kind) short
       (λ ac. first_answered-short ac (mark.HasFirst ac ∷ marks) ac.kind (tt, short))
 

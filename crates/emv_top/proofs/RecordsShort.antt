@@ -1,10 +1,9 @@
 -- What is read from a card has no value longer than an answer.
-use Rattle.std.proofs.Common.{◌≡◌, ℕ, ◌+◌, ◌-◌, ◌≤◌, ◌==◌, ◌&&◌, nat_lt, nat_le, is_some, Bool, true, false, if◌then◌else◌, List, [], ◌∷◌, ◌++◌, length, take, drop, map, Option, Some, None, Result, Ok, Err, refl, subst, length-drop, arith}
+use Rattle.std.proofs.Common.{◌≡◌, ℕ, ◌+◌, ◌-◌, ◌≤◌, ◌==◌, nat_lt, nat_le, is_some, Bool, true, false, if◌then◌else◌, List, [], ◌∷◌, ◌++◌, length, take, drop, map, Option, Some, None, Result, Ok, Err, refl, subst, length-drop, arith}
 use Rattle.std.specs.Prelude.{⊤}
 use Rattle.std.specs.List.{AllByRecursion, zip}
 use Rattle.std.proofs.lemmas.List.{length-take}
-use Rattle.std.proofs.lemmas.Grind.{common_steps}
-use Rattle.apdu_core.specs.Response.{ResponseData, response_of, status_of}
+use Rattle.apdu_core.specs.Response.{ResponseData, response_of}
 use Rattle.apdu_core.specs.Status.{no_error, conditions_not_satisfied}
 use Rattle.ber_tlv.specs.Direct.{first_value, sole_value}
 use Rattle.ber_tlv.specs.Item.{ItemData}
@@ -24,31 +23,13 @@ use Rattle.env_map.specs.declared.env.EnvFault.{EnvFault}
 use Rattle.env_map.specs.declared.env.EnvFault.TheVariants.{Repeated, TooMany, TooLong}
 use Rattle.emv_top.specs.Short.{AllShort, IsShort}
 use Rattle.object_lists.specs.CardRead.{ReadCard, card_of}
+use Rattle.object_lists.specs.Checked.{objects_fault}
+use Rattle.read_records.proofs.Room.{body_short}
 use Rattle.read_records.specs.Afl.{RecordPlace, groups_of}
-use Rattle.read_records.specs.Checked.{objects_fault}
 use Rattle.read_records.specs.DataRead.{card_unless, finished, read_on, reading}
 use Rattle.read_records.specs.Options.{Opened, opened, opened_by, in_format_one, of_objects, in_format_two, by_format, options_in, Said, Refused, Granted, Faulty, granted_by, response_said, options_said, after_options, initiated, initiating_with, initiating, options_data}
 use Rattle.read_records.specs.Records.{Held, in_template, held_in_body, held_in_response, held_in, then_held, joined, held_in_all, then_put, all_put, unless_fault, gathered_all}
 use Rattle.read_records.specs.declared.afl.Group.{Group}
-
-taken_short : (bytes : List ℕ) → length bytes ≤ 258 → length (take (length bytes - 2) bytes) ≤ 256
-taken_short bytes fits = omega (arith, length-take (length bytes - 2) bytes)
-
-short_test : (count : ℕ) → (nat_le 2 count && nat_le count 258) ≡ true → count ≤ 258
-short_test count e = grind (arith, common_steps)
-
--- the body of a response
-response_short : (reply : List ℕ) (said : ResponseData) → response_of reply ≡ Some said → length said.body ≤ 256
-unfolding response_of
-response_short reply said e = go (nat_le 2 (length reply) && nat_le (length reply) 258) refl e
-  where
-    go : (fits : Bool) → (nat_le 2 (length reply) && nat_le (length reply) 258) ≡ fits
-        → ◌≡◌ {A = Option ResponseData} (if fits then Some (record { body = take (length reply - 2) reply; status = status_of (length reply) reply }) else None) (Some said)
-        → length said.body ≤ 256
-    go true is e =
-        let same : ◌≡◌ {A = ResponseData} (record { body = take (length reply - 2) reply; status = status_of (length reply) reply }) said = cc e in
-        subst (λ (r : ResponseData). length r.body ≤ 256) same (taken_short reply (short_test (length reply) is))
-    go false is e = cc
 
 with_entry-short : (tag : ℕ) (value : List ℕ) (entries : Entries) → length value ≤ 256 → AllShort entries → AllShort (with_entry tag value entries)
 with_entry-short tag value [] here all = (here, tt)
@@ -110,7 +91,7 @@ held_in_response-short sfi (Some said) fits =
 
 held_in-short : (sfi : ℕ) (answer : List ℕ) → AreShort (held_in sfi answer).objects
 unfolding held_in
-held_in-short sfi answer = held_in_response-short sfi (response_of answer) (response_short answer)
+held_in-short sfi answer = held_in_response-short sfi (response_of answer) (body_short answer)
 
 then_held-short : (objects : List ItemData) (fault : Option Cause) (later : Held) → AreShort objects → AreShort later.objects → AreShort (then_held objects fault later).objects
 then_held-short objects (Some because) later first second = first
@@ -240,7 +221,7 @@ response_said-short (Some said) start fits e = go (said.status == conditions_not
 
 options_said-short : (answer : List ℕ) (start : Opened) → options_said answer ≡ Granted start → AllShort start.entries
 unfolding options_said
-options_said-short answer start e = response_said-short (response_of answer) start (response_short answer) e
+options_said-short answer start e = response_said-short (response_of answer) start (body_short answer) e
 
 -- what reading begins with
 abbrev pub BeginsShort : Option Opened → Type 0

@@ -11,6 +11,7 @@ mod durable;
 mod faults;
 mod generating;
 mod rows;
+mod torn;
 
 use rows::{BASE, BASE_READ, BASE_REPORT};
 

@@ -1,2 +1,4 @@
-pub mod Lanes
-pub mod Statuses
+pub mod Answers
+pub mod Commands
+pub mod Fields
+pub mod Learned

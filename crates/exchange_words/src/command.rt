@@ -1,111 +1,83 @@
 //! Commands in words (EMV 4.3 Book 3 section 6.5).
-ghost use Rattle.std.specs.Prelude.{◌≡◌, option_map};
-ghost use Rattle.exchange_words.specs.Lanes as spec;
-ghost use Rattle.exchange_words.specs.Lanes.{KeepsRest};
+ghost use Rattle.std.specs.Prelude.{◌≡◌, ◌==◌, if◌then◌else◌, option_map};
+ghost use Rattle.apdu_core.specs.Command.{command_of};
+ghost use Rattle.apdu_core.specs.Seen.{seen_command};
+ghost use Rattle.object_words.specs.Objects.{name_of as name_in};
+ghost use Rattle.word_lines.specs.Pieces as piece;
+ghost use Rattle.word_lines.specs.Pieces.{Tells};
+ghost use Rattle.exchange_words.specs.Commands as words;
+ghost use Rattle.lane_words.specs.Lanes as spec;
 
 use crate::cryptogram::tell_question;
 use crate::fields::tell_fields;
-use crate::lane::{LaneState, keep};
 use action_words::Row;
 use apdu_core::{Command, read_command};
 use ber_tlv::{Tag, sole_value, tag_bytes};
 use explain_words::{Form, name_of};
-use object_words::{Fields, Style, digits_in, tell_digits, tell_script_command, tell_value};
+use lane_words::{LaneState, keep};
+use list_words::{Fields, digits_in, tell_digits};
+use object_words::{Style, tell_script_command, tell_value};
 use word_lines::WordLines;
 
-/// Whether a command has this class and this instruction.
-fn is_command(class: u8, instruction: u8, command: &[u8]) -> bool
-    ensures { result ≡ spec.is_command class instruction command.now }
+/// Tells the name of SELECT.
+fn tell_selected_name(out: &mut WordLines, name: &[u8])
+    ensures { Tells out.old out.new (words.selected_name name.now) }
 {
-    match command {
-        [first, second, ..] => *first == class && *second == instruction,
-        _ => false,
-    }
-}
-
-/// Whether a command is one of a script, by its class.
-fn is_of_script(command: &[u8]) -> bool
-    ensures { result ≡ spec.is_of_script command.now }
-{
-    match command {
-        [class, ..] => *class == 0x84 || *class == 0x04,
-        _ => false,
-    }
-}
-
-/// The name of a command, as far as it may be left without an answer; `None` where it is not known.
-#[tactic(auto, unfolding(crate::specs::Lanes::command_name))]
-pub(crate) fn command_name(command: &[u8]) -> Option<&'static [u8]>
-    ensures { option_map (λ name. name.now) result ≡ spec.command_name command.now }
-{
-    if is_command(0x00, 0xa4, command) {
-        Some(b"SELECT")
-    } else if is_command(0x80, 0xa8, command) {
-        Some(b"GET PROCESSING OPTIONS")
-    } else if is_command(0x00, 0xb2, command) {
-        Some(b"READ RECORD")
-    } else if is_command(0x00, 0x20, command) {
-        Some(b"VERIFY")
-    } else if is_command(0x80, 0xca, command) {
-        Some(b"GET DATA")
-    } else if is_command(0x80, 0xae, command) {
-        Some(b"GENERATE AC")
-    } else if is_command(0x00, 0x82, command) {
-        Some(b"EXTERNAL AUTHENTICATE")
-    } else if is_of_script(command) {
-        Some(b"the script command")
+    if name == b"1PAY.SYS.DDF01".as_slice() {
+        out.text(name);
+        out.text(b", the payment system directory");
     } else {
-        None
+        out.hex(name);
     }
-}
-
-/// Whether the card may keep something before it answers this command.
-#[tactic(auto, unfolding(crate::specs::Lanes::may_keep))]
-pub(crate) fn may_keep(command: &[u8]) -> bool
-    ensures { result ≡ spec.may_keep command.now }
-{
-    !(is_command(0x00, 0xa4, command)
-        || is_command(0x00, 0xb2, command)
-        || is_command(0x80, 0xca, command))
 }
 
 /// Tells SELECT (EMV 4.3 Book 1 section 11.3).
-fn tell_select(out: &mut WordLines, command: &Command<'_>) {
+fn tell_select(out: &mut WordLines, command: &Command<'_>)
+    ensures { Tells out.old out.new (words.select_words (seen_command command.now)) }
+{
     out.line(1);
     out.text(b"SELECT ");
-    if command.body == b"1PAY.SYS.DDF01".as_slice() {
-        out.text(command.body);
-        out.text(b", the payment system directory");
-    } else {
-        out.hex(command.body);
-    }
+    tell_selected_name(out, command.body);
     if command.p2 == 2 {
         out.text(b", next occurrence");
     }
 }
 
-/// Tells GET PROCESSING OPTIONS, and the fields of its data.
-fn tell_options(out: &mut WordLines, lane: &LaneState, body: &[u8], brief: bool) {
-    out.line(1);
-    out.text(b"GET PROCESSING OPTIONS");
-    match sole_value(body, Tag(0x83)) {
-        Some(data) => {
-            if data.is_empty() {
-                out.text(b": the card wants no data");
-            } else if !brief {
-                let fields = Fields {
-                    list: lane.pdol.as_slice(),
-                    data,
-                };
-                tell_fields(out, fields, &Style::plain(2));
-            }
+/// Tells the fields of the data of GET PROCESSING OPTIONS.
+fn tell_options_data(out: &mut WordLines, pdol: &[u8], brief: bool, sent: Option<&[u8]>)
+    ensures { Tells out.old out.new (words.options_data pdol.now brief (option_map (λ bytes. bytes.now) sent.entry)) }
+{
+    if let Some(bytes) = sent {
+        if bytes.is_empty() {
+            out.text(b": the card wants no data");
+        } else if !brief {
+            let fields = Fields {
+                list: pdol,
+                data: bytes,
+            };
+            tell_fields(out, fields, &Style::plain(2));
         }
-        None => {}
     }
 }
 
+/// Tells GET PROCESSING OPTIONS, and the fields of its data.
+fn tell_options(out: &mut WordLines, lane: &LaneState, body: &[u8], brief: bool)
+    ensures { Tells out.old out.new (words.options_words lane.now.pdol.items body.now brief) }
+{
+    out.line(1);
+    out.text(b"GET PROCESSING OPTIONS");
+    tell_options_data(
+        out,
+        lane.pdol.as_slice(),
+        brief,
+        sole_value(body, Tag(0x83)),
+    );
+}
+
 /// Tells READ RECORD.
-fn tell_record(out: &mut WordLines, command: &Command<'_>) {
+fn tell_record(out: &mut WordLines, command: &Command<'_>)
+    ensures { Tells out.old out.new (words.record_words (seen_command command.now)) }
+{
     out.line(1);
     out.text(b"READ RECORD ");
     out.number(u64::from(command.p1));
@@ -113,42 +85,62 @@ fn tell_record(out: &mut WordLines, command: &Command<'_>) {
     out.number(u64::from(command.p2 / 8));
 }
 
-/// Tells GET DATA.
-fn tell_get_data(out: &mut WordLines, command: &Command<'_>) {
-    let tag = Tag(u32::from(command.p1) * 256 + u32::from(command.p2));
-    out.line(1);
-    out.text(b"GET DATA ");
-    out.hex(&tag_bytes(tag));
+/// Tells the name of an object behind a blank, where it has one.
+fn tell_name(out: &mut WordLines, tag: Tag)
+    ensures { Tells out.old out.new (words.name_words (name_in tag.0)) }
+{
     if let Some((name, _)) = name_of(tag) {
         out.text(b" ");
         out.text(name);
     }
 }
 
+/// Tells GET DATA.
+fn tell_get_data(out: &mut WordLines, command: &Command<'_>)
+    ensures { Tells out.old out.new (words.get_data_words (seen_command command.now)) }
+{
+    let tag = Tag(u32::from(command.p1) * 256 + u32::from(command.p2));
+    out.line(1);
+    out.text(b"GET DATA ");
+    out.hex(&tag_bytes(tag));
+    tell_name(out, tag);
+}
+
+/// The digits of a plaintext PIN block, where the data are one: behind their number in the low half byte
+/// (EMV 4.3 Book 3 section 6.5.12).
+fn is_pin_block(control: u8, digits: &[u8]) -> bool
+    ensures { result ≡ words.is_pin_block control digits.now }
+{
+    control / 16 == 2 && digits.len() == 7 && digits_in(digits) == Some(u64::from(control % 16))
+}
+
+/// Tells the PIN where the data are a plaintext PIN block.
+fn tell_pin(out: &mut WordLines, block: &[u8])
+    ensures { Tells out.old out.new (words.pin_words block.now) }
+{
+    if let [control, digits @ ..] = block {
+        if is_pin_block(*control, digits) {
+            out.text(b": plaintext PIN ");
+            tell_digits(out, digits);
+        }
+    }
+}
+
 /// Tells VERIFY, with the PIN where the data are a plaintext PIN block (EMV 4.3 Book 3 section 6.5.12).
-fn tell_verify(out: &mut WordLines, block: &[u8], brief: bool) {
+fn tell_verify(out: &mut WordLines, block: &[u8], brief: bool)
+    ensures { Tells out.old out.new (words.verify_words block.now brief) }
+{
     out.line(1);
     out.text(b"VERIFY");
-    if brief {
-        return;
-    }
-    let Some((front, digits)) = block.split_at_checked(1) else {
-        return;
-    };
-    let [control] = front else {
-        return;
-    };
-    if *control / 16 == 2
-        && digits.len() == 7
-        && digits_in(digits) == Some(u64::from(*control % 16))
-    {
-        out.text(b": plaintext PIN ");
-        tell_digits(out, digits);
+    if !brief {
+        tell_pin(out, block);
     }
 }
 
 /// Tells EXTERNAL AUTHENTICATE.
-fn tell_external(out: &mut WordLines, body: &[u8], brief: bool) {
+fn tell_external(out: &mut WordLines, body: &[u8], brief: bool)
+    ensures { Tells out.old out.new (words.external_words body.now brief) }
+{
     out.line(1);
     out.text(b"EXTERNAL AUTHENTICATE");
     if !brief {
@@ -158,7 +150,9 @@ fn tell_external(out: &mut WordLines, body: &[u8], brief: bool) {
 }
 
 /// Tells another command, where it is one of an issuer's script.
-fn tell_other(out: &mut WordLines, bytes: &[u8]) {
+fn tell_other(out: &mut WordLines, bytes: &[u8])
+    ensures { Tells out.old out.new (words.other_words bytes.now) }
+{
     if tell_script_command(out, bytes) {
         out.text(b" (issuer script)");
     }
@@ -172,7 +166,8 @@ fn tell_own(
     row: Option<Row>,
     brief: bool,
 )
-    ensures rest { KeepsRest lane.old lane.new }
+    ensures words { Tells out.old out.new (words.own_words lane.old (seen_command command.now) row brief) }
+    ensures left { lane.new ≡ words.left_own lane.old (seen_command command.now) row }
 {
     match command.ins {
         0xa8 => tell_options(out, lane, command.body, brief),
@@ -182,19 +177,50 @@ fn tell_own(
     }
 }
 
+/// Keeps the name of SELECT.
+fn keep_name(lane: &mut LaneState, command: &Command<'_>)
+    ensures left { lane.new ≡ words.with_name lane.old (seen_command command.now) }
+{
+    if command.ins == 0xa4 {
+        keep(&mut lane.name, command.body);
+    }
+}
+
 /// Tells a command of the class 00.
-fn tell_common(out: &mut WordLines, lane: &mut LaneState, command: &Command<'_>, brief: bool)
-    ensures rest { KeepsRest lane.old lane.new }
+fn tell_common(out: &mut WordLines, command: &Command<'_>, brief: bool)
+    ensures { Tells out.old out.new (words.common_words (seen_command command.now) brief) }
 {
     match command.ins {
-        0xa4 => {
-            keep(&mut lane.name, command.body);
-            tell_select(out, command);
-        }
+        0xa4 => tell_select(out, command),
         0xb2 => tell_record(out, command),
         0x20 => tell_verify(out, command.body, brief),
         0x82 => tell_external(out, command.body, brief),
         _ => {}
+    }
+}
+
+/// Tells a command by its class and instruction.
+#[tactic(auto, using(word_lines::proofs::Telling::telling), unfolding(crate::specs::Commands::words_of_command))]
+fn tell_known(
+    out: &mut WordLines,
+    lane: &mut LaneState,
+    bytes: &[u8],
+    row: Option<Row>,
+    brief: bool,
+)
+    ensures words { Tells out.old out.new (words.words_of_command lane.old bytes.now row brief) }
+    ensures left { lane.new ≡ words.left_of lane.old (command_of bytes.now) row }
+{
+    match read_command(bytes) {
+        Ok(command) => match command.class {
+            0x00 => {
+                keep_name(lane, &command);
+                tell_common(out, &command, brief);
+            }
+            0x80 => tell_own(out, lane, &command, row, brief),
+            _ => tell_other(out, bytes),
+        },
+        Err(_) => {}
     }
 }
 
@@ -206,17 +232,9 @@ pub fn tell_command(
     row: Option<Row>,
     brief: bool,
 )
-    ensures command { lane.new.command.items ≡ spec.kept 261 bytes.now }
-    ensures settled { lane.new.settled ≡ lane.old.settled }
-    ensures last_end { lane.new.last_end ≡ lane.old.last_end }
+    ensures words { Tells out.old out.new (words.words_of_command lane.old bytes.now row brief) }
+    ensures left { lane.new ≡ words.left_by_command lane.old bytes.now row }
 {
     keep(&mut lane.command, bytes);
-    match read_command(bytes) {
-        Ok(command) => match command.class {
-            0x00 => tell_common(out, lane, &command, brief),
-            0x80 => tell_own(out, lane, &command, row, brief),
-            _ => tell_other(out, bytes),
-        },
-        Err(_) => {}
-    }
+    tell_known(out, lane, bytes, row, brief);
 }

@@ -1,21 +1,30 @@
 //! Fields of object lists in words.
+ghost use Rattle.std.specs.Prelude.{◌≡◌, ◌||◌, ◌++◌, [], if◌then◌else◌, codes};
+ghost use Rattle.std.specs.List.{filter, flat_map};
+ghost use Rattle.exchange_words.specs.Fields as spec;
+ghost use Rattle.list_words.specs.Fields.{fields_of};
+ghost use Rattle.object_words.specs.Objects.{object_words};
+ghost use Rattle.word_lines.specs.Pieces as piece;
+ghost use Rattle.word_lines.specs.Pieces.{Tells};
+
 use ber_tlv::{Tag, tag_bytes};
-use object_words::{Fields, Object, Style, fits, has_field, next_field, tell_hex, tell_object};
+use list_words::{Fields, fits, has_field, next_field, tell_hex};
+use object_words::{Object, Style, tell_object};
 use word_lines::WordLines;
 
 /// Tells data that are not as long as their list wants.
-fn tell_data(out: &mut WordLines, data: &[u8], level: u8) {
+fn tell_data(out: &mut WordLines, bytes: &[u8], level: u8)
+    ensures { Tells out.old out.new (spec.data_words level bytes.now) }
+{
     out.line(level);
     out.text(b"data: ");
-    tell_hex(out, data);
+    tell_hex(out, bytes);
 }
 
-/// Tells each field in a line of its own, or the data where they are not as long as the list wants.
-pub(crate) fn tell_fields(out: &mut WordLines, fields: Fields<'_>, style: &Style) {
-    if !fits(fields) {
-        tell_data(out, fields.data, style.level);
-        return;
-    }
+/// Tells each field in a line of its own.
+fn tell_each(out: &mut WordLines, fields: Fields<'_>, style: &Style)
+    ensures { Tells out.old out.new (flat_map (spec.field_words style.now) (fields_of fields.entry.list.now fields.entry.data.now)) }
+{
     let mut left = fields;
     while let Some((tag, value, rest)) = next_field(left) {
         tell_object(out, &Object { tag, value }, style);
@@ -23,10 +32,64 @@ pub(crate) fn tell_fields(out: &mut WordLines, fields: Fields<'_>, style: &Style
     }
 }
 
+/// Tells each field in a line of its own, or the data where they are not as long as the list wants.
+pub(crate) fn tell_fields(out: &mut WordLines, fields: Fields<'_>, style: &Style)
+    ensures { Tells out.old out.new (spec.fields_words style.now fields.entry.list.now fields.entry.data.now) }
+{
+    if fits(fields) {
+        tell_each(out, fields, style);
+    } else {
+        tell_data(out, fields.data, style.level);
+    }
+}
+
 /// Whether a field is among those that were sent before. Terminal verification results are only where they
 /// may be.
-fn is_known(known: Fields<'_>, with_results: bool, tag: Tag, value: &[u8]) -> bool {
+fn is_known(known: Fields<'_>, with_results: bool, tag: Tag, value: &[u8]) -> bool
+    ensures { result ≡ spec.is_known (fields_of known.entry.list.now known.entry.data.now) with_results (tag.0, value.now) }
+{
     (with_results || tag.0 != 0x95) && has_field(known, tag, value)
+}
+
+/// Tells an object that was not sent before.
+pub(crate) fn tell_if_new(out: &mut WordLines, known: bool, object: &Object<'_>, style: &Style)
+    ensures { Tells out.old out.new (if known then [] else object_words style.now object.now.tag.0 object.now.value.now) }
+{
+    if !known {
+        tell_object(out, object, style);
+    }
+}
+
+/// Tells these words in a new line, before the first tag.
+fn tell_before(out: &mut WordLines, told: bool, level: u8, words: &[u8])
+    ensures { Tells out.old out.new (if told then [] else piece.line level ++ piece.text words.now) }
+{
+    if !told {
+        out.line(level);
+        out.text(words);
+    }
+}
+
+/// Tells the tag of an object that was sent before, behind these words where it is the first one; whether
+/// any was told.
+pub(crate) fn tell_if_known(
+    out: &mut WordLines,
+    told: bool,
+    known: bool,
+    tag: Tag,
+    level: u8,
+    words: &[u8],
+) -> bool
+    ensures words { Tells out.old out.new (spec.known_words told known tag.0 level words.now) }
+    ensures told { result ≡ (told || known) }
+{
+    if !known {
+        return told;
+    }
+    tell_before(out, told, level, words);
+    out.text(b" ");
+    out.hex(&tag_bytes(tag));
+    true
 }
 
 /// Tells the tags of the fields that were sent before, in one line.
@@ -36,19 +99,34 @@ fn tell_known(
     known: Fields<'_>,
     with_results: bool,
     level: u8,
-) {
+)
+    ensures { Tells out.old out.new (spec.tags_words level (codes "as in the first:")
+        (filter (spec.is_known (fields_of known.entry.list.now known.entry.data.now) with_results) (fields_of fields.entry.list.now fields.entry.data.now))) }
+{
     let mut told = false;
     let mut left = fields;
     while let Some((tag, value, rest)) = next_field(left) {
-        if is_known(known, with_results, tag, value) {
-            if !told {
-                out.line(level);
-                out.text(b"as in the first:");
-                told = true;
-            }
-            out.text(b" ");
-            out.hex(&tag_bytes(tag));
-        }
+        let known = is_known(known, with_results, tag, value);
+        told = tell_if_known(out, told, known, tag, level, b"as in the first:");
+        left = rest;
+    }
+}
+
+/// Tells each field in a line of its own but those that were sent before.
+fn tell_new(
+    out: &mut WordLines,
+    fields: Fields<'_>,
+    known: Fields<'_>,
+    with_results: bool,
+    style: &Style,
+)
+    ensures { Tells out.old out.new (flat_map
+        (spec.new_words style.now (spec.is_known (fields_of known.entry.list.now known.entry.data.now) with_results)) (fields_of fields.entry.list.now fields.entry.data.now)) }
+{
+    let mut left = fields;
+    while let Some((tag, value, rest)) = next_field(left) {
+        let known = is_known(known, with_results, tag, value);
+        tell_if_new(out, known, &Object { tag, value }, style);
         left = rest;
     }
 }
@@ -61,17 +139,13 @@ pub(crate) fn tell_fields_beside(
     known: Fields<'_>,
     with_results: bool,
     style: &Style,
-) {
-    if !fits(fields) {
+)
+    ensures { Tells out.old out.new (spec.beside_words style.now fields.entry.list.now fields.entry.data.now (fields_of known.entry.list.now known.entry.data.now) with_results) }
+{
+    if fits(fields) {
+        tell_new(out, fields, known, with_results, style);
+        tell_known(out, fields, known, with_results, style.level);
+    } else {
         tell_data(out, fields.data, style.level);
-        return;
     }
-    let mut left = fields;
-    while let Some((tag, value, rest)) = next_field(left) {
-        if !is_known(known, with_results, tag, value) {
-            tell_object(out, &Object { tag, value }, style);
-        }
-        left = rest;
-    }
-    tell_known(out, fields, known, with_results, style.level);
 }

@@ -1,17 +1,22 @@
 //! What an answer leaves for the lines behind it.
-ghost use Rattle.exchange_words.specs.Lanes.{KeepsRest};
+ghost use Rattle.std.specs.Prelude.{◌≡◌, option_map};
+ghost use Rattle.exchange_words.specs.Learned as spec;
 
-use crate::lane::{LaneState, keep};
+use arrayvec::ArrayVec;
 use ber_tlv::{Cursor, Tag, is_constructed, sole_value};
-use object_words::number_in;
+use lane_words::{LaneState, keep};
+use list_words::number_in;
+use object_words::next_item;
 
 /// How deep objects within objects are looked for.
 const DEPTH: u8 = 8;
 
 /// The value of the first object of this tag, also within others, so many deep at most.
-pub(crate) fn find_deep(bytes: &[u8], tag: Tag, more: u8) -> Option<&[u8]> {
+pub(crate) fn find_deep(bytes: &[u8], tag: Tag, more: u8) -> Option<&[u8]>
+    ensures { option_map (λ value. value.now) result ≡ spec.found_deep more tag.0 bytes.now }
+{
     let mut cursor = Cursor::new(bytes);
-    while let Ok(Some(item)) = cursor.next() {
+    while let Some(item) = next_item(&mut cursor) {
         if item.tag.0 == tag.0 {
             return Some(item.value);
         }
@@ -24,9 +29,11 @@ pub(crate) fn find_deep(bytes: &[u8], tag: Tag, more: u8) -> Option<&[u8]> {
     None
 }
 
-/// The number of an object of this tag and this length, else what was known of it.
-fn number_or(record: &[u8], tag: u32, count: usize, known: Option<u64>) -> Option<u64> {
-    match find_deep(record, Tag(tag), DEPTH) {
+/// The number of a value of this length, else what was known of it.
+fn number_of(value: Option<&[u8]>, count: usize, known: Option<u64>) -> Option<u64>
+    ensures { result ≡ spec.number_of count (option_map (λ value. value.now) value.entry) known }
+{
+    match value {
         Some(value) => {
             if value.len() == count {
                 Some(number_in(value))
@@ -38,19 +45,28 @@ fn number_or(record: &[u8], tag: u32, count: usize, known: Option<u64>) -> Optio
     }
 }
 
-/// Keeps the lists, the action codes and the limits of a record.
-pub(crate) fn learn_record(lane: &mut LaneState, body: &[u8])
-    ensures rest { KeepsRest lane.old lane.new }
+/// The number of an object of this tag and this length, else what was known of it.
+fn number_or(record: &[u8], tag: u32, count: usize, known: Option<u64>) -> Option<u64>
+    ensures { result ≡ spec.number_or record.now tag count known }
 {
-    let Some(record) = sole_value(body, Tag(0x70)) else {
-        return;
-    };
-    if let Some(list) = find_deep(record, Tag(0x8c), DEPTH) {
-        keep(&mut lane.cdol1, list);
+    number_of(find_deep(record, Tag(tag), DEPTH), count, known)
+}
+
+/// Keeps a list in place of the one before, where there is one.
+fn keep_list(kept: &mut ArrayVec<u8, 255>, list: Option<&[u8]>)
+    ensures { kept.new.items ≡ spec.list_or (option_map (λ list. list.now) list.entry) kept.old.items }
+{
+    if let Some(list) = list {
+        keep(kept, list);
     }
-    if let Some(list) = find_deep(record, Tag(0x8d), DEPTH) {
-        keep(&mut lane.cdol2, list);
-    }
+}
+
+/// Keeps the lists, the action codes and the limits of a record's objects.
+fn learn_lists(lane: &mut LaneState, record: &[u8])
+    ensures left { lane.new ≡ spec.with_lists lane.old record.now }
+{
+    keep_list(&mut lane.cdol1, find_deep(record, Tag(0x8c), DEPTH));
+    keep_list(&mut lane.cdol2, find_deep(record, Tag(0x8d), DEPTH));
     lane.codes.denial = number_or(record, 0x9f0e, 5, lane.codes.denial);
     lane.codes.online = number_or(record, 0x9f0f, 5, lane.codes.online);
     lane.codes.default = number_or(record, 0x9f0d, 5, lane.codes.default);
@@ -58,23 +74,50 @@ pub(crate) fn learn_record(lane: &mut LaneState, body: &[u8])
     lane.upper = number_or(record, 0x9f23, 1, lane.upper);
 }
 
+/// Keeps the lists, the action codes and the limits of a record.
+pub(crate) fn learn_record(lane: &mut LaneState, body: &[u8])
+    ensures left { lane.new ≡ spec.with_record lane.old body.now }
+{
+    if let Some(record) = sole_value(body, Tag(0x70)) {
+        learn_lists(lane, record);
+    }
+}
+
 /// Keeps an answer to SELECT, and its list 9F38.
 pub(crate) fn learn_selected(lane: &mut LaneState, answer: &[u8], body: &[u8])
-    ensures rest { KeepsRest lane.old lane.new }
+    ensures left { lane.new ≡ spec.with_selected lane.old answer.now body.now }
 {
     keep(&mut lane.selected, answer);
-    match find_deep(body, Tag(0x9f38), DEPTH) {
-        Some(list) => keep(&mut lane.pdol, list),
-        None => lane.pdol.clear(),
+    lane.pdol.clear();
+    keep_list(&mut lane.pdol, find_deep(body, Tag(0x9f38), DEPTH));
+}
+
+/// The number of a value of two bytes.
+fn counter_of(value: Option<&[u8]>) -> Option<u64>
+    ensures { result ≡ spec.counter_of (option_map (λ value. value.now) value.entry) }
+{
+    match value {
+        Some(value) => {
+            if value.len() == 2 {
+                Some(number_in(value))
+            } else {
+                None
+            }
+        }
+        None => None,
     }
 }
 
 /// The number that GET DATA gave for a tag.
-pub(crate) fn counter_in(body: &[u8], tag: u32) -> Option<u64> {
-    let value = sole_value(body, Tag(tag))?;
-    if value.len() == 2 {
-        Some(number_in(value))
-    } else {
-        None
-    }
+pub(crate) fn counter_in(body: &[u8], tag: u32) -> Option<u64>
+    ensures { result ≡ spec.counter_in tag body.now }
+{
+    counter_of(sole_value(body, Tag(tag)))
+}
+
+/// Keeps a counter that GET DATA gave.
+pub(crate) fn learn_counter(lane: &mut LaneState, body: &[u8])
+    ensures left { lane.new ≡ spec.with_counter lane.old body.now }
+{
+    lane.counter = counter_in(body, 0x9f36).or(lane.counter);
 }

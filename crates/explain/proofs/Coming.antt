@@ -1,5 +1,5 @@
 -- One byte more of a report.
-use Rattle.std.proofs.Common.{◌≡◌, ◌≢◌, ℕ, zero, suc, ◌+◌, ◌<◌, ◌≤◌, ◌⊎◌, inl, inr, Bool, true, false, cond, eqb, List, [], ◌∷◌, ◌++◌, length, take, get_or, refl, sym, ap, subst, ◌∙◌, append_assoc, arith}
+use Rattle.std.proofs.Common.{◌≡◌, ◌≢◌, ℕ, zero, suc, ◌+◌, ◌<◌, ◌≤◌, ◌⊎◌, inl, inr, Bool, true, false, ◌||◌, cond, eqb, List, [], ◌∷◌, ◌++◌, length, take, get_or, refl, sym, ap, subst, ◌∙◌, append_assoc, arith}
 use Rattle.std.specs.List.{flat_map}
 use Rattle.std.specs.declared.option.Option.{Option}
 use Rattle.std.specs.Io.KnownBytes.{Appends}
@@ -14,8 +14,8 @@ use Rattle.emv_ports.proofs.Growth.{Appends-none, Appends-more, AppendsFront-fir
 use Rattle.word_lines.specs.Lines.{AreWordLines}
 use Rattle.word_lines.proofs.Stages.{no_words}
 use Rattle.narrator.specs.State.{StateData, start}
-use Rattle.narrator.specs.Words.{Narrates}
-use Rattle.explain.specs.Told.{Way, Told, IsTold, IsUntold, Course, HasNoNewline, line_of, told_of, rest_of, most_told, Explains}
+use Rattle.narrator.specs.Words.{Narrates, is_text_left}
+use Rattle.explain.specs.Told.{Way, Told, IsTold, IsNarrated, IsUntold, Course, HasNoNewline, line_of, told_of, rest_of, most_told, Explains}
 use Rattle.explain.specs.Course.{Stand, SoFar, Stopped, Ended}
 
 -- what of two texts is left is what is left of each
@@ -170,7 +170,8 @@ kept_shown all false kept a = absurd (false≢true (sym (kept refl) ∙ a))
 -- a line has ended: what it is told as, as far as it was not handed on before
 pub record EndsLine (all : Way) (before after : StateData) (head p words : List ℕ) (shown : Bool) (piece : List ℕ) : Type 0 where
   pub word_lines : AreWordLines words
-  pub made : Narrates all.brief (head ++ p) before words after ⊎ IsUntold (record { text = head ++ p; words = words; shown = shown; after = after }) before
+  pub made : IsNarrated all before (record { text = head ++ p; words = words; shown = shown; after = after })
+      ⊎ IsUntold all before (record { text = head ++ p; words = words; shown = shown; after = after })
   pub kept : all.all ≡ true → shown ≡ true
   pub told : rest_of all.all head ++ piece ≡ told_of (record { text = head ++ p; words = words; shown = shown; after = after })
 
@@ -217,11 +218,14 @@ stopped_line all long after p seen words piece shown first old new s e more =
 
 -- a line that is not too long is handed on whole, with its words
 pub ends_short : (all : Way) (before after : StateData) (shown : Bool) (head p words : List ℕ) → head ≡ [] → AreWordLines words
-    → Narrates all.brief p before words after → (all.all ≡ true → shown ≡ true)
+    → Narrates all.manner p before words after → shown ≡ (is_text_left all.manner.filter before p || all.all) → (all.all ≡ true → shown ≡ true)
     → EndsLine all before after head p words shown (cond shown ((p ++ 10 ∷ []) ++ words) [])
-ends_short all before after shown head p words none lines made kept = record {
+ends_short all before after shown head p words none lines made left kept = record {
   word_lines = lines;
-  made = inl (subst (λ (h : List ℕ). Narrates all.brief (h ++ p) before words after) (sym none) made);
+  made = inl (record {
+    narrates = subst (λ (h : List ℕ). Narrates all.manner (h ++ p) before words after) (sym none) made;
+    left = subst (λ (h : List ℕ). shown ≡ (is_text_left all.manner.filter before (h ++ p) || all.all)) (sym none) left;
+  });
   kept = kept;
   told = ap (λ (h : List ℕ). rest_of all.all h ++ cond shown ((p ++ 10 ∷ []) ++ words) []) none
       ∙ ap (λ (x : List ℕ). x ++ cond shown ((p ++ 10 ∷ []) ++ words) []) (rest_of-nothing all.all)
@@ -238,7 +242,7 @@ pub ends_long : (all : Way) (state : StateData) (head p : List ℕ) → most_tol
     → EndsLine all state state head p [] all.all (rest_of all.all (p ++ 10 ∷ []))
 ends_long all state head p enough = record {
   word_lines = no_words;
-  made = inr (record { many = omega (arith, length-append head p); no_words = refl; same = refl });
+  made = inr (record { many = omega (arith, length-append head p); no_words = refl; same = refl; left = refl });
   kept = λ e. e;
   told = long_told all.all state head p;
 }
@@ -279,7 +283,8 @@ short_piece shown text words = cond shown ((text ++ 10 ∷ []) ++ words) []
 -- what is told of a short line: its words, and what it leaves
 pub record IsSaid (all : Way) (before after : StateData) (p words : List ℕ) (shown : Bool) : Type 0 where
   pub lines : AreWordLines words
-  pub made : Narrates all.brief p before words after
+  pub made : Narrates all.manner p before words after
+  pub left : shown ≡ (is_text_left all.manner.filter before p || all.all)
   pub kept : shown ≡ false → all.all ≡ false
 
 pub so_far_short_at : (all : Way) (long : Stand) (after : StateData) (shown : Bool) (p seen text words empty : List ℕ) (first old new : Option (List ℕ)) → text ≡ p → empty ≡ []
@@ -288,7 +293,7 @@ pub so_far_short_at : (all : Way) (long : Stand) (after : StateData) (shown : Bo
 so_far_short_at all long after shown p seen text words empty first old new e none short said s more =
     subst (λ (t : List ℕ). SoFar all t (behind after) (seen ++ 10 ∷ []) first new) (sym none)
     (so_far_line all long after p seen words (short_piece shown p words) shown first old new s
-    (ends_short all long.state after shown s.head p words (s.short short) said.lines said.made (kept_shown all.all shown said.kept))
+    (ends_short all long.state after shown s.head p words (s.short short) said.lines said.made said.left (kept_shown all.all shown said.kept))
     (subst (λ (t : List ℕ). Appends old new (short_piece shown t words)) e more))
 
 pub stopped_short_at : (all : Way) (long : Stand) (after : StateData) (shown : Bool) (p seen text words : List ℕ) (first old new : Option (List ℕ)) → text ≡ p → long.long ≡ false
@@ -296,7 +301,7 @@ pub stopped_short_at : (all : Way) (long : Stand) (after : StateData) (shown : B
     → Stopped all (seen ++ 10 ∷ []) first new
 stopped_short_at all long after shown p seen text words first old new e short said s more =
     stopped_line all long after p seen words (short_piece shown p words) shown first old new s
-    (ends_short all long.state after shown s.head p words (s.short short) said.lines said.made (kept_shown all.all shown said.kept))
+    (ends_short all long.state after shown s.head p words (s.short short) said.lines said.made said.left (kept_shown all.all shown said.kept))
     (subst (λ (t : List ℕ). AppendsFront old new (short_piece shown t words)) e more)
 
 -- no memory for the words of a line: nothing of it was handed on, and it is not explained

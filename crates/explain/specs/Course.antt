@@ -5,7 +5,7 @@ use Rattle.std.specs.declared.option.Option.{Option}
 use Rattle.std.specs.Io.KnownBytes.{Appends}
 use Rattle.emv_ports.specs.Causes.{Rose}
 use Rattle.emv_ports.specs.Growth.{AppendsFront}
-use Rattle.narrator.specs.State.{StateData, start, seen_state}
+use Rattle.narrator.specs.State.{StateData, start, manner_of, seen_state}
 use Rattle.explain.specs.Told.{Told, Way, way_of, Course, HasNoNewline, line_of, told_of, rest_of, most_told, Explains}
 use Rattle.explain.specs.declared.told.Stop.{Stop}
 use Rattle.explain.specs.declared.told.Stop.TheVariants.{Sink, OutOfMemory}
@@ -13,7 +13,7 @@ use Rattle.explain.specs.declared.told.Teller.{Teller}
 
 -- the way of a teller
 abbrev pub way_in : Teller → Way
-way_in teller = record { all = teller.all; brief = teller.narrator.filter.brief }
+way_in teller = record { all = teller.all; manner = manner_of teller.narrator }
 
 -- whether the line that is coming is too long to be told, and what the lines before it left
 pub record Stand : Type 0 where

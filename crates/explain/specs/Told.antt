@@ -1,31 +1,37 @@
 -- What the program makes of a report.
-use Rattle.std.specs.Prelude.{ℕ, ◌≡◌, ◌==◌, ◌<◌, ◌≤◌, ◌⊎◌, Bool, true, false, if◌then◌else◌, List, [], ◌∷◌, ◌++◌, length}
+use Rattle.std.specs.Prelude.{ℕ, ◌≡◌, ◌==◌, ◌<◌, ◌≤◌, ◌⊎◌, Bool, true, false, ◌||◌, if◌then◌else◌, List, [], ◌∷◌, ◌++◌, length}
 use Rattle.std.specs.List.{All, list_any, flat_map}
 use Rattle.std.specs.declared.option.Option.{Option}
+use Rattle.std.specs.declared.option.Option.TheVariants.{None}
 use Rattle.std.specs.Io.KnownBytes.{Appends, Consumes, IsAtEnd}
 use Rattle.emv_ports.specs.Growth.{AppendsFront}
 use Rattle.word_lines.specs.Lines.{AreWordLines}
 use Rattle.narrator.specs.Shown.{shows_all}
-use Rattle.narrator.specs.State.{StateData, start}
-use Rattle.narrator.specs.Words.{Narrates}
+use Rattle.narrator.specs.State.{Manner, StateData, start}
+use Rattle.narrator.specs.Words.{Narrates, is_text_left}
 use Rattle.narrator.specs.declared.filter.Filter.{Filter}
+use Rattle.explain.specs.declared.options.Options.{Options}
 
 -- a text within a line
 unfoldable pub HasNoNewline : List ℕ → Type 0
 HasNoNewline text = list_any (λ b. b == 10) text ≡ false
 
--- how lines are told: whether none is left out, since no filter is given; and whether words are left out
+-- how lines are told: whether none is left out, since no filter is given; and in which manner their words are made
 pub record Way : Type 0 where
   pub all : Bool
-  pub brief : Bool
+  pub manner : Manner
 
--- the way of a filter
-abbrev pub way_of : Filter → Way
-way_of filter = record { all = shows_all filter; brief = filter.brief }
+-- the way of these options
+abbrev pub way_of : Options → Way
+way_of options = record { all = shows_all options.filter; manner = record { filter = options.filter; terminals = options.terminals.items } }
 
--- each line, with all words
+-- every line with all its words
+abbrev pub unfiltered : Filter
+unfiltered = record { brief = false; ends = false; lane = None; purchase = None }
+
+-- each line, with all words, where nothing is known of the terminals
 abbrev pub whole : Way
-whole = record { all = true; brief = false }
+whole = record { all = true; manner = record { filter = unfiltered; terminals = [] } }
 
 -- the most bytes of a line that is told in words
 abbrev pub most_told : ℕ
@@ -39,17 +45,23 @@ pub record Told : Type 0 where
   pub shown : Bool
   pub after : StateData
 
--- a line that is too long to be told has no words, and leaves what was
-pub record IsUntold (told : Told) (before : StateData) : Type 0 where
+-- a line that is too long to be told has no words, leaves what was, and is left where all are
+pub record IsUntold (way : Way) (before : StateData) (told : Told) : Type 0 where
   pub many : most_told ≤ length told.text
   pub no_words : told.words ≡ []
   pub same : told.after ≡ before
+  pub left : told.shown ≡ way.all
+
+-- another one has its words and leaves its state, behind this one; whether it is left is the filter's
+pub record IsNarrated (way : Way) (before : StateData) (told : Told) : Type 0 where
+  pub narrates : Narrates way.manner told.text before told.words told.after
+  pub left : told.shown ≡ (is_text_left way.manner.filter before told.text || way.all)
 
 -- a line behind this state: its words are lines that begin with two blanks, or none, made from the line and the state
 pub record IsTold (way : Way) (before : StateData) (told : Told) : Type 0 where
   pub one_line : HasNoNewline told.text
   pub word_lines : AreWordLines told.words
-  pub made : Narrates way.brief told.text before told.words told.after ⊎ IsUntold told before
+  pub made : IsNarrated way before told ⊎ IsUntold way before told
 
 -- lines one behind the other, each told behind the state that those before it left
 abbrev pub Course : Way → StateData → List Told → StateData → Type 0

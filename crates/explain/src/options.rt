@@ -4,7 +4,7 @@ ghost use Rattle.explain.specs.Told.{way_of, whole};
 
 use action_words::{Row, reach_of};
 use arrayvec::ArrayVec;
-use exchange_words::Terminal;
+use lane_words::Terminal;
 use narrator::Filter;
 use report_lines::{number_of, split_at_comma};
 use std::alloc::Global;
@@ -216,7 +216,7 @@ fn take_options(options: Options, words: &[String]) -> Result<Options, NoOptions
 /// Reads `[--brief] [--ends] [--lane N] [--purchase N] [--terminal T]...`, in any order.
 pub fn read_options(alloc: Global, words: &[String]) -> Result<Options, NoOptions>
     // Without words every line is left, with all its words.
-    ensures { words.now ≡ [] → IfOk result (λ options. way_of options.filter ≡ whole) }
+    ensures { words.now ≡ [] → IfOk result (λ options. way_of options ≡ whole) }
 {
     let options = Options {
         filter: Filter {

@@ -1,11 +1,11 @@
 //! The lines of a report as they come, each handed on with its words.
-ghost use Rattle.std.specs.Prelude.{◌≡◌, ◌≢◌, ◌∷◌, ◌++◌, ◌≤◌, ℕ, List, [], true, false, OnOk, OnErr, IfOk, take, if◌then◌else◌};
+ghost use Rattle.std.specs.Prelude.{◌≡◌, ◌≢◌, ◌∷◌, ◌++◌, ◌≤◌, ◌||◌, ℕ, List, [], true, false, OnOk, OnErr, IfOk, take, if◌then◌else◌};
 ghost use Rattle.std.specs.declared.option.Option.{Option};
 ghost use Rattle.std.specs.Io.KnownBytes.{Appends};
 ghost use Rattle.arrayvec.specs.ArrayVec.{array_vec_len};
 ghost use Rattle.emv_ports.specs.Growth.{AppendsFront};
 ghost use Rattle.narrator.specs.State.{seen_state};
-ghost use Rattle.narrator.specs.Words.{Narrates};
+ghost use Rattle.narrator.specs.Words.{Narrates, is_text_left};
 ghost use Rattle.word_lines.specs.Lines.{AreWordLines};
 ghost use Rattle.explain.specs.Course.{SoFar, Stopped, Ended, HasStop, way_in, stand_of};
 ghost use Rattle.explain.specs.Told.{rest_of};
@@ -185,8 +185,9 @@ fn end_long<K: Sink>(teller: &mut Teller, sink: &mut K) -> Result<(), Stop>
 /// The words of the line that has come, and whether it is left by the filters.
 fn tell(teller: &mut Teller) -> Result<bool, AllocError>
     ensures words { OnOk result (AreWordLines teller.new.words.bytes) }
-    ensures made { OnOk result (Narrates (way_in teller.old).brief teller.old.line.items (seen_state teller.old.narrator) teller.new.words.bytes (seen_state teller.new.narrator)) }
+    ensures made { OnOk result (Narrates (way_in teller.old).manner teller.old.line.items (seen_state teller.old.narrator) teller.new.words.bytes (seen_state teller.new.narrator)) }
     ensures kept { IfOk result (λ shown. shown ≡ false → teller.old.all ≡ false) }
+    ensures left { IfOk result (λ shown. shown ≡ (is_text_left (way_in teller.old).manner.filter (seen_state teller.old.narrator) teller.old.line.items || teller.old.all)) }
     ensures line { teller.new.line.items ≡ teller.old.line.items }
     ensures long { teller.new.long ≡ teller.old.long }
     ensures way { way_in teller.new ≡ way_in teller.old }

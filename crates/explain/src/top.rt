@@ -94,7 +94,7 @@ fn begin(alloc: Global, options: Options) -> Result<Teller, AllocError>
     ensures line { IfOk result (λ teller. teller.line.items ≡ []) }
     ensures short { IfOk result (λ teller. teller.long ≡ false) }
     ensures state { IfOk result (λ teller. seen_state teller.narrator ≡ start) }
-    ensures way { IfOk result (λ teller. way_in teller ≡ way_of options.filter) }
+    ensures way { IfOk result (λ teller. way_in teller ≡ way_of options) }
 {
     let all = options.filter.shows_all();
     let narrator = Narrator::new(alloc, options.filter, options.terminals)?;
@@ -114,8 +114,8 @@ fn explain_by<S: Source, K: Sink>(
     source: &mut S,
     sink: &mut K,
 ) -> Result<(), Broken>
-    ensures ok { OnOk result (Explained (way_of options.filter) (S.left source.old) (S.left source.new) (K.held sink.old) (K.held sink.new)) }
-    ensures err { OnErr result (BrokenOff (way_of options.filter) (S.left source.old) (S.left source.new) (K.held sink.old) (K.held sink.new)) }
+    ensures ok { OnOk result (Explained (way_of options) (S.left source.old) (S.left source.new) (K.held sink.old) (K.held sink.new)) }
+    ensures err { OnErr result (BrokenOff (way_of options) (S.left source.old) (S.left source.new) (K.held sink.old) (K.held sink.new)) }
     ensures source { SourceCount (S.faults source.old) (S.faults source.new) result }
     ensures sink { SinkCount (K.faults sink.old) (K.faults sink.new) result }
 {

@@ -4,12 +4,12 @@ ghost use Rattle.emv_dict.specs.Pan.{HasPanLength};
 ghost use Rattle.issuer_host.specs.Account.{IsAccount};
 ghost use Rattle.issuer_host.specs.History.{HostStands};
 
-use app_cryptogram::{AcFields, ac};
-use auth_message::{Message, RequestFields, write_request};
+use app_cryptogram::ac;
+use auth_message::{Message, Named, Paid, RequestFields, write_request};
 use ber_tlv::append;
 use card_keys::{master_key, session_ac};
 use emv_dict::Digits;
-use issuer_host::{Account, Host, HostKeys, Method};
+use issuer_host::{Account, Host, HostKeys, Method, covered};
 use std::alloc::{AllocError, Global};
 use triple_des::Key16;
 
@@ -74,36 +74,30 @@ fn write_card_request(place: u16, counter: u16, out: &mut Message)
 {
     let pan = account_number(place);
     let master = master_key(&Key16::new(AC_KEY.to_be_bytes()), &pan, 1);
-    let covered = AcFields {
-        amount: [0, 0, 0, 0, 0, 0x01],
-        other: [0; 6],
-        country: [0x08, 0x40],
-        tvr: [0x80, 0, 0, 0, 0],
-        currency: CURRENCY,
-        date: [0x24, 0x06, 0x15],
-        trade: 0,
-        number: [1, 2, 3, 4],
-        aip: [0x1c, 0],
-        counter: counter.to_be_bytes(),
+    let mut paid = Paid {
+        t9f02: [0, 0, 0, 0, 0, 0x01],
+        t9f03: [0; 6],
+        t9f1a: [0x08, 0x40],
+        t95: [0x80, 0, 0, 0, 0],
+        t5f2a: CURRENCY,
+        t9a: [0x24, 0x06, 0x15],
+        t9c: [0],
+        t9f37: [1, 2, 3, 4],
+        t82: [0x1c, 0],
+        t9f36: counter.to_be_bytes(),
+        t9f26: [0; 8],
     };
     let issuer_data = [0x01, 0x80, 0, 0, 0x03, 0x01];
-    let cryptogram = ac(&session_ac(&master, counter), &covered, &issuer_data);
+    let cryptogram = ac(&session_ac(&master, counter), &covered(&paid), &issuer_data);
+    paid.t9f26 = cryptogram;
     let fields = RequestFields {
-        t9f1c: *b"TERM0001",
-        pan,
-        t5f34: Some([1]),
+        named: Named {
+            t9f1c: *b"TERM0001",
+            pan,
+            t5f34: Some([1]),
+        },
         t5f24: [0x26, 0x12, 0x31],
-        t9f02: covered.amount,
-        t9f03: covered.other,
-        t9f1a: covered.country,
-        t95: covered.tvr,
-        t5f2a: covered.currency,
-        t9a: covered.date,
-        t9c: [covered.trade],
-        t9f37: covered.number,
-        t82: covered.aip,
-        t9f36: covered.counter,
-        t9f26: cryptogram,
+        paid,
         t9f10: &issuer_data,
         tdf11: None,
     };

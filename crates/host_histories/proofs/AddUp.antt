@@ -66,7 +66,7 @@ request_step keys accounts books message f es ledger none = by (is_approved new.
     by : (b : Bool) → is_approved new.code ≡ b → (after : List Entry) × IsLedger (with_request books new) after
     by false declined = (es, record { agrees = request_declined books new es declined none ledger.agrees; apart = ledger.apart })
     by true approved =
-        let open_request = request_open keys (account_of f.pan accounts) books f approved in
+        let open_request = request_open keys (account_of f.named.pan accounts) books f approved in
         let absent = closed_none (kept_at (request_key f) books.reversals) (kept_at (request_key f) books.presentments) open_request.closed in
         let after = with_entry (held_entry new) es in
         (after, record { agrees = request_agrees books new (ledger_of es) (ledger_of after) approved none absent.0 absent.1 ledger.agrees (keeps (held_entry new) es); apart = stay_apart (held_entry new) es ledger.apart })
@@ -81,7 +81,7 @@ presentment_step keys accounts books message f es ledger none = by (is_approved 
     by : (b : Bool) → is_approved new.code ≡ b → (after : List Entry) × IsLedger (with_presentment books new) after
     by false declined = (es, record { agrees = presentment_declined books new es declined ledger.agrees; apart = ledger.apart })
     by true approved =
-        let open_presentment = present_open keys (account_of f.pan accounts) books f approved in
+        let open_presentment = present_open keys (account_of f.named.pan accounts) books f approved in
         let after = with_entry (booked_entry new) es in
         (after, record { agrees = presentment_agrees books new (ledger_of es) (ledger_of after) approved none open_presentment.unreleased ledger.agrees (keeps (booked_entry new) es); apart = stay_apart (booked_entry new) es ledger.apart })
 

@@ -109,27 +109,27 @@ module _ (own : List ℕ → Bool) where
       by later false false kept_is this = later ∙ rw (apart kept.online) refl
 
   -- the reply to a new message
-  code_own : (keys : HostKeys) (account : AccountData) (books : Books) (f : RequestData) → own f.pan ≡ true → own account.pan ≡ true → request_code keys account (own_books books) f ≡ request_code keys account books f
+  code_own : (keys : HostKeys) (account : AccountData) (books : Books) (f : RequestData) → own f.named.pan ≡ true → own account.pan ≡ true → request_code keys account (own_books books) f ≡ request_code keys account books f
   unfolding request_code
   code_own keys account books f is account_is =
       rw (kept_own (request_key f) is books.reversals, kept_own (request_key f) is books.presentments, taken_own books account.pan account_is) refl
 
-  request_own : (keys : HostKeys) (accounts : List AccountData) (books : Books) (f : RequestData) → own f.pan ≡ true
-      → request_reply keys (account_of f.pan (own_accounts own accounts)) (own_books books) f ≡ request_reply keys (account_of f.pan accounts) books f
+  request_own : (keys : HostKeys) (accounts : List AccountData) (books : Books) (f : RequestData) → own f.named.pan ≡ true
+      → request_reply keys (account_of f.named.pan (own_accounts own accounts)) (own_books books) f ≡ request_reply keys (account_of f.named.pan accounts) books f
   request_own keys accounts books f is =
-      ap (λ (a : Option AccountData). request_reply keys a (own_books books) f) (account_own f.pan is accounts) ∙ by (account_of f.pan accounts) refl
+      ap (λ (a : Option AccountData). request_reply keys a (own_books books) f) (account_own f.named.pan is accounts) ∙ by (account_of f.named.pan accounts) refl
     where
-      by : (account : Option AccountData) → account_of f.pan accounts ≡ account → request_reply keys account (own_books books) f ≡ request_reply keys account books f
+      by : (account : Option AccountData) → account_of f.named.pan accounts ≡ account → request_reply keys account (own_books books) f ≡ request_reply keys account books f
       by None known = refl
       by (Some account) known =
-          let account_is : own account.pan ≡ true = ap own (has_pan f.pan accounts account known) ∙ is in
+          let account_is : own account.pan ≡ true = ap own (has_pan f.named.pan accounts account known) ∙ is in
           rw (code_own keys account books f is account_is, served_own account.pan account_is books.requests) refl
 
-  present_own : (keys : HostKeys) (accounts : List AccountData) (books : Books) (f : PresentData) → own f.pan ≡ true
-      → present_reply keys (account_of f.pan (own_accounts own accounts)) (own_books books) f ≡ present_reply keys (account_of f.pan accounts) books f
+  present_own : (keys : HostKeys) (accounts : List AccountData) (books : Books) (f : PresentData) → own f.named.pan ≡ true
+      → present_reply keys (account_of f.named.pan (own_accounts own accounts)) (own_books books) f ≡ present_reply keys (account_of f.named.pan accounts) books f
   unfolding present_code
   present_own keys accounts books f is =
-      ap (λ (a : Option AccountData). present_reply keys a (own_books books) f) (account_own f.pan is accounts) ∙ by (account_of f.pan accounts)
+      ap (λ (a : Option AccountData). present_reply keys a (own_books books) f) (account_own f.named.pan is accounts) ∙ by (account_of f.named.pan accounts)
     where
       by : (account : Option AccountData) → present_reply keys account (own_books books) f ≡ present_reply keys account books f
       by None = refl
@@ -166,11 +166,11 @@ module _ (own : List ℕ → Bool) where
         → kept_in keys (own_accounts own accounts) (own_books books) message read ≡ own_books (kept_in keys accounts books message read)
     kept_in_own books message (Err fault) is = cc
     kept_in_own books message (Ok (Request f)) is =
-        let new = ap (λ (s : Said). kept_with (request_key f) (number_in f.t9f02) message s) (request_own keys accounts books f is) in
+        let new = ap (λ (s : Said). kept_with (request_key f) (number_in f.paid.t9f02) message s) (request_own keys accounts books f is) in
         ap (λ (k : Kept). record (own_books books) { requests = with_first (kept_at (request_key f) (own_kept books.requests)) k (own_kept books.requests) }) new
         ∙ ap (λ (ks : List Kept). record (own_books books) { requests = ks }) (first_own (request_key f) (new_request keys accounts books message f) books.requests is is)
     kept_in_own books message (Ok (Present f)) is =
-        let new = ap (λ (s : Said). kept_with (present_key f) (number_in f.t9f02) message s) (present_own keys accounts books f is) in
+        let new = ap (λ (s : Said). kept_with (present_key f) (number_in f.paid.t9f02) message s) (present_own keys accounts books f is) in
         ap (λ (k : Kept). record (own_books books) { presentments = with_first (kept_at (present_key f) (own_kept books.presentments)) k (own_kept books.presentments) }) new
         ∙ ap (λ (ks : List Kept). record (own_books books) { presentments = ks }) (first_own (present_key f) (new_present keys accounts books message f) books.presentments is is)
     kept_in_own books message (Ok (Reverse f)) is =
@@ -207,10 +207,10 @@ module _ (own : List ℕ → Bool) where
         → reply_in keys (own_accounts own accounts) (own_books books) message read ≡ reply_in keys accounts books message read
     reply_own books message (Err fault) are = refl
     reply_own books message (Ok (Request f)) are =
-        let is : own f.pan ≡ true = are f.pan refl in
+        let is : own f.named.pan ≡ true = are f.named.pan refl in
         again_own (request_key f) is books.requests message _ _ (ap said_bytes (request_own keys accounts books f is))
     reply_own books message (Ok (Present f)) are =
-        let is : own f.pan ≡ true = are f.pan refl in
+        let is : own f.named.pan ≡ true = are f.named.pan refl in
         again_own (present_key f) is books.presentments message _ _ (ap said_bytes (present_own keys accounts books f is))
     reply_own books message (Ok (Reverse f)) are =
         let is : own f.pan ≡ true = are f.pan refl in

@@ -21,8 +21,8 @@ given keys account books f true = refl
 given keys account books f false = refl
 
 right : (keys : HostKeys) (account : AccountData) (books : Books) (f : RequestData) (genuine : Bool)
-    → IfSome (said keys account books f genuine).auth (λ response. is_right_response (session_of keys.ac (request_key f)) f.t9f26 response ≡ true)
-right keys account books f true = response_is_right account.arpc account.status (session_of keys.ac (request_key f)) f.t9f26 (request_code keys account books f)
+    → IfSome (said keys account books f genuine).auth (λ response. is_right_response (session_of keys.ac (request_key f)) f.paid.t9f26 response ≡ true)
+right keys account books f true = response_is_right account.arpc account.status (session_of keys.ac (request_key f)) f.paid.t9f26 (request_code keys account books f)
 right keys account books f false = tt
 
 responds : (keys : HostKeys) (account : AccountData) (books : Books) (f : RequestData) → Responds keys account books f

@@ -10,8 +10,8 @@ use Rattle.issuer_host.specs.History.{host_reply, balance_after}
 
 abbrev pub pan_in : Result Incoming MessageFault → Option (List ℕ)
 pan_in (Err fault) = None
-pan_in (Ok (Request f)) = Some f.pan
-pan_in (Ok (Present f)) = Some f.pan
+pan_in (Ok (Request f)) = Some f.named.pan
+pan_in (Ok (Present f)) = Some f.named.pan
 pan_in (Ok (Reverse f)) = Some f.pan
 
 -- the account number that a message carries, none where it can't be read

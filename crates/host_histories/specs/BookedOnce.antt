@@ -34,7 +34,7 @@ pub record TakesAmount (keys : HostKeys) (accounts : List AccountData) (messages
   pub fields : PresentData
   pub presentment : option_map message_of (slice_get messages place) ≡ Some (Ok (Present fields))
   pub transaction : present_key fields ≡ key
-  pub amount : (count : ℕ) → place < count → amount_of (books_after keys accounts messages count) key ≡ number_in fields.t9f02
+  pub amount : (count : ℕ) → place < count → amount_of (books_after keys accounts messages count) key ≡ number_in fields.paid.t9f02
 
 -- of any list of messages at most one books a transaction, and that is a presentment of it
 pub record BookedOnce : Type 0 where

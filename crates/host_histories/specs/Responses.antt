@@ -14,7 +14,7 @@ use Rattle.issuer_host.specs.Response.{status_for, is_right_response}
 -- and they answer that cryptogram under the card's session key
 pub record Responds (keys : HostKeys) (account : AccountData) (books : Books) (f : RequestData) : Type 0 where
   pub given : is_some (request_reply keys (Some account) books f).auth ≡ request_is_genuine keys f
-  pub right : IfSome (request_reply keys (Some account) books f).auth (λ response. is_right_response (session_of keys.ac (request_key f)) f.t9f26 response ≡ true)
+  pub right : IfSome (request_reply keys (Some account) books f).auth (λ response. is_right_response (session_of keys.ac (request_key f)) f.paid.t9f26 response ≡ true)
 
 abbrev pub one_where : Bool → ℕ
 one_where test = (if test then 1 else 0)

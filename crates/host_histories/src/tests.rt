@@ -1,15 +1,23 @@
+mod faults;
 mod fixture;
 mod method_two;
+mod payments;
+mod refusals;
+mod scripts;
 mod table;
 
 use auth_message::Message;
+use faults::FAULTS;
 use fixture::{account_number, accounts_of, bytes_of, issuer_keys};
 use issuer_host::{Host, Method};
 use method_two::{ByStatus, HISTORIES_BY_METHOD_TWO};
+use payments::PAYMENTS;
+use refusals::REFUSALS;
+use scripts::SCRIPTS;
 use std::alloc::Global;
 use std::process::Abort;
 use std::test::Fail;
-use table::{HISTORIES, History, Turn};
+use table::{History, Turn};
 
 /// The message of a turn and its reply.
 fn said(turns: &[Turn], turn: &Turn) -> Option<(&'static str, &'static str)> {
@@ -76,12 +84,20 @@ fn hold(
     Ok(())
 }
 
-#[test]
-fn replies_are_those_of_independent_implementations(rt: HostRuntime) -> Result<(), Fail> {
-    for history in HISTORIES {
-        hold(&rt, rt.alloc(), &history, Method::One, 0)?;
+/// Gives each history to a host of its own, whose accounts authenticate the issuer by method 1.
+fn hold_each(rt: &impl Abort, alloc: Global, histories: &[History]) -> Result<(), Fail> {
+    for history in histories {
+        hold(rt, alloc, history, Method::One, 0)?;
     }
     Ok(())
+}
+
+#[test]
+fn replies_are_those_of_independent_implementations(rt: HostRuntime) -> Result<(), Fail> {
+    hold_each(&rt, rt.alloc(), &PAYMENTS)?;
+    hold_each(&rt, rt.alloc(), &REFUSALS)?;
+    hold_each(&rt, rt.alloc(), &FAULTS)?;
+    hold_each(&rt, rt.alloc(), &SCRIPTS)
 }
 
 #[test]

@@ -13,14 +13,14 @@ use Rattle.auth_message.specs.declared.message.Incoming.{Incoming}
 use Rattle.auth_message.specs.declared.message.Incoming.TheVariants.{Request, Present, Reverse}
 use Rattle.auth_message.specs.declared.reversal.ReversalFields.{ReversalFields}
 use Rattle.auth_message.specs.Accepted.{IsPresent, IsReversal}
-use Rattle.auth_message.specs.Data.{RequestData, PresentData}
+use Rattle.auth_message.specs.Data.{RequestData, PresentData, NamedSizes, PaidSizes}
 use Rattle.auth_message.specs.Field.{is_fixed, fixed_value}
 use Rattle.auth_message.specs.Fields.{◌>>=◌, given, behind, if_there, fixed_at, some_at, pan_at, fixed_if_there, ended}
 use Rattle.auth_message.specs.Groups.{named_at, paid_at}
 use Rattle.auth_message.specs.Message.{message_in, message_of}
-use Rattle.auth_message.specs.Messages.{present_of, request_at, present_at, reversal_at}
+use Rattle.auth_message.specs.Messages.{request_at, present_at, reversal_at}
 use Rattle.auth_message.specs.Outer.{outer_of}
-use Rattle.auth_message.specs.Spelling.{optional, spelled, named_fields, paid_fields, request_bytes, present_named, present_paid, reversal_named, present_fields, present_bytes, reversal_fields, reversal_bytes}
+use Rattle.auth_message.specs.Spelling.{optional, spelled, named_fields, paid_fields, request_bytes, reversal_named, present_fields, present_bytes, reversal_fields, reversal_bytes}
 use Rattle.auth_message.specs.Whole.{message_bytes, IsAccepted, IsMessage}
 use Rattle.iso_message.proofs.ItemsSpelled.{fixed_taken}
 use Rattle.iso_message.proofs.Steps.{read_of, same_read}
@@ -56,10 +56,6 @@ optional_sized items out is = by (given 0x5F34 items) is
         (subst (λ (q : Option (List ℕ)). IfSome q (λ v. length v ≡ 1)) (same_read found step.value inner.behind) one)
 
 -- what names the transaction
-record NamedSizes (named : Named) : Type 0 where
-  terminal : length named.t9f1c ≡ 8
-  number : IfSome named.t5f34 (λ v. length v ≡ 1)
-
 named_sized : (items : List ItemData) (out : Named × List ItemData) → named_at items ≡ Ok out → NamedSizes out.0
 unfolding named_at
 named_sized items out is =
@@ -67,23 +63,9 @@ named_sized items out is =
     let second = read_of (pan_at first.value.1) _ out first.behind in
     let third = read_of (fixed_if_there 1 true 0x5F34 second.value.1) _ out second.behind in
     subst (λ (q : Named × List ItemData). NamedSizes q.0) (same_read _ out third.behind)
-    (record { terminal = sized 8 false 0x9F1C items first.value first.made; number = optional_sized second.value.1 third.value third.made })
+    (sized 8 false 0x9F1C items first.value first.made, optional_sized second.value.1 third.value third.made)
 
--- the payment
-record PaidSizes (paid : Paid) : Type 0 where
-  amount : length paid.t9f02 ≡ 6
-  other : length paid.t9f03 ≡ 6
-  country : length paid.t9f1a ≡ 2
-  results : length paid.t95 ≡ 5
-  currency : length paid.t5f2a ≡ 2
-  date : length paid.t9a ≡ 3
-  trade : length paid.t9c ≡ 1
-  number : length paid.t9f37 ≡ 4
-  profile : length paid.t82 ≡ 2
-  counter : length paid.t9f36 ≡ 2
-  cryptogram : length paid.t9f26 ≡ 8
-
--- the last of its fields
+-- the last fields of the payment
 abbrev paid_rest : List ℕ → List ℕ → List ℕ → List ℕ → List ℕ → List ℕ → List ItemData → Result (Paid × List ItemData) MessageFault
 paid_rest a b c d e f items = do
   t9c ← fixed_at 1 false 0x9C items
@@ -116,20 +98,19 @@ rest_sized a b c d e f items out one two three four five six is =
     let ninth = read_of (fixed_at 2 false 0x82 eighth.value.1) _ out eighth.behind in
     let tenth = read_of (fixed_at 2 false 0x9F36 ninth.value.1) _ out ninth.behind in
     let last = read_of (fixed_at 8 false 0x9F26 tenth.value.1) _ out tenth.behind in
-    subst (λ (q : Paid × List ItemData). PaidSizes q.0) (same_read _ out last.behind)
-    (record {
-      amount = one;
-      other = two;
-      country = three;
-      results = four;
-      currency = five;
-      date = six;
-      trade = sized 1 false 0x9C items seventh.value seventh.made;
-      number = sized 4 false 0x9F37 seventh.value.1 eighth.value eighth.made;
-      profile = sized 2 false 0x82 eighth.value.1 ninth.value ninth.made;
-      counter = sized 2 false 0x9F36 ninth.value.1 tenth.value tenth.made;
-      cryptogram = sized 8 false 0x9F26 tenth.value.1 last.value last.made;
-    })
+    subst (λ (q : Paid × List ItemData). PaidSizes q.0) (same_read _ out last.behind) (
+      one,
+      two,
+      three,
+      four,
+      five,
+      six,
+      sized 1 false 0x9C items seventh.value seventh.made,
+      sized 4 false 0x9F37 seventh.value.1 eighth.value eighth.made,
+      sized 2 false 0x82 eighth.value.1 ninth.value ninth.made,
+      sized 2 false 0x9F36 ninth.value.1 tenth.value tenth.made,
+      sized 8 false 0x9F26 tenth.value.1 last.value last.made,
+    )
 
 paid_sized : (items : List ItemData) (out : Paid × List ItemData) → paid_at items ≡ Ok out → PaidSizes out.0
 unfolding paid_at
@@ -198,26 +179,26 @@ number_size (Some value) others one =
 named_size : (named : Named) (others : List (ℕ × List ℕ)) → NamedSizes named → HasPanLength named.pan
     → length (spelled (named_fields named ++ others)) ≤ 27 + length (spelled others)
 named_size named others so right =
-    let terminal : length (written 0x9F1C named.t9f1c) ≡ 11 = field_size 0x9F1C named.t9f1c 8 so.terminal in
+    let terminal : length (written 0x9F1C named.t9f1c) ≡ 11 = field_size 0x9F1C named.t9f1c 8 so.0 in
     let account : length (written 0x5A (pan_field named.pan)) ≤ 12 = field_short 0x5A (pan_field named.pan) 10 (pan_short named.pan right) (omega arith) in
-    let number = number_size named.t5f34 others so.number in
+    let number = number_size named.t5f34 others so.1 in
     simp length-append (omega (arith, terminal, account, number))
 
 -- a payment, the card's own data and a code
 payment_size : (paid : Paid) (t9f10 t8a : List ℕ) → PaidSizes paid → length t9f10 ≤ 32 → length t8a ≡ 2
     → length (spelled (paid_fields paid ++ ((0x9F10, t9f10) ∷ (0x8A, t8a) ∷ []))) ≤ 109
 payment_size paid t9f10 t8a so few two =
-    let amount : length (written 0x9F02 paid.t9f02) ≡ 9 = field_size 0x9F02 paid.t9f02 6 so.amount in
-    let other : length (written 0x9F03 paid.t9f03) ≡ 9 = field_size 0x9F03 paid.t9f03 6 so.other in
-    let country : length (written 0x9F1A paid.t9f1a) ≡ 5 = field_size 0x9F1A paid.t9f1a 2 so.country in
-    let results : length (written 0x95 paid.t95) ≡ 7 = field_size 0x95 paid.t95 5 so.results in
-    let currency : length (written 0x5F2A paid.t5f2a) ≡ 5 = field_size 0x5F2A paid.t5f2a 2 so.currency in
-    let date : length (written 0x9A paid.t9a) ≡ 5 = field_size 0x9A paid.t9a 3 so.date in
-    let trade : length (written 0x9C paid.t9c) ≡ 3 = field_size 0x9C paid.t9c 1 so.trade in
-    let number : length (written 0x9F37 paid.t9f37) ≡ 7 = field_size 0x9F37 paid.t9f37 4 so.number in
-    let profile : length (written 0x82 paid.t82) ≡ 4 = field_size 0x82 paid.t82 2 so.profile in
-    let counter : length (written 0x9F36 paid.t9f36) ≡ 5 = field_size 0x9F36 paid.t9f36 2 so.counter in
-    let cryptogram : length (written 0x9F26 paid.t9f26) ≡ 11 = field_size 0x9F26 paid.t9f26 8 so.cryptogram in
+    let amount : length (written 0x9F02 paid.t9f02) ≡ 9 = field_size 0x9F02 paid.t9f02 6 so.0 in
+    let other : length (written 0x9F03 paid.t9f03) ≡ 9 = field_size 0x9F03 paid.t9f03 6 so.1 in
+    let country : length (written 0x9F1A paid.t9f1a) ≡ 5 = field_size 0x9F1A paid.t9f1a 2 so.2 in
+    let results : length (written 0x95 paid.t95) ≡ 7 = field_size 0x95 paid.t95 5 so.3 in
+    let currency : length (written 0x5F2A paid.t5f2a) ≡ 5 = field_size 0x5F2A paid.t5f2a 2 so.4 in
+    let date : length (written 0x9A paid.t9a) ≡ 5 = field_size 0x9A paid.t9a 3 so.5 in
+    let trade : length (written 0x9C paid.t9c) ≡ 3 = field_size 0x9C paid.t9c 1 so.6 in
+    let number : length (written 0x9F37 paid.t9f37) ≡ 7 = field_size 0x9F37 paid.t9f37 4 so.7 in
+    let profile : length (written 0x82 paid.t82) ≡ 4 = field_size 0x82 paid.t82 2 so.8 in
+    let counter : length (written 0x9F36 paid.t9f36) ≡ 5 = field_size 0x9F36 paid.t9f36 2 so.9 in
+    let cryptogram : length (written 0x9F26 paid.t9f26) ≡ 11 = field_size 0x9F26 paid.t9f26 8 so.10 in
     let issuer : length (written 0x9F10 t9f10) ≤ 35 = field_short 0x9F10 t9f10 32 few (omega arith) in
     let code : length (written 0x8A t8a) ≡ 4 = field_size 0x8A t8a 2 two in
     simp length-append (omega (arith, amount, other, country, results, currency, date, trade, number, profile, counter, cryptogram, issuer, code))
@@ -230,8 +211,8 @@ outer_size tag content one few =
     (omega (arith, size, one), omega (arith, size, one, lengths, few))
 
 record PresentSizes (f : PresentData) : Type 0 where
-  named : NamedSizes (present_named f)
-  paid : PaidSizes (present_paid f)
+  named : NamedSizes f.named
+  paid : PaidSizes f.paid
   code : length f.t8a ≡ 2
 
 present_sized : (items : List ItemData) (f : PresentData) → present_at items ≡ Ok f → PresentSizes f
@@ -242,7 +223,7 @@ present_sized items f is =
     let third = read_of (some_at 0 32 0x9F10 second.value.1) _ f second.behind in
     let fourth = read_of (fixed_at 2 false 0x8A third.value.1) _ f third.behind in
     let fifth = read_of (ended fourth.value.1) _ f fourth.behind in
-    subst PresentSizes (same_read (present_of first.value.0 second.value.0 third.value.0 fourth.value.0) f fifth.behind)
+    subst PresentSizes (same_read (record { named = first.value.0; paid = second.value.0; t9f10 = third.value.0; t8a = fourth.value.0 }) f fifth.behind)
     (record {
       named = named_sized items first.value first.made;
       paid = paid_sized first.value.1 second.value second.made;
@@ -253,8 +234,8 @@ present_short : (items : List ItemData) (f : PresentData) → IsPresent f → pr
 unfolding present_bytes
 present_short items f right is =
     let so = present_sized items f is in
-    let behind_it = payment_size (present_paid f) f.t9f10 f.t8a so.paid right.issuer_data so.code in
-    let whole = named_size (present_named f) (paid_fields (present_paid f) ++ ((0x9F10, f.t9f10) ∷ (0x8A, f.t8a) ∷ [])) so.named right.account_number in
+    let behind_it = payment_size f.paid f.t9f10 f.t8a so.paid right.issuer_data so.code in
+    let whole = named_size f.named (paid_fields f.paid ++ ((0x9F10, f.t9f10) ∷ (0x8A, f.t8a) ∷ [])) so.named right.account_number in
     outer_size 0xE3 (spelled (present_fields f)) refl (omega (arith, whole, behind_it))
 
 record ReversalSizes (f : ReversalFields) : Type 0 where

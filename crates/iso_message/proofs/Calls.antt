@@ -105,20 +105,20 @@ unfolding reversal_bytes
 reversal_split f = refl
 
 request_read :
-    (place : ℕ) (f : RequestData) → IsRequest f → IsCoded f.t5f2a f.t9c → AllDecimal f.pan → RequestSizes f → length (spelled (request_items f)) < 10000
+    (place : ℕ) (f : RequestData) → IsRequest f → IsCoded f.paid.t5f2a f.paid.t9c → AllDecimal f.named.pan → RequestSizes f → length (spelled (request_items f)) < 10000
     → request_at (left place (request_rest f)) ≡ Ok f
 unfolding request_at
 request_read place f is coded decimal sizes small =
     let front = request_front_again place f (counted 4 (spelled (request_items f)) ++ []) is coded decimal sizes in
-    rw (front.1, items_again front.0 (request_items f) [] (request_tags f) small, request_in_again f is sizes, tied_again f.t9f02 f.t9f36) refl
+    rw (front.1, items_again front.0 (request_items f) [] (request_tags f) small, request_in_again f is sizes, tied_again f.paid.t9f02 f.paid.t9f36) refl
 
 present_read :
-    (place : ℕ) (f : PresentData) → IsPresent f → IsCoded f.t5f2a f.t9c → AllDecimal f.pan → PresentSizes f → length (spelled (present_items f)) < 10000
+    (place : ℕ) (f : PresentData) → IsPresent f → IsCoded f.paid.t5f2a f.paid.t9c → AllDecimal f.named.pan → PresentSizes f → length (spelled (present_items f)) < 10000
     → present_at (left place (present_rest f)) ≡ Ok f
 unfolding present_at
 present_read place f is coded decimal sizes small =
     let front = present_front_again place f (counted 4 (spelled (present_items f)) ++ []) is coded decimal sizes in
-    rw (front.1, items_again front.0 (present_items f) [] (present_tags f) small, present_in_again f is sizes, tied_again f.t9f02 f.t9f36) refl
+    rw (front.1, items_again front.0 (present_items f) [] (present_tags f) small, present_in_again f is sizes, tied_again f.paid.t9f02 f.paid.t9f36) refl
 
 reversal_read :
     (place : ℕ) (f : ReversalFields) → IsReversal f → is_code f.t5f2a ≡ true → AllDecimal f.pan → ReversalSizes f → length (spelled (reversal_items f)) < 10000
@@ -128,11 +128,11 @@ reversal_read place f is code decimal sizes small =
     let front = reversal_front_again place f (counted 4 (spelled (reversal_items f)) ++ []) is code decimal sizes in
     rw (front.1, items_again front.0 (reversal_items f) [] (reversal_tags f) small, reversal_in_again f is sizes, tied_again f.t9f02 f.t9f36) refl
 
-pub request_again : (f : RequestData) → IsRequest f → IsCoded f.t5f2a f.t9c → AllDecimal f.pan → RequestSizes f → length (spelled (request_items f)) < 10000 → call_of (request_bytes f) ≡ Ok (Request f)
+pub request_again : (f : RequestData) → IsRequest f → IsCoded f.paid.t5f2a f.paid.t9c → AllDecimal f.named.pan → RequestSizes f → length (spelled (request_items f)) < 10000 → call_of (request_bytes f) ≡ Ok (Request f)
 request_again f is coded decimal sizes small =
     ap call_of (request_split f) ∙ rw (call_kind_again kind.Request (request_rest f), request_read 4 f is coded decimal sizes small) refl
 
-pub present_again : (f : PresentData) → IsPresent f → IsCoded f.t5f2a f.t9c → AllDecimal f.pan → PresentSizes f → length (spelled (present_items f)) < 10000 → call_of (present_bytes f) ≡ Ok (Present f)
+pub present_again : (f : PresentData) → IsPresent f → IsCoded f.paid.t5f2a f.paid.t9c → AllDecimal f.named.pan → PresentSizes f → length (spelled (present_items f)) < 10000 → call_of (present_bytes f) ≡ Ok (Present f)
 present_again f is coded decimal sizes small =
     ap call_of (present_split f) ∙ rw (call_kind_again kind.Presentment (present_rest f), present_read 4 f is coded decimal sizes small) refl
 
@@ -151,7 +151,7 @@ tied_numbers numbers t9f36 u is =
 record IsRequestCall (before : Left) (f : RequestData) : Type 0 where
   exact : before.bytes ≡ request_rest f
   accepted : IsRequest f
-  codes : IsCoded f.t5f2a f.t9c
+  codes : IsCoded f.paid.t5f2a f.paid.t9c
 
 request_exact : (before : Left) (f : RequestData) → request_at before ≡ Ok f → IsRequestCall before f
 unfolding request_at
@@ -159,14 +159,14 @@ request_exact before f is =
     let first = made_of (request_front_at before) _ f is in
     let second = made_of (items_at first.value.1) _ f first.behind in
     let third = made_of (in_55 (request_in first.value.0 second.value.0.1)) _ f second.behind in
-    let fourth = made_of (tied first.value.0.numbers third.value.t9f36) _ f third.behind in
+    let fourth = made_of (tied first.value.0.numbers third.value.paid.t9f36) _ f third.behind in
     let fifth = made_of (nothing_left second.value.1) _ f fourth.behind in
     let last : third.value ≡ f = cc in
     let front = request_front_spelled before first.value.0 first.value.1 first.made in
     let items = items_spelled first.value.1 second.value.0.0 second.value.0.1 second.value.1 second.made in
     let taken = request_taken first.value.0 second.value.0.1 third.value (from_55 (request_in first.value.0 second.value.0.1) third.value third.made) in
     let found : RequestData = request_of first.value.0 taken.t5f34 taken.t5f24 taken.chip taken.t9f10 in
-    let counter : third.value.t9f36 ≡ taken.chip.t9f36 = ap (λ (d : RequestData). d.t9f36) (sym taken.is) in
+    let counter : third.value.paid.t9f36 ≡ taken.chip.t9f36 = ap (λ (d : RequestData). d.paid.t9f36) (sym taken.is) in
     let numbers = tied_numbers first.value.0.numbers taken.chip.t9f36 fourth.value (ap (tied first.value.0.numbers) (sym counter) ∙ fourth.made) in
     let behind : first.value.1.bytes ≡ counted 4 (spelled (request_items found)) ++ [] =
     items.front
@@ -194,7 +194,7 @@ request_exact before f is =
 record IsPresentCall (before : Left) (f : PresentData) : Type 0 where
   exact : before.bytes ≡ present_rest f
   accepted : IsPresent f
-  codes : IsCoded f.t5f2a f.t9c
+  codes : IsCoded f.paid.t5f2a f.paid.t9c
 
 present_exact : (before : Left) (f : PresentData) → present_at before ≡ Ok f → IsPresentCall before f
 unfolding present_at
@@ -202,14 +202,14 @@ present_exact before f is =
     let first = made_of (present_front_at before) _ f is in
     let second = made_of (items_at first.value.1) _ f first.behind in
     let third = made_of (in_55 (present_in first.value.0 second.value.0.1)) _ f second.behind in
-    let fourth = made_of (tied first.value.0.numbers third.value.t9f36) _ f third.behind in
+    let fourth = made_of (tied first.value.0.numbers third.value.paid.t9f36) _ f third.behind in
     let fifth = made_of (nothing_left second.value.1) _ f fourth.behind in
     let last : third.value ≡ f = cc in
     let front = present_front_spelled before first.value.0 first.value.1 first.made in
     let items = items_spelled first.value.1 second.value.0.0 second.value.0.1 second.value.1 second.made in
     let taken = present_taken first.value.0 second.value.0.1 third.value (from_55 (present_in first.value.0 second.value.0.1) third.value third.made) in
     let found : PresentData = present_of first.value.0 taken.t5f34 taken.chip taken.t9f10 in
-    let counter : third.value.t9f36 ≡ taken.chip.t9f36 = ap (λ (d : PresentData). d.t9f36) (sym taken.is) in
+    let counter : third.value.paid.t9f36 ≡ taken.chip.t9f36 = ap (λ (d : PresentData). d.paid.t9f36) (sym taken.is) in
     let numbers = tied_numbers first.value.0.numbers taken.chip.t9f36 fourth.value (ap (tied first.value.0.numbers) (sym counter) ∙ fourth.made) in
     let behind : first.value.1.bytes ≡ counted 4 (spelled (present_items found)) ++ [] =
     items.front

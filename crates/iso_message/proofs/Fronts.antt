@@ -70,49 +70,49 @@ unfolding pin_at
 block_again place None rest sized = (place, refl)
 block_again place (Some block) rest sized = (place + 8, pin_again place block rest sized)
 
-pub request_front_again : (place : ℕ) (f : RequestData) (rest : List ℕ) → IsRequest f → IsCoded f.t5f2a f.t9c → AllDecimal f.pan → RequestSizes f
+pub request_front_again : (place : ℕ) (f : RequestData) (rest : List ℕ) → IsRequest f → IsCoded f.paid.t5f2a f.paid.t9c → AllDecimal f.named.pan → RequestSizes f
     → (next : ℕ) × (request_front_at (left place (request_front_bytes (request_front f) rest)) ≡ Ok (request_front f, left next rest))
 unfolding request_front_at
 request_front_again place f rest is coded decimal sizes =
     let tail : List ℕ = unwrap_or f.tdf11 [] ++ rest in
-    let acceptor_tail : List ℕ = (terminal_field f.t9f1c).1 ++ ((currency_field f.t5f2a).1 ++ tail) in
-    let numbers_tail : List ℕ = (amount_field f.t9f02).1 ++ ((audit_field f.t9f36).1 ++ ((reference_field f.t9f36).1 ++ acceptor_tail)) in
+    let acceptor_tail : List ℕ = (terminal_field f.named.t9f1c).1 ++ ((currency_field f.paid.t5f2a).1 ++ tail) in
+    let numbers_tail : List ℕ = (amount_field f.paid.t9f02).1 ++ ((audit_field f.paid.t9f36).1 ++ ((reference_field f.paid.t9f36).1 ++ acceptor_tail)) in
     let first = place + 8 in
-    let second = after_account first f.pan in
+    let second = after_account first f.named.pan in
     let third = second + 6 in
     let fourth = ((third + 12) + 6) + 12 in
     let fifth = (fourth + 8) + 3 in
-    let block = block_again fifth f.tdf11 rest sizes.14 in (
+    let block = block_again fifth f.tdf11 rest sizes.3 in (
       block.0,
       rw (
-        request_bitmap_again place (is_some f.tdf11) ((account_field f.pan).1 ++ ((processing_field f.t9c).1 ++ numbers_tail)),
-        account_again first f.pan ((processing_field f.t9c).1 ++ numbers_tail) is.account_number decimal,
-        processing_again second f.t9c numbers_tail sizes.9 coded.transaction_type,
-        numbers_again third f.t9f02 f.t9f36 acceptor_tail sizes.3 is.amount,
-        acceptor_again fourth f.t9f1c f.t5f2a tail sizes.0 sizes.7 coded.currency,
+        request_bitmap_again place (is_some f.tdf11) ((account_field f.named.pan).1 ++ ((processing_field f.paid.t9c).1 ++ numbers_tail)),
+        account_again first f.named.pan ((processing_field f.paid.t9c).1 ++ numbers_tail) is.account_number decimal,
+        processing_again second f.paid.t9c numbers_tail sizes.2.6 coded.transaction_type,
+        numbers_again third f.paid.t9f02 f.paid.t9f36 acceptor_tail sizes.2.0 is.amount,
+        acceptor_again fourth f.named.t9f1c f.paid.t5f2a tail sizes.0.0 sizes.2.4 coded.currency,
         block.1,
       ) refl,
     )
 
-pub present_front_again : (place : ℕ) (f : PresentData) (rest : List ℕ) → IsPresent f → IsCoded f.t5f2a f.t9c → AllDecimal f.pan → PresentSizes f
+pub present_front_again : (place : ℕ) (f : PresentData) (rest : List ℕ) → IsPresent f → IsCoded f.paid.t5f2a f.paid.t9c → AllDecimal f.named.pan → PresentSizes f
     → (next : ℕ) × (present_front_at (left place (present_front_bytes (present_front f) rest)) ≡ Ok (present_front f, left next rest))
 unfolding present_front_at
 present_front_again place f rest is coded decimal sizes =
-    let acceptor_tail : List ℕ = (terminal_field f.t9f1c).1 ++ ((currency_field f.t5f2a).1 ++ rest) in
-    let numbers_tail : List ℕ = (amount_field f.t9f02).1 ++ ((audit_field f.t9f36).1 ++ ((reference_field f.t9f36).1 ++ (f.t8a ++ acceptor_tail))) in
+    let acceptor_tail : List ℕ = (terminal_field f.named.t9f1c).1 ++ ((currency_field f.paid.t5f2a).1 ++ rest) in
+    let numbers_tail : List ℕ = (amount_field f.paid.t9f02).1 ++ ((audit_field f.paid.t9f36).1 ++ ((reference_field f.paid.t9f36).1 ++ (f.t8a ++ acceptor_tail))) in
     let first = place + 8 in
-    let second = after_account first f.pan in
+    let second = after_account first f.named.pan in
     let third = second + 6 in
     let fourth = ((third + 12) + 6) + 12 in
     let fifth = fourth + 2 in (
       (fifth + 8) + 3,
       rw (
-        bits_again place (bitmap present_numbers) ((account_field f.pan).1 ++ ((processing_field f.t9c).1 ++ numbers_tail)) (bitmap_size present_numbers),
-        account_again first f.pan ((processing_field f.t9c).1 ++ numbers_tail) is.account_number decimal,
-        processing_again second f.t9c numbers_tail sizes.8 coded.transaction_type,
-        numbers_again third f.t9f02 f.t9f36 (f.t8a ++ acceptor_tail) sizes.2 is.amount,
-        part_again fourth fourth f.t8a acceptor_tail 2 sizes.13,
-        acceptor_again fifth f.t9f1c f.t5f2a rest sizes.0 sizes.6 coded.currency,
+        bits_again place (bitmap present_numbers) ((account_field f.named.pan).1 ++ ((processing_field f.paid.t9c).1 ++ numbers_tail)) (bitmap_size present_numbers),
+        account_again first f.named.pan ((processing_field f.paid.t9c).1 ++ numbers_tail) is.account_number decimal,
+        processing_again second f.paid.t9c numbers_tail sizes.1.6 coded.transaction_type,
+        numbers_again third f.paid.t9f02 f.paid.t9f36 (f.t8a ++ acceptor_tail) sizes.1.0 is.amount,
+        part_again fourth fourth f.t8a acceptor_tail 2 sizes.2,
+        acceptor_again fifth f.named.t9f1c f.paid.t5f2a rest sizes.0.0 sizes.1.4 coded.currency,
       ) refl,
     )
 

@@ -1,9 +1,10 @@
 -- The items of field 55 are read back.
 use Rattle.std.proofs.Common.{◌≡◌, ℕ, true, false, ◌&&◌, IfSome, ◌≤◌, ◌==◌, nat_le, List, [], ◌∷◌, ◌++◌, length, Option, Some, None, Ok, refl, arith}
 use Rattle.std.proofs.lemmas.Bool.{le-leb}
+use Rattle.auth_message.specs.declared.groups.Paid.{Paid}
 use Rattle.auth_message.specs.declared.reversal.ReversalFields.{ReversalFields}
 use Rattle.auth_message.specs.Accepted.{AreDigits, IsRequest, IsPresent, IsReversal}
-use Rattle.auth_message.specs.Data.{RequestData, PresentData}
+use Rattle.auth_message.specs.Data.{RequestData, PresentData, PaidSizes}
 use Rattle.auth_message.specs.Field.{is_fixed}
 use Rattle.auth_message.proofs.Again.{RequestSizes, PresentSizes, ReversalSizes}
 use Rattle.auth_message.proofs.ReadBack.{IsOther, IsOptional, next_place, fixed_again, some_again, optional_again, any_bytes, digit_bytes}
@@ -12,24 +13,24 @@ use Rattle.iso_message.specs.declared.chip.ChipData.{ChipData}
 use Rattle.iso_message.specs.declared.front.RequestFront.{RequestFront}
 use Rattle.iso_message.specs.declared.front.PresentFront.{PresentFront}
 use Rattle.iso_message.specs.declared.front.ReversalFront.{ReversalFront}
-use Rattle.iso_message.specs.Items.{chip_items, chip_at, request_items, request_chip, request_in, present_items, present_chip, present_in, reversal_items, reversal_in}
+use Rattle.iso_message.specs.Items.{chip_items, chip_at, request_items, chip_of, request_in, present_items, present_in, reversal_items, reversal_in}
 use Rattle.iso_message.proofs.FrontAgain.{numbers_of}
 
 -- the fields before field 55 of each call
 abbrev pub request_front : RequestData → RequestFront
-request_front f = record { pan = f.pan; t9c = f.t9c; numbers = numbers_of f.t9f02 f.t9f36; acceptor = record { t9f1c = f.t9f1c; t5f2a = f.t5f2a }; tdf11 = f.tdf11 }
+request_front f = record { pan = f.named.pan; t9c = f.paid.t9c; numbers = numbers_of f.paid.t9f02 f.paid.t9f36; acceptor = record { t9f1c = f.named.t9f1c; t5f2a = f.paid.t5f2a }; tdf11 = f.tdf11 }
 
 abbrev pub present_front : PresentData → PresentFront
-present_front f = record { pan = f.pan; t9c = f.t9c; numbers = numbers_of f.t9f02 f.t9f36; t8a = f.t8a; acceptor = record { t9f1c = f.t9f1c; t5f2a = f.t5f2a } }
+present_front f = record { pan = f.named.pan; t9c = f.paid.t9c; numbers = numbers_of f.paid.t9f02 f.paid.t9f36; t8a = f.t8a; acceptor = record { t9f1c = f.named.t9f1c; t5f2a = f.paid.t5f2a } }
 
 abbrev pub reversal_front : ReversalFields → ReversalFront
 reversal_front f = record { pan = f.pan; numbers = numbers_of f.t9f02 f.t9f36; t8a = f.t8a; acceptor = record { t9f1c = f.t9f1c; t5f2a = f.t5f2a } }
 
 pub request_tags : (f : RequestData) → are_tags (request_items f) ≡ true
-request_tags f = optional_front 0x5F34 f.t5f34 _ refl refl
+request_tags f = optional_front 0x5F34 f.named.t5f34 _ refl refl
 
 pub present_tags : (f : PresentData) → are_tags (present_items f) ≡ true
-present_tags f = optional_front 0x5F34 f.t5f34 _ refl refl
+present_tags f = optional_front 0x5F34 f.named.t5f34 _ refl refl
 
 pub reversal_tags : (f : ReversalFields) → are_tags (reversal_items f) ≡ true
 reversal_tags f = optional_front 0x5F34 f.t5f34 _ refl refl
@@ -78,24 +79,28 @@ chip_again place chip rest is =
       ) refl,
     )
 
+-- the items of a payment are of their sizes
+chip_is_of : (paid : Paid) → AreDigits paid.t9f03 → AreDigits paid.t9a → PaidSizes paid → IsChip (chip_of paid)
+chip_is_of paid other date sizes = record {
+  t9f03 = digit_bytes 6 paid.t9f03 sizes.1 other;
+  t9f1a = any_bytes 2 paid.t9f1a sizes.2;
+  t95 = any_bytes 5 paid.t95 sizes.3;
+  t9a = digit_bytes 3 paid.t9a sizes.5 date;
+  t9f37 = any_bytes 4 paid.t9f37 sizes.7;
+  t82 = any_bytes 2 paid.t82 sizes.8;
+  t9f36 = any_bytes 2 paid.t9f36 sizes.9;
+  t9f26 = any_bytes 8 paid.t9f26 sizes.10;
+}
+
 pub request_in_again : (f : RequestData) → IsRequest f → RequestSizes f → request_in (request_front f) (placed 0 (request_items f)) ≡ Ok f
 unfolding request_in
 request_in_again f is sizes =
-    let chip : ChipData = request_chip f in
-    let chip_is : IsChip chip = record {
-      t9f03 = digit_bytes 6 f.t9f03 sizes.4 is.other_amount;
-      t9f1a = any_bytes 2 f.t9f1a sizes.5;
-      t95 = any_bytes 5 f.t95 sizes.6;
-      t9a = digit_bytes 3 f.t9a sizes.8 is.date;
-      t9f37 = any_bytes 4 f.t9f37 sizes.10;
-      t82 = any_bytes 2 f.t82 sizes.11;
-      t9f36 = any_bytes 2 f.t9f36 sizes.12;
-      t9f26 = any_bytes 8 f.t9f26 sizes.13;
-    } in
+    let chip : ChipData = chip_of f.paid in
+    let chip_is = chip_is_of f.paid is.other_amount is.date sizes.2 in
     let last : List (ℕ × List ℕ) = (0x9F10, f.t9f10) ∷ [] in
     let middle : List (ℕ × List ℕ) = chip_items chip ++ last in
-    let number = optional_again 1 true 0x5F34 0 f.t5f34 ((0x5F24, f.t5f24) ∷ middle) (sequence f.t5f34 sizes.1 is.sequence_number) (headed 0x5F34 0x5F24 f.t5f24 middle refl) in
-    let expiry = fixed_again 3 true 0x5F24 number.0 f.t5f24 middle (digit_bytes 3 f.t5f24 sizes.2 is.expiry) in
+    let number = optional_again 1 true 0x5F34 0 f.named.t5f34 ((0x5F24, f.t5f24) ∷ middle) (sequence f.named.t5f34 sizes.0.1 is.sequence_number) (headed 0x5F34 0x5F24 f.t5f24 middle refl) in
+    let expiry = fixed_again 3 true 0x5F24 number.0 f.t5f24 middle (digit_bytes 3 f.t5f24 sizes.1 is.expiry) in
     let found = chip_again (next_place number.0 0x5F24 f.t5f24) chip last chip_is in
     let issuer = some_again 0 32 0x9F10 found.0 f.t9f10 [] (at_most f.t9f10 32 is.issuer_data) in
     rw (number.1, expiry, found.1, issuer) refl
@@ -103,19 +108,10 @@ request_in_again f is sizes =
 pub present_in_again : (f : PresentData) → IsPresent f → PresentSizes f → present_in (present_front f) (placed 0 (present_items f)) ≡ Ok f
 unfolding present_in
 present_in_again f is sizes =
-    let chip : ChipData = present_chip f in
-    let chip_is : IsChip chip = record {
-      t9f03 = digit_bytes 6 f.t9f03 sizes.3 is.other_amount;
-      t9f1a = any_bytes 2 f.t9f1a sizes.4;
-      t95 = any_bytes 5 f.t95 sizes.5;
-      t9a = digit_bytes 3 f.t9a sizes.7 is.date;
-      t9f37 = any_bytes 4 f.t9f37 sizes.9;
-      t82 = any_bytes 2 f.t82 sizes.10;
-      t9f36 = any_bytes 2 f.t9f36 sizes.11;
-      t9f26 = any_bytes 8 f.t9f26 sizes.12;
-    } in
+    let chip : ChipData = chip_of f.paid in
+    let chip_is = chip_is_of f.paid is.other_amount is.date sizes.1 in
     let last : List (ℕ × List ℕ) = (0x9F10, f.t9f10) ∷ [] in
-    let number = optional_again 1 true 0x5F34 0 f.t5f34 (chip_items chip ++ last) (sequence f.t5f34 sizes.1 is.sequence_number) (headed 0x5F34 0x9F03 f.t9f03 _ refl) in
+    let number = optional_again 1 true 0x5F34 0 f.named.t5f34 (chip_items chip ++ last) (sequence f.named.t5f34 sizes.0.1 is.sequence_number) (headed 0x5F34 0x9F03 f.paid.t9f03 _ refl) in
     let found = chip_again number.0 chip last chip_is in
     let issuer = some_again 0 32 0x9F10 found.0 f.t9f10 [] (at_most f.t9f10 32 is.issuer_data) in
     rw (number.1, found.1, issuer) refl

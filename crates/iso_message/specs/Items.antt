@@ -3,11 +3,14 @@
 use Rattle.std.specs.Prelude.{ℕ, true, false, List, [], ◌∷◌, ◌++◌, Option, Result, Ok}
 use Rattle.ber_tlv.specs.Item.{ItemData}
 use Rattle.auth_message.specs.declared.fault.MessageFault.{MessageFault}
+use Rattle.auth_message.specs.declared.groups.Paid.{Paid}
 use Rattle.auth_message.specs.declared.reversal.ReversalFields.{ReversalFields}
 use Rattle.auth_message.specs.Data.{RequestData, PresentData}
 use Rattle.auth_message.specs.Fields.{◌>>=◌, fixed_at, some_at, fixed_if_there, ended}
 use Rattle.auth_message.specs.Reply.{ReplyData, auth_at, scripts_at}
 use Rattle.auth_message.specs.Spelling.{optional}
+use Rattle.iso_message.specs.declared.front.Acceptor.{Acceptor}
+use Rattle.iso_message.specs.declared.front.Numbers.{Numbers}
 use Rattle.iso_message.specs.declared.front.RequestFront.{RequestFront}
 use Rattle.iso_message.specs.declared.front.PresentFront.{PresentFront}
 use Rattle.iso_message.specs.declared.front.ReversalFront.{ReversalFront}
@@ -26,38 +29,43 @@ chip_items chip =
     ∷ (0x9F26, chip.t9f26)
     ∷ []
 
-abbrev pub request_chip : RequestData → ChipData
-request_chip f = record {
-  t9f03 = f.t9f03;
-  t9f1a = f.t9f1a;
-  t95 = f.t95;
-  t9a = f.t9a;
-  t9f37 = f.t9f37;
-  t82 = f.t82;
-  t9f36 = f.t9f36;
-  t9f26 = f.t9f26;
+-- these of a payment
+abbrev pub chip_of : Paid → ChipData
+chip_of paid = record {
+  t9f03 = paid.t9f03;
+  t9f1a = paid.t9f1a;
+  t95 = paid.t95;
+  t9a = paid.t9a;
+  t9f37 = paid.t9f37;
+  t82 = paid.t82;
+  t9f36 = paid.t9f36;
+  t9f26 = paid.t9f26;
+}
+
+-- the payment whose other fields stand before field 55
+abbrev pub paid_of : Numbers → Acceptor → List ℕ → ChipData → Paid
+paid_of numbers acceptor t9c chip = record {
+  t9f02 = numbers.t9f02;
+  t9f03 = chip.t9f03;
+  t9f1a = chip.t9f1a;
+  t95 = chip.t95;
+  t5f2a = acceptor.t5f2a;
+  t9a = chip.t9a;
+  t9c = t9c;
+  t9f37 = chip.t9f37;
+  t82 = chip.t82;
+  t9f36 = chip.t9f36;
+  t9f26 = chip.t9f26;
 }
 
 -- of a request: 5F34 if it is there, 5F24, the shared ones and 9F10
 abbrev pub request_items : RequestData → List (ℕ × List ℕ)
 request_items f =
-    optional 0x5F34 f.t5f34 ++ ((0x5F24, f.t5f24) ∷ (chip_items (request_chip f) ++ (0x9F10, f.t9f10) ∷ []))
-
-abbrev pub present_chip : PresentData → ChipData
-present_chip f = record {
-  t9f03 = f.t9f03;
-  t9f1a = f.t9f1a;
-  t95 = f.t95;
-  t9a = f.t9a;
-  t9f37 = f.t9f37;
-  t82 = f.t82;
-  t9f36 = f.t9f36;
-  t9f26 = f.t9f26;
-}
+    optional 0x5F34 f.named.t5f34 ++ ((0x5F24, f.t5f24) ∷ (chip_items (chip_of f.paid) ++ (0x9F10, f.t9f10) ∷ []))
 
 -- of a presentment: the same without 5F24
 abbrev pub present_items : PresentData → List (ℕ × List ℕ)
-present_items f = optional 0x5F34 f.t5f34 ++ (chip_items (present_chip f) ++ (0x9F10, f.t9f10) ∷ [])
+present_items f = optional 0x5F34 f.named.t5f34 ++ (chip_items (chip_of f.paid) ++ (0x9F10, f.t9f10) ∷ [])
 
 -- of a reversal: 5F34 if it is there, and 9F36
 abbrev pub reversal_items : ReversalFields → List (ℕ × List ℕ)
@@ -93,21 +101,9 @@ chip_at items = do
 
 abbrev pub request_of : RequestFront → Option (List ℕ) → List ℕ → ChipData → List ℕ → RequestData
 request_of front t5f34 t5f24 chip t9f10 = record {
-  t9f1c = front.acceptor.t9f1c;
-  pan = front.pan;
-  t5f34 = t5f34;
+  named = record { t9f1c = front.acceptor.t9f1c; pan = front.pan; t5f34 = t5f34 };
   t5f24 = t5f24;
-  t9f02 = front.numbers.t9f02;
-  t9f03 = chip.t9f03;
-  t9f1a = chip.t9f1a;
-  t95 = chip.t95;
-  t5f2a = front.acceptor.t5f2a;
-  t9a = chip.t9a;
-  t9c = front.t9c;
-  t9f37 = chip.t9f37;
-  t82 = chip.t82;
-  t9f36 = chip.t9f36;
-  t9f26 = chip.t9f26;
+  paid = paid_of front.numbers front.acceptor front.t9c chip;
   t9f10 = t9f10;
   tdf11 = front.tdf11;
 }
@@ -124,20 +120,8 @@ request_in front items = do
 
 abbrev pub present_of : PresentFront → Option (List ℕ) → ChipData → List ℕ → PresentData
 present_of front t5f34 chip t9f10 = record {
-  t9f1c = front.acceptor.t9f1c;
-  pan = front.pan;
-  t5f34 = t5f34;
-  t9f02 = front.numbers.t9f02;
-  t9f03 = chip.t9f03;
-  t9f1a = chip.t9f1a;
-  t95 = chip.t95;
-  t5f2a = front.acceptor.t5f2a;
-  t9a = chip.t9a;
-  t9c = front.t9c;
-  t9f37 = chip.t9f37;
-  t82 = chip.t82;
-  t9f36 = chip.t9f36;
-  t9f26 = chip.t9f26;
+  named = record { t9f1c = front.acceptor.t9f1c; pan = front.pan; t5f34 = t5f34 };
+  paid = paid_of front.numbers front.acceptor front.t9c chip;
   t9f10 = t9f10;
   t8a = front.t8a;
 }

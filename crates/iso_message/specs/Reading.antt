@@ -38,7 +38,7 @@ request_at left = do
   front ← request_front_at left
   items ← items_at front.1
   found ← in_55 (request_in front.0 items.0.1)
-  same ← tied front.0.numbers found.t9f36
+  same ← tied front.0.numbers found.paid.t9f36
   end ← nothing_left items.1
   Ok found
 
@@ -47,7 +47,7 @@ present_at left = do
   front ← present_front_at left
   items ← items_at front.1
   found ← in_55 (present_in front.0 items.0.1)
-  same ← tied front.0.numbers found.t9f36
+  same ← tied front.0.numbers found.paid.t9f36
   end ← nothing_left items.1
   Ok found
 

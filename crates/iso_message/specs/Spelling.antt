@@ -63,26 +63,26 @@ in_fields type fields = type ++ (bitmap (map (λ field. field.0) fields) ++ cont
 unfoldable pub request_bytes : RequestData → List ℕ
 request_bytes f =
     in_fields (call_type kind.Request)
-    (account_field f.pan
-    ∷ processing_field f.t9c
-    ∷ amount_field f.t9f02
-    ∷ audit_field f.t9f36
-    ∷ reference_field f.t9f36
-    ∷ terminal_field f.t9f1c
-    ∷ currency_field f.t5f2a
+    (account_field f.named.pan
+    ∷ processing_field f.paid.t9c
+    ∷ amount_field f.paid.t9f02
+    ∷ audit_field f.paid.t9f36
+    ∷ reference_field f.paid.t9f36
+    ∷ terminal_field f.named.t9f1c
+    ∷ currency_field f.paid.t5f2a
     ∷ (optional 52 f.tdf11 ++ items_field (request_items f) ∷ []))
 
 unfoldable pub present_bytes : PresentData → List ℕ
 present_bytes f =
     in_fields (call_type kind.Presentment)
-    (account_field f.pan
-    ∷ processing_field f.t9c
-    ∷ amount_field f.t9f02
-    ∷ audit_field f.t9f36
-    ∷ reference_field f.t9f36
+    (account_field f.named.pan
+    ∷ processing_field f.paid.t9c
+    ∷ amount_field f.paid.t9f02
+    ∷ audit_field f.paid.t9f36
+    ∷ reference_field f.paid.t9f36
     ∷ code_field f.t8a
-    ∷ terminal_field f.t9f1c
-    ∷ currency_field f.t5f2a
+    ∷ terminal_field f.named.t9f1c
+    ∷ currency_field f.paid.t5f2a
     ∷ items_field (present_items f)
     ∷ [])
 

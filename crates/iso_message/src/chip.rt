@@ -1,9 +1,12 @@
 //! The items of field 55.
 ghost use Rattle.std.specs.Prelude.{◌≡◌, Ok, Err, MatchResult};
-ghost use Rattle.iso_message.specs.Items.{chip_at, request_in as request_items, present_in as present_items, reversal_in as reversal_items, reply_in as reply_items};
+ghost use Rattle.auth_message.specs.Data.{PaidSizes};
+ghost use Rattle.iso_message.specs.Items.{chip_at, chip_of, paid_of, request_in as request_items, present_in as present_items, reversal_in as reversal_items, reply_in as reply_items};
 
-use crate::front::{Acceptor, PresentFront, RequestFront, ReversalFront};
-use auth_message::{Fields, MessageFault, PresentFields, Reply, RequestFields, ReversalFields};
+use crate::front::{Acceptor, Numbers, PresentFront, RequestFront, ReversalFront};
+use auth_message::{
+    Fields, MessageFault, Named, Paid, PresentFields, Reply, RequestFields, ReversalFields,
+};
 
 /// What reading items gives, or why they are none of a message.
 type Found<T> = Result<T, MessageFault>;
@@ -20,6 +23,22 @@ pub struct ChipData {
     pub t82: [u8; 2],
     pub t9f36: [u8; 2],
     pub t9f26: [u8; 8],
+}
+
+/// These of a payment.
+pub fn chip_data(paid: &Paid) -> ChipData
+    ensures { result ≡ chip_of paid.now }
+{
+    ChipData {
+        t9f03: paid.t9f03,
+        t9f1a: paid.t9f1a,
+        t95: paid.t95,
+        t9a: paid.t9a,
+        t9f37: paid.t9f37,
+        t82: paid.t82,
+        t9f36: paid.t9f36,
+        t9f26: paid.t9f26,
+    }
 }
 
 /// Reads these items.
@@ -47,45 +66,46 @@ fn read_chip(fields: &mut Fields) -> Found<ChipData>
     })
 }
 
+/// The payment whose other fields stand before field 55.
+fn paid(numbers: &Numbers, acceptor: &Acceptor, t9c: [u8; 1], chip: &ChipData) -> Paid
+    ensures value { result ≡ paid_of numbers.now acceptor.now t9c chip.now }
+    ensures sizes { PaidSizes result }
+{
+    Paid {
+        t9f02: numbers.t9f02,
+        t9f03: chip.t9f03,
+        t9f1a: chip.t9f1a,
+        t95: chip.t95,
+        t5f2a: acceptor.t5f2a,
+        t9a: chip.t9a,
+        t9c,
+        t9f37: chip.t9f37,
+        t82: chip.t82,
+        t9f36: chip.t9f36,
+        t9f26: chip.t9f26,
+    }
+}
+
 /// The request whose other fields are these.
 #[tactic(auto, unfolding(crate::specs::Items::request_in))]
 pub fn request_in<'a>(front: RequestFront, fields: &mut Fields<'a>) -> Found<RequestFields<'a>>
     ensures { MatchResult result (λ found. request_items front fields.old.left ≡ Ok found) (λ fault. request_items front fields.old.left ≡ Err fault) }
 {
-    let Acceptor { t9f1c, t5f2a } = front.acceptor;
-    let t9f02 = front.numbers.t9f02;
-    let t9c = front.t9c;
+    let t9f1c = front.acceptor.t9f1c;
     let tdf11 = front.tdf11;
     let t5f34 = fields.fixed_if_there(0x5F34, true)?;
     let t5f24 = fields.fixed(0x5F24, true)?;
-    let ChipData {
-        t9f03,
-        t9f1a,
-        t95,
-        t9a,
-        t9f37,
-        t82,
-        t9f36,
-        t9f26,
-    } = read_chip(fields)?;
+    let chip = read_chip(fields)?;
     let t9f10 = fields.some(0x9F10, 0, 32)?;
     fields.end()?;
     Ok(RequestFields {
-        t9f1c,
-        pan: front.pan.copy(),
-        t5f34,
+        named: Named {
+            t9f1c,
+            pan: front.pan.copy(),
+            t5f34,
+        },
         t5f24,
-        t9f02,
-        t9f03,
-        t9f1a,
-        t95,
-        t5f2a,
-        t9a,
-        t9c,
-        t9f37,
-        t82,
-        t9f36,
-        t9f26,
+        paid: paid(&front.numbers, &front.acceptor, front.t9c, &chip),
         t9f10,
         tdf11,
     })
@@ -96,38 +116,19 @@ pub fn request_in<'a>(front: RequestFront, fields: &mut Fields<'a>) -> Found<Req
 pub fn present_in<'a>(front: PresentFront, fields: &mut Fields<'a>) -> Found<PresentFields<'a>>
     ensures { MatchResult result (λ found. present_items front fields.old.left ≡ Ok found) (λ fault. present_items front fields.old.left ≡ Err fault) }
 {
-    let Acceptor { t9f1c, t5f2a } = front.acceptor;
-    let t9f02 = front.numbers.t9f02;
-    let t9c = front.t9c;
+    let t9f1c = front.acceptor.t9f1c;
     let t8a = front.t8a;
     let t5f34 = fields.fixed_if_there(0x5F34, true)?;
-    let ChipData {
-        t9f03,
-        t9f1a,
-        t95,
-        t9a,
-        t9f37,
-        t82,
-        t9f36,
-        t9f26,
-    } = read_chip(fields)?;
+    let chip = read_chip(fields)?;
     let t9f10 = fields.some(0x9F10, 0, 32)?;
     fields.end()?;
     Ok(PresentFields {
-        t9f1c,
-        pan: front.pan.copy(),
-        t5f34,
-        t9f02,
-        t9f03,
-        t9f1a,
-        t95,
-        t5f2a,
-        t9a,
-        t9c,
-        t9f37,
-        t82,
-        t9f36,
-        t9f26,
+        named: Named {
+            t9f1c,
+            pan: front.pan.copy(),
+            t5f34,
+        },
+        paid: paid(&front.numbers, &front.acceptor, front.t9c, &chip),
         t9f10,
         t8a,
     })

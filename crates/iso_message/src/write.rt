@@ -21,7 +21,7 @@ ghost use Rattle.iso_message.specs.Spelling.{call_bytes, request_bytes, present_
 ghost use Rattle.iso_message.specs.Text.{text, counted};
 
 use crate::bits::{present_bits, reply_bits, request_bits, reversal_bits};
-use crate::chip::ChipData;
+use crate::chip::{ChipData, chip_data};
 use crate::digits::currency;
 use crate::kind::CallKind;
 use crate::numeral::{counter, four_digits, reference, two_digits};
@@ -82,34 +82,22 @@ fn reply_type(kind: CallKind) -> [u8; 4]
 /// Writes a request.
 fn write_request(request: &RequestFields, out: &mut Message)
     requires accepted { IsRequest request.now }
-    requires codes { IsCoded request.now.t5f2a request.now.t9c }
+    requires codes { IsCoded request.now.paid.t5f2a request.now.paid.t9c }
     ensures exact { out.new.items ≡ request_bytes request.now }
     ensures read_again { call_of (request_bytes request.now) ≡ Ok (Request request.now) }
 {
     out.clear();
     append(out, b"0100");
     append(out, &request_bits(request.tdf11.is_some()));
-    put_account(out, &request.pan);
-    put_processing(out, request.t9c);
-    put_numbers(out, request.t9f02, request.t9f36);
-    put_acceptor(out, request.t9f1c, request.t5f2a);
+    put_account(out, &request.named.pan);
+    put_processing(out, request.paid.t9c);
+    put_numbers(out, request.paid.t9f02, request.paid.t9f36);
+    put_acceptor(out, request.named.t9f1c, request.paid.t5f2a);
     put_block(out, &request.tdf11);
     let mut items = Message::new();
-    put_if_there(&mut items, 0x5F34, &request.t5f34);
+    put_if_there(&mut items, 0x5F34, &request.named.t5f34);
     put(&mut items, 0x5F24, &request.t5f24);
-    put_chip(
-        &mut items,
-        &ChipData {
-            t9f03: request.t9f03,
-            t9f1a: request.t9f1a,
-            t95: request.t95,
-            t9a: request.t9a,
-            t9f37: request.t9f37,
-            t82: request.t82,
-            t9f36: request.t9f36,
-            t9f26: request.t9f26,
-        },
-    );
+    put_chip(&mut items, &chip_data(&request.paid));
     put(&mut items, 0x9F10, request.t9f10);
     put_counted(out, &items);
 }
@@ -117,33 +105,21 @@ fn write_request(request: &RequestFields, out: &mut Message)
 /// Writes a presentment.
 fn write_present(fields: &PresentFields, out: &mut Message)
     requires accepted { IsPresent fields.now }
-    requires codes { IsCoded fields.now.t5f2a fields.now.t9c }
+    requires codes { IsCoded fields.now.paid.t5f2a fields.now.paid.t9c }
     ensures exact { out.new.items ≡ present_bytes fields.now }
     ensures read_again { call_of (present_bytes fields.now) ≡ Ok (Present fields.now) }
 {
     out.clear();
     append(out, b"0220");
     append(out, &present_bits());
-    put_account(out, &fields.pan);
-    put_processing(out, fields.t9c);
-    put_numbers(out, fields.t9f02, fields.t9f36);
+    put_account(out, &fields.named.pan);
+    put_processing(out, fields.paid.t9c);
+    put_numbers(out, fields.paid.t9f02, fields.paid.t9f36);
     append(out, &fields.t8a);
-    put_acceptor(out, fields.t9f1c, fields.t5f2a);
+    put_acceptor(out, fields.named.t9f1c, fields.paid.t5f2a);
     let mut items = Message::new();
-    put_if_there(&mut items, 0x5F34, &fields.t5f34);
-    put_chip(
-        &mut items,
-        &ChipData {
-            t9f03: fields.t9f03,
-            t9f1a: fields.t9f1a,
-            t95: fields.t95,
-            t9a: fields.t9a,
-            t9f37: fields.t9f37,
-            t82: fields.t82,
-            t9f36: fields.t9f36,
-            t9f26: fields.t9f26,
-        },
-    );
+    put_if_there(&mut items, 0x5F34, &fields.named.t5f34);
+    put_chip(&mut items, &chip_data(&fields.paid));
     put(&mut items, 0x9F10, fields.t9f10);
     put_counted(out, &items);
 }

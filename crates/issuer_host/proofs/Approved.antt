@@ -31,7 +31,7 @@ pub record OpenRequest (account : Option AccountData) (books : Books) (f : Reque
   pub own : AccountData
   pub known : account ≡ Some own
   pub closed : is_closed books (request_key f) ≡ false
-  pub covered : int_lt (pos own.balance -ℤ pos (taken own.pan books)) (pos (number_in f.t9f02)) ≡ false
+  pub covered : int_lt (pos own.balance -ℤ pos (taken own.pan books)) (pos (number_in f.paid.t9f02)) ≡ false
 
 pub request_open : (keys : HostKeys) (account : Option AccountData) (books : Books) (f : RequestData) → is_approved (request_reply keys account books f).code ≡ true → OpenRequest account books f
 unfolding request_code
@@ -41,7 +41,7 @@ request_open keys (Some a) books f is = by (request_is_genuine keys f) is
     by : (g : Bool) → is_approved (if g then online_reply keys a books f (request_code keys a books f) else plain Declined).code ≡ true → OpenRequest (Some a) books f
     by false h = cc
     by true h =
-        let facts = chain a.blocked (not (bytes_eq f.t5f2a a.currency)) (is_closed books (request_key f)) (is_earlier (day_of f.t5f24) (day_of f.t9a)) (pin_is_wrong keys.pin a.pin a.pan f.tdf11) (int_lt (pos a.balance -ℤ pos (taken a.pan books)) (pos (number_in f.t9f02))) h in
+        let facts = chain a.blocked (not (bytes_eq f.paid.t5f2a a.currency)) (is_closed books (request_key f)) (is_earlier (day_of f.t5f24) (day_of f.paid.t9a)) (pin_is_wrong keys.pin a.pin a.pan f.tdf11) (int_lt (pos a.balance -ℤ pos (taken a.pan books)) (pos (number_in f.paid.t9f02))) h in
         record { own = a; known = refl; closed = facts.0; covered = facts.1 }
 
 swap_none : (r p : Bool) → (r || p) ≡ false → not (p || r) ≡ true
@@ -68,7 +68,7 @@ present_chain true true false is = refl
 pub present_open : (keys : HostKeys) (account : Option AccountData) (books : Books) (f : PresentData) → is_approved (present_reply keys account books f).code ≡ true → OpenPresentment account books f
 unfolding present_code
 present_open keys None books f is = cc
-present_open keys (Some a) books f is = record { own = a; known = refl; unreleased = present_chain (present_is_genuine keys f) (bytes_eq f.t5f2a a.currency) (is_released books (present_key f)) is }
+present_open keys (Some a) books f is = record { own = a; known = refl; unreleased = present_chain (present_is_genuine keys f) (bytes_eq f.paid.t5f2a a.currency) (is_released books (present_key f)) is }
 
 pub record OpenReversal (account : Option AccountData) (books : Books) (f : ReversalFields) : Type 0 where
   pub own : AccountData

@@ -47,14 +47,14 @@ none_has : (P : List ℕ → Type 0) → BooksHave P no_books
 none_has P = record { requests = All-nil (KeptHas P); presentments = All-nil (KeptHas P); reversals = All-nil (KeptHas P) }
 
 module _ (P : List ℕ → Type 0) (keys : HostKeys) (accounts : List AccountData) (made : Made P keys accounts) where
-  request_has : (books : Books) (f : RequestData) → P (said_bytes (request_reply keys (account_of f.pan accounts) books f))
-  request_has books f = by (account_of f.pan accounts) refl
+  request_has : (books : Books) (f : RequestData) → P (said_bytes (request_reply keys (account_of f.named.pan accounts) books f))
+  request_has books f = by (account_of f.named.pan accounts) refl
     where
-      genuine_or : (account : AccountData) → account_of f.pan accounts ≡ Some account → (genuine : Bool) → P (said_bytes (if genuine then online_reply keys account books f (request_code keys account books f) else plain Declined))
-      genuine_or account known true = made.online f.pan account known books f (request_code keys account books f)
+      genuine_or : (account : AccountData) → account_of f.named.pan accounts ≡ Some account → (genuine : Bool) → P (said_bytes (if genuine then online_reply keys account books f (request_code keys account books f) else plain Declined))
+      genuine_or account known true = made.online f.named.pan account known books f (request_code keys account books f)
       genuine_or account known false = made.plain Declined
 
-      by : (account : Option AccountData) → account_of f.pan accounts ≡ account → P (said_bytes (request_reply keys account books f))
+      by : (account : Option AccountData) → account_of f.named.pan accounts ≡ account → P (said_bytes (request_reply keys account books f))
       by None known = made.plain UnknownAccount
       by (Some account) known = genuine_or account known (request_is_genuine keys f)
 
@@ -93,7 +93,7 @@ module _ (P : List ℕ → Type 0) (keys : HostKeys) (accounts : List AccountDat
       (request_has books f)
   reply_has books message (Ok (Present f)) all =
       again_has (kept_at (present_key f) books.presentments) message (new_present keys accounts books message f).reply (found_has (present_key f) books.presentments all.presentments)
-      (present_has (account_of f.pan accounts) books f)
+      (present_has (account_of f.named.pan accounts) books f)
   reply_has books message (Ok (Reverse f)) all =
       again_has (kept_at (reversal_key f) books.reversals) message (new_reversal accounts books message f).reply (found_has (reversal_key f) books.reversals all.reversals)
       (reversal_has (account_of f.pan accounts) books f)
@@ -107,7 +107,7 @@ module _ (P : List ℕ → Type 0) (keys : HostKeys) (accounts : List AccountDat
   }
   kept_has books message (Ok (Present f)) all = record {
     requests = all.requests;
-    presentments = first_has (kept_at (present_key f) books.presentments) (new_present keys accounts books message f) books.presentments all.presentments (present_has (account_of f.pan accounts) books f);
+    presentments = first_has (kept_at (present_key f) books.presentments) (new_present keys accounts books message f) books.presentments all.presentments (present_has (account_of f.named.pan accounts) books f);
     reversals = all.reversals;
   }
   kept_has books message (Ok (Reverse f)) all = record {
@@ -155,8 +155,8 @@ replies_written keys accounts messages message all = every_reply IsReply keys ac
       plain = plain_written;
       online = λ pan account known books f code.
           let session = session_of keys.ac (request_key f) in
-          let least = response_least account.arpc account.status session f.t9f26 code in
-          let most = response_most account.arpc account.status session f.t9f26 code in
+          let least = response_least account.arpc account.status session f.paid.t9f26 code in
+          let most = response_most account.arpc account.status session f.paid.t9f26 code in
           reply_written (code_bytes code) (Some (response_of keys account f code)) (scripts_for keys account books f) (two_bytes code) (least, most)
           (scripts_spelled keys account books f (known_account pan accounts account all known));
     }

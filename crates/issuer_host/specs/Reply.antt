@@ -16,6 +16,7 @@ use Rattle.auth_message.specs.Data.{RequestData, PresentData}
 use Rattle.auth_message.specs.Message.{message_of}
 use Rattle.auth_message.specs.Spelling.{reply_bytes}
 use Rattle.auth_message.specs.declared.fault.MessageFault.{MessageFault}
+use Rattle.auth_message.specs.declared.groups.Paid.{Paid}
 use Rattle.auth_message.specs.declared.message.Incoming.{Incoming}
 use Rattle.auth_message.specs.declared.message.Incoming.TheVariants.{Request, Present, Reverse}
 use Rattle.auth_message.specs.declared.reversal.ReversalFields.{ReversalFields}
@@ -41,10 +42,10 @@ abbrev pub key_of : List ℕ → Option (List ℕ) → List ℕ → Key
 key_of pan t5f34 t9f36 = record { pan = pan; sequence = sequence_of t5f34; counter = from_be_bytes w16 t9f36 }
 
 abbrev pub request_key : RequestData → Key
-request_key f = key_of f.pan f.t5f34 f.t9f36
+request_key f = key_of f.named.pan f.named.t5f34 f.paid.t9f36
 
 abbrev pub present_key : PresentData → Key
-present_key f = key_of f.pan f.t5f34 f.t9f36
+present_key f = key_of f.named.pan f.named.t5f34 f.paid.t9f36
 
 abbrev pub reversal_key : ReversalFields → Key
 reversal_key f = key_of f.pan f.t5f34 f.t9f36
@@ -53,44 +54,31 @@ reversal_key f = key_of f.pan f.t5f34 f.t9f36
 abbrev pub session_of : List ℕ → Key → List ℕ
 session_of issuer key = session_ac_of (master_key_of issuer key.pan key.sequence) key.counter
 
-abbrev pub request_ac_fields : RequestData → AcFields
-request_ac_fields f = record {
-  amount = f.t9f02;
-  other = f.t9f03;
-  country = f.t9f1a;
-  tvr = f.t95;
-  currency = f.t5f2a;
-  date = f.t9a;
-  trade = slice_index f.t9c 0;
-  number = f.t9f37;
-  aip = f.t82;
-  counter = f.t9f36;
+-- what a cryptogram covers of a payment, 9F10 aside (EMV 4.3 Book 2 section 8.1.1)
+abbrev pub ac_fields_of : Paid → AcFields
+ac_fields_of paid = record {
+  amount = paid.t9f02;
+  other = paid.t9f03;
+  country = paid.t9f1a;
+  tvr = paid.t95;
+  currency = paid.t5f2a;
+  date = paid.t9a;
+  trade = slice_index paid.t9c 0;
+  number = paid.t9f37;
+  aip = paid.t82;
+  counter = paid.t9f36;
 }
 
-abbrev pub present_ac_fields : PresentData → AcFields
-present_ac_fields f = record {
-  amount = f.t9f02;
-  other = f.t9f03;
-  country = f.t9f1a;
-  tvr = f.t95;
-  currency = f.t5f2a;
-  date = f.t9a;
-  trade = slice_index f.t9c 0;
-  number = f.t9f37;
-  aip = f.t82;
-  counter = f.t9f36;
-}
-
--- 9F26 is the cryptogram of the message's fields under a session key
-abbrev pub is_made_under : List ℕ → RequestData → Bool
-is_made_under session f = bytes_eq (ac_of session (request_ac_fields f) f.t9f10) f.t9f26
+-- 9F26 is the cryptogram of a payment and 9F10 under a session key
+abbrev pub is_made_under : List ℕ → Paid → List ℕ → Bool
+is_made_under session paid t9f10 = bytes_eq (ac_of session (ac_fields_of paid) t9f10) paid.t9f26
 
 -- 9F26 is the card's cryptogram of the message's fields
 abbrev pub request_is_genuine : HostKeys → RequestData → Bool
-request_is_genuine keys f = is_made_under (session_of keys.ac (request_key f)) f
+request_is_genuine keys f = is_made_under (session_of keys.ac (request_key f)) f.paid f.t9f10
 
 abbrev pub present_is_genuine : HostKeys → PresentData → Bool
-present_is_genuine keys f = bytes_eq (ac_of (session_of keys.ac (present_key f)) (present_ac_fields f) f.t9f10) f.t9f26
+present_is_genuine keys f = is_made_under (session_of keys.ac (present_key f)) f.paid f.t9f10
 
 -- year, month and day of three bytes of digits; they need not be a day of the calendar
 abbrev pub day_of : List ℕ → Date
@@ -110,17 +98,17 @@ is_closed books key = is_some (kept_at key books.reversals) || is_some (kept_at 
 unfoldable pub request_code : HostKeys → AccountData → Books → RequestData → Code
 request_code keys account books f =
     if account.blocked then Declined
-    else if not (bytes_eq f.t5f2a account.currency) then Declined
+    else if not (bytes_eq f.paid.t5f2a account.currency) then Declined
     else if is_closed books (request_key f) then Declined
-    else if is_earlier (day_of f.t5f24) (day_of f.t9a) then Expired
+    else if is_earlier (day_of f.t5f24) (day_of f.paid.t9a) then Expired
     else if pin_is_wrong keys.pin account.pin account.pan f.tdf11 then WrongPin
-    else if int_lt (pos account.balance -ℤ pos (taken account.pan books)) (pos (number_in f.t9f02)) then NoFunds
+    else if int_lt (pos account.balance -ℤ pos (taken account.pan books)) (pos (number_in f.paid.t9f02)) then NoFunds
     else Approved
 
 -- the decision on a presentment
 unfoldable pub present_code : HostKeys → AccountData → Books → PresentData → Code
 present_code keys account books f =
-    if not (present_is_genuine keys f) || (not (bytes_eq f.t5f2a account.currency) || is_released books (present_key f)) then Declined else Approved
+    if not (present_is_genuine keys f) || (not (bytes_eq f.paid.t5f2a account.currency) || is_released books (present_key f)) then Declined else Approved
 
 -- the decision on a reversal
 abbrev pub reversal_code : Books → ReversalFields → Code
@@ -146,10 +134,10 @@ is_served pan books = list_any (λ kept. kept.online && bytes_eq pan kept.key.pa
 
 abbrev pub script_keys : HostKeys → RequestData → ScriptKeys
 script_keys keys f = record {
-  mac = session_script_of (master_key_of keys.mac (request_key f).pan (request_key f).sequence) f.t9f26;
-  enc = session_script_of (master_key_of keys.enc (request_key f).pan (request_key f).sequence) f.t9f26;
+  mac = session_script_of (master_key_of keys.mac (request_key f).pan (request_key f).sequence) f.paid.t9f26;
+  enc = session_script_of (master_key_of keys.enc (request_key f).pan (request_key f).sequence) f.paid.t9f26;
   counter = (request_key f).counter;
-  cryptogram = f.t9f26;
+  cryptogram = f.paid.t9f26;
 }
 
 -- the account's scripts, where no reply carried them yet
@@ -158,7 +146,7 @@ scripts_for keys account books f = (if is_served account.pan books then [] else 
 
 -- the issuer authentication data by the account's method, under a session key
 abbrev pub response_under : List ℕ → AccountData → RequestData → Code → List ℕ
-response_under session account f code = response_by account.arpc account.status session f.t9f26 code
+response_under session account f code = response_by account.arpc account.status session f.paid.t9f26 code
 
 -- the same under the card's key
 abbrev pub response_of : HostKeys → AccountData → RequestData → Code → List ℕ
@@ -194,10 +182,10 @@ kept_with key amount message said = record {
 }
 
 abbrev pub new_request : HostKeys → List AccountData → Books → List ℕ → RequestData → Kept
-new_request keys accounts books message f = kept_with (request_key f) (number_in f.t9f02) message (request_reply keys (account_of f.pan accounts) books f)
+new_request keys accounts books message f = kept_with (request_key f) (number_in f.paid.t9f02) message (request_reply keys (account_of f.named.pan accounts) books f)
 
 abbrev pub new_present : HostKeys → List AccountData → Books → List ℕ → PresentData → Kept
-new_present keys accounts books message f = kept_with (present_key f) (number_in f.t9f02) message (present_reply keys (account_of f.pan accounts) books f)
+new_present keys accounts books message f = kept_with (present_key f) (number_in f.paid.t9f02) message (present_reply keys (account_of f.named.pan accounts) books f)
 
 abbrev pub new_reversal : List AccountData → Books → List ℕ → ReversalFields → Kept
 new_reversal accounts books message f = kept_with (reversal_key f) (number_in f.t9f02) message (reversal_reply (account_of f.pan accounts) books f)

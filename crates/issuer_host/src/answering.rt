@@ -23,21 +23,19 @@ pub fn reply_to_request(
     accounts: &[Account],
     records: &Records,
     served: &[bool],
-    key: &Key,
     fields: &RequestFields,
     out: &mut Message,
 ) -> Answered
     requires holds { Holds accounts.now records.now served.now }
-    requires key { key.now ≡ key_of_request fields.now }
-    ensures bytes { out.new.items ≡ said_bytes (spec.request_reply keys.now (account_of fields.now.pan accounts.now) records.now.books fields.now) }
-    ensures code { result.code ≡ (spec.request_reply keys.now (account_of fields.now.pan accounts.now) records.now.books fields.now).code }
-    ensures online { result.online ≡ is_some (spec.request_reply keys.now (account_of fields.now.pan accounts.now) records.now.books fields.now).auth }
-    ensures held { is_approved result.code ≡ true → is_open records.now key.now (number_in fields.now.t9f02) ≡ true }
+    ensures bytes { out.new.items ≡ said_bytes (spec.request_reply keys.now (account_of fields.now.named.pan accounts.now) records.now.books fields.now) }
+    ensures code { result.code ≡ (spec.request_reply keys.now (account_of fields.now.named.pan accounts.now) records.now.books fields.now).code }
+    ensures online { result.online ≡ is_some (spec.request_reply keys.now (account_of fields.now.named.pan accounts.now) records.now.books fields.now).auth }
+    ensures held { is_approved result.code ≡ true → is_open records.now (key_of_request fields.now) (number_in fields.now.paid.t9f02) ≡ true }
 {
-    let place = place_of(accounts, &fields.pan);
+    let place = place_of(accounts, &fields.named.pan);
     let account = account_at(accounts, place);
     let flag = flag_at(served, place);
-    request_reply(keys, account, flag, records, key, fields, out)
+    request_reply(keys, account, flag, records, fields, out)
 }
 
 /// Writes the reply to a new presentment.
@@ -50,11 +48,11 @@ pub fn reply_to_presentment(
     out: &mut Message,
 ) -> Answered
     requires key { key.now ≡ key_of_present fields.now }
-    ensures bytes { out.new.items ≡ said_bytes (spec.present_reply keys.now (account_of fields.now.pan accounts.now) records.now.books fields.now) }
-    ensures code { result.code ≡ (spec.present_reply keys.now (account_of fields.now.pan accounts.now) records.now.books fields.now).code }
-    ensures online { result.online ≡ is_some (spec.present_reply keys.now (account_of fields.now.pan accounts.now) records.now.books fields.now).auth }
+    ensures bytes { out.new.items ≡ said_bytes (spec.present_reply keys.now (account_of fields.now.named.pan accounts.now) records.now.books fields.now) }
+    ensures code { result.code ≡ (spec.present_reply keys.now (account_of fields.now.named.pan accounts.now) records.now.books fields.now).code }
+    ensures online { result.online ≡ is_some (spec.present_reply keys.now (account_of fields.now.named.pan accounts.now) records.now.books fields.now).auth }
 {
-    let place = place_of(accounts, &fields.pan);
+    let place = place_of(accounts, &fields.named.pan);
     let account = account_at(accounts, place);
     present_reply(keys, account, records, key, fields, out)
 }

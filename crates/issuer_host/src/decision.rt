@@ -5,14 +5,14 @@ ghost use Rattle.issuer_host.specs.Account.{IsAccount};
 ghost use Rattle.issuer_host.specs.Balance.{taken};
 ghost use Rattle.issuer_host.specs.Records.{balance_left};
 ghost use Rattle.issuer_host.specs.Reply as spec;
-ghost use Rattle.issuer_host.specs.Reply.{request_key as key_of_request, present_key as key_of_present, reversal_key as key_of_reversal, session_of, request_ac_fields, present_ac_fields, day_of, pin_is_wrong as pin_spec};
+ghost use Rattle.issuer_host.specs.Reply.{request_key as key_of_request, present_key as key_of_present, reversal_key as key_of_reversal, session_of, ac_fields_of, day_of, pin_is_wrong as pin_spec};
 
 use crate::account::Account;
 use crate::code::Code;
 use crate::keys::HostKeys;
 use crate::records::Records;
 use app_cryptogram::{AcFields, ac};
-use auth_message::{PresentFields, RequestFields, ReversalFields};
+use auth_message::{Paid, PresentFields, RequestFields, ReversalFields};
 use card_keys::{master_key, session_ac};
 use emv_dict::{Date, Digits, amount_of, two_digit_number};
 use host_ledger::Key;
@@ -45,14 +45,14 @@ fn sequence_number(field: Option<[u8; 1]>) -> u8
 pub fn request_key(fields: &RequestFields) -> Key
     ensures { result ≡ key_of_request fields.now }
 {
-    key(&fields.pan, fields.t5f34, fields.t9f36)
+    key(&fields.named.pan, fields.named.t5f34, fields.paid.t9f36)
 }
 
 /// What names the transaction of a presentment.
 pub fn present_key(fields: &PresentFields) -> Key
     ensures { result ≡ key_of_present fields.now }
 {
-    key(&fields.pan, fields.t5f34, fields.t9f36)
+    key(&fields.named.pan, fields.named.t5f34, fields.paid.t9f36)
 }
 
 /// What names the transaction of a reversal.
@@ -69,24 +69,30 @@ pub fn session(issuer: &Key16, key: &Key) -> Key16
     session_ac(&master_key(issuer, &key.pan, key.sequence), key.counter)
 }
 
-/// Whether 9F26 is the cryptogram of the request's fields under a session key.
-pub fn is_made_under(session: &Key16, fields: &RequestFields) -> bool
-    ensures { result ≡ spec.is_made_under session.now fields.now }
+/// What a cryptogram covers of a payment, 9F10 aside (EMV 4.3 Book 2 section 8.1.1).
+pub fn covered(paid: &Paid) -> AcFields
+    ensures { result ≡ ac_fields_of paid.now }
 {
-    let [trade] = fields.t9c;
-    let covered = AcFields {
-        amount: fields.t9f02,
-        other: fields.t9f03,
-        country: fields.t9f1a,
-        tvr: fields.t95,
-        currency: fields.t5f2a,
-        date: fields.t9a,
+    let [trade] = paid.t9c;
+    AcFields {
+        amount: paid.t9f02,
+        other: paid.t9f03,
+        country: paid.t9f1a,
+        tvr: paid.t95,
+        currency: paid.t5f2a,
+        date: paid.t9a,
         trade,
-        number: fields.t9f37,
-        aip: fields.t82,
-        counter: fields.t9f36,
-    };
-    ac(session, &covered, fields.t9f10) == fields.t9f26
+        number: paid.t9f37,
+        aip: paid.t82,
+        counter: paid.t9f36,
+    }
+}
+
+/// Whether 9F26 is the cryptogram of a payment and 9F10 under a session key.
+pub fn is_made_under(session: &Key16, paid: &Paid, t9f10: &[u8]) -> bool
+    ensures { result ≡ spec.is_made_under session.now paid.now t9f10.now }
+{
+    ac(session, &covered(paid), t9f10) == paid.t9f26
 }
 
 /// Whether 9F26 is the card's cryptogram of the presentment's fields.
@@ -94,20 +100,7 @@ fn present_is_genuine(keys: &HostKeys, key: &Key, fields: &PresentFields) -> boo
     requires { key.now ≡ key_of_present fields.now }
     ensures { result ≡ spec.present_is_genuine keys.now fields.now }
 {
-    let [trade] = fields.t9c;
-    let covered = AcFields {
-        amount: fields.t9f02,
-        other: fields.t9f03,
-        country: fields.t9f1a,
-        tvr: fields.t95,
-        currency: fields.t5f2a,
-        date: fields.t9a,
-        trade,
-        number: fields.t9f37,
-        aip: fields.t82,
-        counter: fields.t9f36,
-    };
-    ac(&session(&keys.ac, key), &covered, fields.t9f10) == fields.t9f26
+    is_made_under(&session(&keys.ac, key), &fields.paid, fields.t9f10)
 }
 
 /// The day of three bytes of digits, which need not be one of the calendar.
@@ -158,19 +151,19 @@ pub fn request_code(
     if account.blocked {
         return Code::Declined;
     }
-    if fields.t5f2a != account.currency {
+    if fields.paid.t5f2a != account.currency {
         return Code::Declined;
     }
     if records.is_closed(key) {
         return Code::Declined;
     }
-    if day(fields.t5f24).is_before(&day(fields.t9a)) {
+    if day(fields.t5f24).is_before(&day(fields.paid.t9a)) {
         return Code::Expired;
     }
     if pin_is_wrong(&keys.pin, account, fields.tdf11) {
         return Code::WrongPin;
     }
-    if !records.covers(account, amount_of(fields.t9f02)) {
+    if !records.covers(account, amount_of(fields.paid.t9f02)) {
         return Code::NoFunds;
     }
     Code::Approved
@@ -191,7 +184,7 @@ pub fn present_code(
     if !present_is_genuine(keys, key, fields) {
         return Code::Declined;
     }
-    if fields.t5f2a != account.currency {
+    if fields.paid.t5f2a != account.currency {
         return Code::Declined;
     }
     if records.is_released(key) {

@@ -135,7 +135,7 @@ impl<'a> Host<'a> {
         fields: &RequestFields,
         out: &mut Message,
     ) -> Result<(), AllocError>
-        requires { AreDigits fields.now.t9f02 }
+        requires { AreDigits fields.now.paid.t9f02 }
         ensures reply { OnOk result (out.new.items ≡ reply_in self.old.keys self.old.accounts self.old.books message.now (Ok (Request fields.now))) }
         ensures books { OnOk result (self.new.books ≡ kept_in self.old.keys self.old.accounts self.old.books message.now (Ok (Request fields.now))) }
         ensures keys { self.new.keys ≡ self.old.keys }
@@ -154,11 +154,16 @@ impl<'a> Host<'a> {
             self.accounts,
             &self.records,
             &self.served,
-            &key,
             fields,
             out,
         );
-        let kept = kept(self.alloc, amount(fields.t9f02), message, answered, out)?;
+        let kept = kept(
+            self.alloc,
+            amount(fields.paid.t9f02),
+            message,
+            answered,
+            out,
+        )?;
         self.records.keep_request(&key, kept)?;
         if answered.online {
             let place = place_of(self.accounts, &key.pan);
@@ -174,7 +179,7 @@ impl<'a> Host<'a> {
         fields: &PresentFields,
         out: &mut Message,
     ) -> Result<(), AllocError>
-        requires { AreDigits fields.now.t9f02 }
+        requires { AreDigits fields.now.paid.t9f02 }
         ensures reply { OnOk result (out.new.items ≡ reply_in self.old.keys self.old.accounts self.old.books message.now (Ok (Present fields.now))) }
         ensures books { OnOk result (self.new.books ≡ kept_in self.old.keys self.old.accounts self.old.books message.now (Ok (Present fields.now))) }
         ensures keys { self.new.keys ≡ self.old.keys }
@@ -196,7 +201,13 @@ impl<'a> Host<'a> {
             fields,
             out,
         );
-        let kept = kept(self.alloc, amount(fields.t9f02), message, answered, out)?;
+        let kept = kept(
+            self.alloc,
+            amount(fields.paid.t9f02),
+            message,
+            answered,
+            out,
+        )?;
         self.records.keep_presentment(&key, kept)
     }
 

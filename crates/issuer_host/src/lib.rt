@@ -17,6 +17,7 @@ mod script;
 
 pub use account::{Account, Method, is_status};
 pub use code::Code;
+pub use decision::covered;
 pub use host::Host;
 pub use keys::HostKeys;
 pub use script_words::{Ordered, Script, Word};

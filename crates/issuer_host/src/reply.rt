@@ -10,7 +10,9 @@ ghost use Rattle.issuer_host.specs.Reply.{request_key as key_of_request, present
 
 use crate::account::Account;
 use crate::code::Code;
-use crate::decision::{is_made_under, present_code, request_code, reversal_code, session};
+use crate::decision::{
+    is_made_under, present_code, request_code, request_key, reversal_code, session,
+};
 use crate::keys::HostKeys;
 use crate::records::Records;
 use crate::response::issuer_data;
@@ -48,12 +50,10 @@ pub fn request_reply(
     account: Option<&Account>,
     served: bool,
     records: &Records,
-    key: &Key,
     fields: &RequestFields,
     out: &mut Message,
 ) -> Answered
     requires account { IfSome account (λ a. IsAccount a.now) }
-    requires key { key.now ≡ key_of_request fields.now }
     requires known { IfSome account (λ a. balance_left records.now a.now.pan ≡ Some (pos a.now.balance -ℤ pos (taken a.now.pan records.now.books))) }
     requires served { IfSome account (λ a. served ≡ is_served a.now.pan records.now.books) }
     ensures bytes { out.new.items ≡ said_bytes (spec.request_reply keys.now (option_map (λ a. a.now) account.entry) records.now.books fields.now) }
@@ -63,12 +63,13 @@ pub fn request_reply(
     let Some(account) = account else {
         return plain(Code::UnknownAccount, out);
     };
-    let session = session(&keys.ac, key);
-    if !is_made_under(&session, fields) {
+    let key = request_key(fields);
+    let session = session(&keys.ac, &key);
+    if !is_made_under(&session, &fields.paid, fields.t9f10) {
         return plain(Code::Declined, out);
     }
-    let code = request_code(keys, account, records, key, fields);
-    let scripts = scripts(keys, account, served, records, key, fields);
+    let code = request_code(keys, account, records, &key, fields);
+    let scripts = scripts(keys, account, served, records, &key, fields);
     online_reply(&session, account, fields, code, &scripts, out);
     Answered { code, online: true }
 }
@@ -86,7 +87,7 @@ fn online_reply(
     requires scripts { AreScripts scripts.now }
     ensures { out.new.items ≡ said_bytes (record { code = code; auth = Some (response_under session.now account.now fields.now code); scripts = scripts.now }) }
 {
-    let response = issuer_data(session, account, fields.t9f26, code);
+    let response = issuer_data(session, account, fields.paid.t9f26, code);
     write_reply(code.bytes(), Some(&response), scripts, out);
 }
 
@@ -114,7 +115,7 @@ fn scripts(
     if account.scripts.is_empty() {
         return bytes;
     }
-    let cryptogram = fields.t9f26;
+    let cryptogram = fields.paid.t9f26;
     let script_keys = ScriptKeys {
         mac: session_script(&master_key(&keys.mac, &key.pan, key.sequence), cryptogram),
         enc: session_script(&master_key(&keys.enc, &key.pan, key.sequence), cryptogram),

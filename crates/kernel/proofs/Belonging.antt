@@ -24,6 +24,8 @@ use Rattle.kernel.specs.Course.{Standing, Rest, stands, by_progress, settled, ca
 use Rattle.kernel.specs.Dialogue.{Trade, all_failed, left_script, scripts_behind, second, scripts_before, authentication, authentication_by, has_authentication, unable_online, kind_unable, reply_read, replied, is_offline_only, first_answered, first, analysis, risk, verification, restrictions, dialogue, decision, kind_for, kind_wanted}
 use Rattle.kernel.specs.Laws.{own_bits, BitsBelong}
 use Rattle.kernel.specs.Reply.{Reply, CardSaid, CardGone, HostSaid, HostSilent, Over}
+use Rattle.kernel.specs.declared.stage.OnlineOutcome.{OnlineOutcome}
+use Rattle.kernel.specs.declared.stage.OnlineOutcome.TheVariants.{Replied, Unable}
 use Rattle.online_step.specs.Authenticate.{authenticated}
 use Rattle.restrictions.proofs.OwnBits.{restricted_own}
 use Rattle.restrictions.specs.Restricted.{restricted}
@@ -33,6 +35,8 @@ use Rattle.risk_mgmt.specs.Risky.{risky}
 use Rattle.script_run.specs.Ran.{template_ran, no_script}
 use Rattle.terminal_state.specs.Marks.{Mark, tvr_of, bits_if, with_bits, union, is_whole, HasRead, HasRestricted, HasVerified, HasJudged, HasAnalysed, HasFirst, HasReply, WasUnable, HasAuthenticated, HasRunBefore, HasSecond, HasRunBehind}
 use Rattle.terminal_state.specs.Scripts.{templates, kept}
+use Rattle.terminal_state.specs.declared.moment.OnlineRequest.{OnlineRequest}
+use Rattle.terminal_state.specs.declared.moment.OnlineRequest.TheVariants.{Sent, NotSent}
 
 -- a step's bits stand among these
 abbrev AreAmong : ℕ → Option ℕ → Type 0
@@ -138,19 +142,19 @@ scripts_behind_own ending (template ∷ others) marks own log replies =
     (λ result. scripts_behind_own ending others (HasRunBehind result ∷ marks) (run_behind result, own))
     step.Script (template_ran template) log replies
 
-second_own : (trade : Trade) (on : Bool) (asked : Kind) (behind : List (List ℕ)) (marks : List Mark) → AllOwn marks → (log : List Logged) (replies : List Reply)
-    → Owns (second trade on asked behind marks log replies)
+second_own : (trade : Trade) (outcome : OnlineOutcome) (asked : Kind) (behind : List (List ℕ)) (marks : List Mark) → AllOwn marks → (log : List Logged) (replies : List Reply)
+    → Owns (second trade outcome asked behind marks log replies)
 unfolding second
-second_own trade on asked behind marks own log replies =
-    card_all (cut_off marks) step.Second marks (λ ac. scripts_behind (decision on ac.kind) behind (HasSecond ac ∷ marks)) Owns
+second_own trade outcome asked behind marks own log replies =
+    card_all (cut_off marks) step.Second marks (λ ac. scripts_behind (decision outcome ac.kind) behind (HasSecond ac ∷ marks)) Owns
     (λ command. own) (λ at plain. own) (λ cut course. own)
-    (λ ac. scripts_behind_own (decision on ac.kind) behind (HasSecond ac ∷ marks) (tt, own))
+    (λ ac. scripts_behind_own (decision outcome ac.kind) behind (HasSecond ac ∷ marks) (tt, own))
     step.Second _ log replies
 
 scripts_before_own : (trade : Trade) (reply : ReplyData) (scripts : List (List ℕ)) (marks : List Mark) → AllOwn marks → (log : List Logged) (replies : List Reply)
     → Owns (scripts_before trade reply scripts marks log replies)
 unfolding scripts_before
-scripts_before_own trade reply [] marks own log replies = second_own trade true (kind_for reply.code) (templates 0x72 reply.scripts) marks own log replies
+scripts_before_own trade reply [] marks own log replies = second_own trade Replied (kind_for reply.code) (templates 0x72 reply.scripts) marks own log replies
 scripts_before_own trade reply (template ∷ others) marks own log replies =
     card_all (cut_off marks) step.Script marks (λ result. scripts_before trade reply others (HasRunBefore result ∷ marks)) Owns
     (λ command. own) (λ at plain. own) (λ cut course. own)
@@ -172,21 +176,21 @@ authentication_own : (trade : Trade) (reply : ReplyData) (marks : List Mark) →
 unfolding authentication
 authentication_own trade reply marks own = authentication_by_own trade reply marks own (has_authentication trade.card) reply.auth
 
-unable_own : (trade : Trade) (sent : Bool) (marks : List Mark) → AllOwn marks → (log : List Logged) (replies : List Reply) → Owns (unable_online trade sent marks log replies)
+unable_own : (trade : Trade) (request : OnlineRequest) (marks : List Mark) → AllOwn marks → (log : List Logged) (replies : List Reply) → Owns (unable_online trade request marks log replies)
 unfolding unable_online
-unable_own trade sent marks own = second_own trade false (kind_unable trade marks) [] (WasUnable sent (kind_unable trade marks) ∷ marks) (tt, own)
+unable_own trade request marks own = second_own trade Unable (kind_unable trade marks) [] (WasUnable request (kind_unable trade marks) ∷ marks) (tt, own)
 
 reply_own : (trade : Trade) (marks : List Mark) → AllOwn marks → (said : Result ReplyData MessageFault) (log : List Logged) (replies : List Reply) → Owns (reply_read trade marks said log replies)
 reply_own trade marks own (Ok reply) = authentication_own trade (kept reply) (HasReply reply ∷ marks) (tt, own)
-reply_own trade marks own (Err fault) = unable_own trade true marks own
+reply_own trade marks own (Err fault) = unable_own trade Sent marks own
 
 replied_own : (trade : Trade) (marks : List Mark) → AllOwn marks → (heard : Option (List ℕ)) (log : List Logged) (replies : List Reply) → Owns (replied trade marks heard log replies)
-replied_own trade marks own None = unable_own trade true marks own
+replied_own trade marks own None = unable_own trade Sent marks own
 replied_own trade marks own (Some said) = reply_own trade marks own (reply_of said)
 
 online_by_own : (trade : Trade) (marks : List Mark) (message : List ℕ) → AllOwn marks → (test : Bool) (log : List Logged) (replies : List Reply)
-    → Owns (let rest : Rest Mark = (if test then unable_online trade false marks else host_step marks message (replied trade marks)) in rest log replies)
-online_by_own trade marks message own true = unable_own trade false marks own
+    → Owns (let rest : Rest Mark = (if test then unable_online trade NotSent marks else host_step marks message (replied trade marks)) in rest log replies)
+online_by_own trade marks message own true = unable_own trade NotSent marks own
 online_by_own trade marks message own false = host_all marks message (replied trade marks) Owns own (replied_own trade marks own)
 
 first_answered_own : (trade : Trade) (ac : AcData) (marks : List Mark) → AllOwn marks → (kind : Kind) (log : List Logged) (replies : List Reply) → Owns (first_answered trade ac marks kind log replies)

@@ -19,6 +19,8 @@ use Rattle.kernel.specs.Course.{Standing, Rest, stands, over, by_progress, settl
 use Rattle.kernel.specs.Dialogue.{Trade, all_failed, left_script, scripts_behind, second, scripts_before, authentication, authentication_by, has_authentication, unable_online, kind_unable, reply_read, replied, is_offline_only, first_answered, first, analysis, risk, verification, restrictions, read, granted, initiation, opened, candidates_left, selected_then, dialogue, decision, kind_for, kind_wanted}
 use Rattle.kernel.specs.Laws.{deeds, deeds_behind}
 use Rattle.kernel.specs.Reply.{Reply, CardSaid, CardGone, HostSaid, HostSilent, Deed, Over}
+use Rattle.kernel.specs.declared.stage.OnlineOutcome.{OnlineOutcome}
+use Rattle.kernel.specs.declared.stage.OnlineOutcome.TheVariants.{Replied, Unable}
 use Rattle.online_step.specs.Authenticate.{authenticated}
 use Rattle.pse_directory.specs.Directory.{selecting_by}
 use Rattle.read_records.specs.Options.{Opened}
@@ -26,6 +28,8 @@ use Rattle.script_run.specs.Ran.{template_ran, no_script}
 use Rattle.terminal_state.specs.Marks.{Mark, HasRead, HasRestricted, HasVerified, HasJudged, HasAnalysed, HasFirst, HasReply, WasUnable, HasAuthenticated, HasRunBefore, HasSecond, HasRunBehind}
 use Rattle.terminal_state.specs.Scripts.{templates, kept}
 use Rattle.terminal_state.specs.Terminal.{Deal}
+use Rattle.terminal_state.specs.declared.moment.OnlineRequest.{OnlineRequest}
+use Rattle.terminal_state.specs.declared.moment.OnlineRequest.TheVariants.{Sent, NotSent}
 
 -- these steps, and others behind them
 abbrev Behind : List Mark → List Mark → Type 0
@@ -180,16 +184,16 @@ scripts_behind_keeps ending (template ∷ others) marks =
     (λ result. later_keeps (HasRunBehind result) marks _ (scripts_behind_keeps ending others (HasRunBehind result ∷ marks)))
     step.Script (template_ran template)
 
-second_keeps : (trade : Trade) (on : Bool) (asked : Kind) (behind : List (List ℕ)) (marks : List Mark) → Keeps marks (second trade on asked behind marks)
+second_keeps : (trade : Trade) (outcome : OnlineOutcome) (asked : Kind) (behind : List (List ℕ)) (marks : List Mark) → Keeps marks (second trade outcome asked behind marks)
 unfolding second
-second_keeps trade on asked behind marks =
-    card_keeps (cut_off marks) step.Second marks (λ ac. scripts_behind (decision on ac.kind) behind (HasSecond ac ∷ marks)) (λ cut course. same_marks marks)
-    (λ ac. later_keeps (HasSecond ac) marks _ (scripts_behind_keeps (decision on ac.kind) behind (HasSecond ac ∷ marks)))
+second_keeps trade outcome asked behind marks =
+    card_keeps (cut_off marks) step.Second marks (λ ac. scripts_behind (decision outcome ac.kind) behind (HasSecond ac ∷ marks)) (λ cut course. same_marks marks)
+    (λ ac. later_keeps (HasSecond ac) marks _ (scripts_behind_keeps (decision outcome ac.kind) behind (HasSecond ac ∷ marks)))
     step.Second _
 
 scripts_before_keeps : (trade : Trade) (reply : ReplyData) (scripts : List (List ℕ)) (marks : List Mark) → Keeps marks (scripts_before trade reply scripts marks)
 unfolding scripts_before
-scripts_before_keeps trade reply [] marks = second_keeps trade true (kind_for reply.code) (templates 0x72 reply.scripts) marks
+scripts_before_keeps trade reply [] marks = second_keeps trade Replied (kind_for reply.code) (templates 0x72 reply.scripts) marks
 scripts_before_keeps trade reply (template ∷ others) marks =
     card_keeps (cut_off marks) step.Script marks (λ result. scripts_before trade reply others (HasRunBefore result ∷ marks)) (λ cut course. same_marks marks)
     (λ result. later_keeps (HasRunBefore result) marks _ (scripts_before_keeps trade reply others (HasRunBefore result ∷ marks)))
@@ -207,22 +211,22 @@ authentication_keeps : (trade : Trade) (reply : ReplyData) (marks : List Mark) �
 unfolding authentication
 authentication_keeps trade reply marks = authentication_by_keeps trade reply marks (has_authentication trade.card) reply.auth
 
-unable_keeps : (trade : Trade) (sent : Bool) (marks : List Mark) → Keeps marks (unable_online trade sent marks)
+unable_keeps : (trade : Trade) (request : OnlineRequest) (marks : List Mark) → Keeps marks (unable_online trade request marks)
 unfolding unable_online
-unable_keeps trade sent marks =
-    later_keeps (WasUnable sent (kind_unable trade marks)) marks _ (second_keeps trade false (kind_unable trade marks) [] (WasUnable sent (kind_unable trade marks) ∷ marks))
+unable_keeps trade request marks =
+    later_keeps (WasUnable request (kind_unable trade marks)) marks _ (second_keeps trade Unable (kind_unable trade marks) [] (WasUnable request (kind_unable trade marks) ∷ marks))
 
 reply_keeps : (trade : Trade) (marks : List Mark) (said : Result ReplyData MessageFault) → Keeps marks (reply_read trade marks said)
 reply_keeps trade marks (Ok reply) = later_keeps (HasReply reply) marks _ (authentication_keeps trade (kept reply) (HasReply reply ∷ marks))
-reply_keeps trade marks (Err fault) = unable_keeps trade true marks
+reply_keeps trade marks (Err fault) = unable_keeps trade Sent marks
 
 replied_keeps : (trade : Trade) (marks : List Mark) (reply : Option (List ℕ)) → Keeps marks (replied trade marks reply)
-replied_keeps trade marks None = unable_keeps trade true marks
+replied_keeps trade marks None = unable_keeps trade Sent marks
 replied_keeps trade marks (Some reply) = reply_keeps trade marks (reply_of reply)
 
 online_by_keeps : (trade : Trade) (ac : AcData) (marks : List Mark) (message : List ℕ) (test : Bool)
-    → Keeps marks (let rest : Rest Mark = (if test then unable_online trade false marks else host_step marks message (replied trade marks)) in rest)
-online_by_keeps trade ac marks message true = unable_keeps trade false marks
+    → Keeps marks (let rest : Rest Mark = (if test then unable_online trade NotSent marks else host_step marks message (replied trade marks)) in rest)
+online_by_keeps trade ac marks message true = unable_keeps trade NotSent marks
 online_by_keeps trade ac marks message false = host_keeps marks message (replied trade marks) (replied_keeps trade marks)
 
 first_answered_keeps : (trade : Trade) (ac : AcData) (marks : List Mark) (kind : Kind) → Keeps marks (first_answered trade ac marks kind)

@@ -14,19 +14,21 @@ use Rattle.kernel.specs.Course.{Standing, Rest, card_step, cut_off, host_step}
 use Rattle.kernel.specs.Dialogue.{Trade, authentication, authentication_by, has_authentication, issuer_scripts, replied, reply_read, unable_online, scripts_behind, decision, left_script, all_failed}
 use Rattle.kernel.specs.Reply.{Reply, CardGone, HostSaid, HostSilent}
 use Rattle.kernel.specs.Stages.{TradingStands, Begins, authenticating, behind_if}
+use Rattle.kernel.specs.declared.stage.OnlineOutcome.{OnlineOutcome}
 use Rattle.kernel.specs.declared.stage.Trading.TheVariants as trading
 use Rattle.online_step.specs.Authenticate.{authenticate_command, authenticated, verdict_of, after_verdict}
 use Rattle.terminal_state.specs.Marks.{Mark, HasReply, HasSecond, HasAuthenticated, HasRunBehind, moment, latest, card_of}
 use Rattle.terminal_state.specs.Scripts.{kept}
+use Rattle.terminal_state.specs.declared.moment.OnlineRequest.TheVariants.{Sent}
 use Rattle.terminal_state.specs.declared.table.Table.{Table}
 
 -- the host doesn't reply
-pub silent : (t : Table) → (trade : Trade) → (marks : List Mark) → (message : List ℕ) → (log : List Logged) → (rest : List Reply → Standing Mark) → ((later : List Reply) → rest later ≡ host_step marks message (replied trade marks) log later) → t.moment ≡ moment marks → latest card_of None marks ≡ Some trade.card → Begins t trade.card marks (λ later. rest (HostSilent ∷ later)) (unable_online trade true marks log)
+pub silent : (t : Table) → (trade : Trade) → (marks : List Mark) → (message : List ℕ) → (log : List Logged) → (rest : List Reply → Standing Mark) → ((later : List Reply) → rest later ≡ host_step marks message (replied trade marks) log later) → t.moment ≡ moment marks → latest card_of None marks ≡ Some trade.card → Begins t trade.card marks (λ later. rest (HostSilent ∷ later)) (unable_online trade Sent marks log)
 unfolding host_step
 silent t trade marks message log rest passed tied read = record { passed = λ later. passed (HostSilent ∷ later); tied = tied; read = read }
 
 -- its reply can't be read
-pub unread : (t : Table) → (trade : Trade) → (marks : List Mark) → (message : List ℕ) → (log : List Logged) → (rest : List Reply → Standing Mark) → (reply : List ℕ) → (fault : MessageFault) → ((later : List Reply) → rest later ≡ host_step marks message (replied trade marks) log later) → t.moment ≡ moment marks → latest card_of None marks ≡ Some trade.card → reply_of reply ≡ Err fault → Begins t trade.card marks (λ later. rest (HostSaid reply ∷ later)) (unable_online trade true marks log)
+pub unread : (t : Table) → (trade : Trade) → (marks : List Mark) → (message : List ℕ) → (log : List Logged) → (rest : List Reply → Standing Mark) → (reply : List ℕ) → (fault : MessageFault) → ((later : List Reply) → rest later ≡ host_step marks message (replied trade marks) log later) → t.moment ≡ moment marks → latest card_of None marks ≡ Some trade.card → reply_of reply ≡ Err fault → Begins t trade.card marks (λ later. rest (HostSaid reply ∷ later)) (unable_online trade Sent marks log)
 unfolding host_step
 unread t trade marks message log rest reply fault passed tied read is = record {
   passed = λ later. passed (HostSaid reply ∷ later) ∙ ap (λ (r : Result ReplyData MessageFault). reply_read trade marks r log later) is;
@@ -78,9 +80,9 @@ pub verdict_refused : (answer : List ℕ) → (cause : Cause) → (later : List 
 verdict_refused answer cause later is = rw (← is) refl
 
 -- the second cryptogram settles the ending
-pub settles : (t t2 : Table) → (trade : Trade) → (marks : List Mark) → (log : List Logged) → (rest : List Reply → Standing Mark) → (on : Bool) → (ac : AcData) → (ending : Ending) → (scripts : List ℕ) → (behind : List (List ℕ)) → Begins t trade.card marks rest (scripts_behind (decision on ac.kind) (behind_if on scripts) (HasSecond ac ∷ marks) log) → ending ≡ decision on ac.kind → behind_if on scripts ≡ behind → t2.moment ≡ moment (HasSecond ac ∷ marks) → Begins t2 trade.card (HasSecond ac ∷ marks) rest (scripts_behind ending behind (HasSecond ac ∷ marks) log)
-settles t t2 trade marks log rest on ac ending scripts behind begins is same_behind tied = record {
-  passed = λ later. begins.passed later ∙ ap (λ (e : Ending). scripts_behind e (behind_if on scripts) (HasSecond ac ∷ marks) log later) (sym is) ∙ ap (λ (b : List (List ℕ)). scripts_behind ending b (HasSecond ac ∷ marks) log later) same_behind;
+pub settles : (t t2 : Table) → (trade : Trade) → (marks : List Mark) → (log : List Logged) → (rest : List Reply → Standing Mark) → (outcome : OnlineOutcome) → (ac : AcData) → (ending : Ending) → (scripts : List ℕ) → (behind : List (List ℕ)) → Begins t trade.card marks rest (scripts_behind (decision outcome ac.kind) (behind_if outcome scripts) (HasSecond ac ∷ marks) log) → ending ≡ decision outcome ac.kind → behind_if outcome scripts ≡ behind → t2.moment ≡ moment (HasSecond ac ∷ marks) → Begins t2 trade.card (HasSecond ac ∷ marks) rest (scripts_behind ending behind (HasSecond ac ∷ marks) log)
+settles t t2 trade marks log rest outcome ac ending scripts behind begins is same_behind tied = record {
+  passed = λ later. begins.passed later ∙ ap (λ (e : Ending). scripts_behind e (behind_if outcome scripts) (HasSecond ac ∷ marks) log later) (sym is) ∙ ap (λ (b : List (List ℕ)). scripts_behind ending b (HasSecond ac ∷ marks) log later) same_behind;
   tied = tied;
   read = begins.read;
 }

@@ -21,3 +21,4 @@ mod Turning
 mod Telling
 mod Restricting
 mod Belonging
+mod Traded

@@ -21,6 +21,7 @@ use Rattle.kernel.specs.Course.{Standing, Rest, card_step, cut_off}
 use Rattle.kernel.specs.Dialogue.{Trade, scripts_before, scripts_behind, left_script, second, kind_for}
 use Rattle.kernel.specs.Reply.{Reply, CardSaid}
 use Rattle.kernel.specs.Stages.{TradingStands, Begins}
+use Rattle.kernel.specs.declared.stage.OnlineOutcome.TheVariants.{Replied}
 use Rattle.kernel.specs.declared.stage.Trading.TheVariants as trading
 use Rattle.object_lists.specs.CardRead.{ReadCard}
 use Rattle.script_run.specs.Leading.{RunNextLeads}
@@ -59,10 +60,10 @@ script_begins t trade reply left others template marks log rest is begins = reco
 
 -- no script is left
 pub scripts_end : (t : Table) → (trade : Trade) → (reply : ReplyData) → (asked : Kind) → (left : List (List ℕ)) → (marks : List Mark) → (log : List Logged) → (rest : List Reply → Standing Mark) → left ≡ [] → asked ≡ kind_for reply.code → Begins t trade.card marks rest (scripts_before trade reply left marks log)
-    → Begins t trade.card marks rest (second trade true asked (templates 0x72 reply.scripts) marks log)
+    → Begins t trade.card marks rest (second trade Replied asked (templates 0x72 reply.scripts) marks log)
 unfolding scripts_before
 scripts_end t trade reply asked left marks log rest none is begins = record {
-  passed = λ later. begins.passed later ∙ rw none (ap (λ (kind : Kind). second trade true kind (templates 0x72 reply.scripts) marks log later) (sym is));
+  passed = λ later. begins.passed later ∙ rw none (ap (λ (kind : Kind). second trade Replied kind (templates 0x72 reply.scripts) marks log later) (sym is));
   tied = begins.tied;
   read = begins.read;
 }

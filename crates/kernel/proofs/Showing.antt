@@ -1,5 +1,5 @@
 -- What a kernel shows of the dialogue.
-use Rattle.std.proofs.Common.{◌≡◌, refl, sym, ap, ◌∙◌, false, true, List, [], ◌++◌, drop, None}
+use Rattle.std.proofs.Common.{◌≡◌, refl, sym, ap, ◌∙◌, List, [], ◌++◌, drop, None}
 use Rattle.std.proofs.lemmas.List.{append-nil}
 use Rattle.app_select.specs.Leading.{rest_with}
 use Rattle.cvm_list.specs.Waiting.{rest_of as verifying_rest}
@@ -10,13 +10,14 @@ use Rattle.kernel.specs.Course.{Standing, stands, cut_off, host_step}
 use Rattle.kernel.specs.Dialogue.{Trade, dialogue, left_script}
 use Rattle.kernel.specs.Kernel.{KernelData, KernelFits, StageFits, KernelStands, StageGoes, deal_in, next_of, stage_next, opening_next, trading_next, told_next, told_bytes, deed_next, deed_bytes, bytes_by}
 use Rattle.kernel.specs.Reply.{Reply, Deed, ToCard, ToHost, Over}
-use Rattle.kernel.specs.Stages.{OpeningStands, TradingStands, cut_of, generating, authenticating}
+use Rattle.kernel.specs.Stages.{OpeningStands, TradingStands, generating, authenticating}
 use Rattle.kernel.specs.declared.stage.Opening.{Opening}
 use Rattle.kernel.specs.declared.stage.Opening.TheVariants as opening
 use Rattle.kernel.specs.declared.stage.Stage.{Stage}
 use Rattle.kernel.specs.declared.stage.Stage.TheVariants as stage
 use Rattle.kernel.specs.declared.stage.Trading.{Trading}
 use Rattle.kernel.specs.declared.stage.Trading.TheVariants as trading
+use Rattle.online_step.specs.declared.ac.GenerateAc.TheVariants as generate
 use Rattle.pse_directory.specs.Left.{rest_of as directory_rest}
 use Rattle.read_records.specs.DataRead.{reading}
 use Rattle.read_records.specs.Options.{initiated}
@@ -51,9 +52,9 @@ stage_deed t (stage.Trading at) = trading_deed t at.trading
 
 pub opening_shows : (t : Table) → (s : Opening) → (log : List Logged) → (rest : List Reply → Standing Mark) → OpeningStands t s log rest → rest [] ≡ stands [] (opening_deed t s)
 opening_shows t (opening.Directory s) log rest is =
-    is.passed [] ∙ wants (cut_off []) (cut_of s.begun) step.Select [] (directory_rest s.listing) _ log t.command.items is.shows
+    is.passed [] ∙ wants (cut_off []) s.cut step.Select [] (directory_rest s.listing) _ log t.command.items is.shows
 opening_shows t (opening.Select s) log rest is =
-    is.passed [] ∙ wants (cut_off []) (cut_of s.begun) step.Select [] (rest_with s.search t.candidates) _ log t.command.items is.shows
+    is.passed [] ∙ wants (cut_off []) s.cut step.Select [] (rest_with s.search t.candidates) _ log t.command.items is.shows
 opening_shows t (opening.Initiate s) log rest is =
     is.passed [] ∙ wants (cut_off []) step.Initiate step.Initiate [] (initiated s.initiating) _ log t.command.items is.shows
 opening_shows t (opening.Read s) log rest is =
@@ -67,14 +68,14 @@ trading_shows t trade (trading.Verify v) log rest is =
 trading_shows t trade (trading.Risk j) log rest is =
     is.passed [] ∙ wants (cut_off is.marks) step.Risk step.Risk is.marks (judging_rest j) _ log t.command.items is.shows
 trading_shows t trade (trading.First asked) log rest is =
-    is.passed [] ∙ wants (cut_off is.marks) step.First step.First is.marks (generating t.command.items asked false) _ log t.command.items refl
+    is.passed [] ∙ wants (cut_off is.marks) step.First step.First is.marks (generating t.command.items asked generate.First) _ log t.command.items refl
 trading_shows t trade trading.Online log rest is = is.passed []
 trading_shows t trade trading.Authenticate log rest is =
     is.passed [] ∙ wants (cut_off is.marks) step.Authenticate step.Authenticate is.marks (authenticating t.command.items) _ log t.command.items refl
 trading_shows t trade (trading.ScriptBefore s) log rest is =
     is.passed [] ∙ wants (cut_off is.marks) step.Script step.Script is.marks (running_rest s.running) _ log t.command.items is.shows
 trading_shows t trade (trading.Second s) log rest is =
-    is.passed [] ∙ wants (cut_off is.marks) step.Second step.Second is.marks (generating t.command.items s.asked true) _ log t.command.items refl
+    is.passed [] ∙ wants (cut_off is.marks) step.Second step.Second is.marks (generating t.command.items s.asked generate.Second) _ log t.command.items refl
 trading_shows t trade (trading.ScriptBehind s ending) log rest is =
     is.passed [] ∙ wants (left_script ending (drop s.next (templates 0x72 t.reply.scripts)) is.marks) step.Script step.Script is.marks (running_rest s.running) _ log t.command.items is.shows
 trading_shows t trade (trading.Over ending) log rest is = is.passed []

@@ -22,6 +22,8 @@ use Rattle.kernel.specs.Dialogue.{Trade, all_failed, left_script, scripts_behind
 use Rattle.kernel.specs.Ended.{EndData, end_of, end_with, capture, presentment, reversal}
 use Rattle.kernel.specs.Laws.{HostTold, asks_online, is_request, is_unsent, is_sent, is_refused, asks_host, approves}
 use Rattle.kernel.specs.Reply.{Reply, CardSaid, CardGone, HostSaid, HostSilent, Deed, ToCard, ToHost, Over}
+use Rattle.kernel.specs.declared.stage.OnlineOutcome.{OnlineOutcome}
+use Rattle.kernel.specs.declared.stage.OnlineOutcome.TheVariants.{Replied, Unable}
 use Rattle.object_lists.specs.CardRead.{ReadCard}
 use Rattle.online_step.specs.Authenticate.{authenticated}
 use Rattle.read_records.specs.Options.{Opened}
@@ -29,6 +31,8 @@ use Rattle.script_run.specs.Ran.{template_ran, no_script}
 use Rattle.terminal_state.specs.Marks.{Mark, MomentData, moment, latest, open_of, counter_of, ac_of, card_of, HasVerified, HasJudged, HasAnalysed, HasFirst, HasReply, WasUnable, HasAuthenticated, HasRunBefore, HasSecond, HasRunBehind}
 use Rattle.terminal_state.specs.Scripts.{templates, kept}
 use Rattle.terminal_state.specs.Terminal.{Deal}
+use Rattle.terminal_state.specs.declared.moment.OnlineRequest.{OnlineRequest}
+use Rattle.terminal_state.specs.declared.moment.OnlineRequest.TheVariants.{Sent, NotSent}
 
 abbrev offline : Deal → Bool
 offline deal = is_offline_only deal.settings.kind
@@ -157,21 +161,21 @@ scripts_behind_told deal ending (template ∷ others) marks a log replies =
     (λ result. scripts_behind_told deal ending others (HasRunBehind result ∷ marks) a)
     step.Script (template_ran template) log replies
 
-second_told : (trade : Trade) (on : Bool) (asked : Kind) (behind : List (List ℕ)) (marks : List Mark) → After trade.deal marks → (log : List Logged) (replies : List Reply)
-    → Told trade.deal (second trade on asked behind marks log replies)
+second_told : (trade : Trade) (outcome : OnlineOutcome) (asked : Kind) (behind : List (List ℕ)) (marks : List Mark) → After trade.deal marks → (log : List Logged) (replies : List Reply)
+    → Told trade.deal (second trade outcome asked behind marks log replies)
 unfolding second
-second_told trade on asked behind marks a log replies =
-    card_all (cut_off marks) step.Second marks (λ ac. scripts_behind (decision on ac.kind) behind (HasSecond ac ∷ marks)) (Told trade.deal)
+second_told trade outcome asked behind marks a log replies =
+    card_all (cut_off marks) step.Second marks (λ ac. scripts_behind (decision outcome ac.kind) behind (HasSecond ac ∷ marks)) (Told trade.deal)
     (λ command. after_told trade.deal marks a (ToCard command) refl)
     (λ at plain. after_told trade.deal marks a (Over at) refl)
     (λ cut course. after_told trade.deal marks a (Over (CutOff cut)) refl)
-    (λ ac. scripts_behind_told trade.deal (decision on ac.kind) behind (HasSecond ac ∷ marks) (a.0, a.1, a.2, refl, a.4))
+    (λ ac. scripts_behind_told trade.deal (decision outcome ac.kind) behind (HasSecond ac ∷ marks) (a.0, a.1, a.2, refl, a.4))
     step.Second _ log replies
 
 scripts_before_told : (trade : Trade) (reply : ReplyData) (scripts : List (List ℕ)) (marks : List Mark) → After trade.deal marks → (log : List Logged) (replies : List Reply)
     → Told trade.deal (scripts_before trade reply scripts marks log replies)
 unfolding scripts_before
-scripts_before_told trade reply [] marks a log replies = second_told trade true (kind_for reply.code) (templates 0x72 reply.scripts) marks a log replies
+scripts_before_told trade reply [] marks a log replies = second_told trade Replied (kind_for reply.code) (templates 0x72 reply.scripts) marks a log replies
 scripts_before_told trade reply (template ∷ others) marks a log replies =
     card_all (cut_off marks) step.Script marks (λ result. scripts_before trade reply others (HasRunBefore result ∷ marks)) (Told trade.deal)
     (λ command. after_told trade.deal marks a (ToCard command) refl)
@@ -197,16 +201,16 @@ authentication_told : (trade : Trade) (reply : ReplyData) (marks : List Mark) �
 unfolding authentication
 authentication_told trade reply marks a = authentication_by_told trade reply marks a (has_authentication trade.card) reply.auth
 
-unable_told : (trade : Trade) (sent : Bool) (marks : List Mark) → After trade.deal (WasUnable sent (kind_unable trade marks) ∷ marks) → (log : List Logged) (replies : List Reply)
-    → Told trade.deal (unable_online trade sent marks log replies)
+unable_told : (trade : Trade) (request : OnlineRequest) (marks : List Mark) → After trade.deal (WasUnable request (kind_unable trade marks) ∷ marks) → (log : List Logged) (replies : List Reply)
+    → Told trade.deal (unable_online trade request marks log replies)
 unfolding unable_online
-unable_told trade sent marks a = second_told trade false (kind_unable trade marks) [] (WasUnable sent (kind_unable trade marks) ∷ marks) a
+unable_told trade request marks a = second_told trade Unable (kind_unable trade marks) [] (WasUnable request (kind_unable trade marks) ∷ marks) a
 
 -- a terminal that never goes online sends nothing
-unsent_after : (deal : Deal) (marks : List Mark) (wanted : Kind) → Requested marks → offline deal ≡ true → After deal (WasUnable false wanted ∷ marks)
+unsent_after : (deal : Deal) (marks : List Mark) (wanted : Kind) → Requested marks → offline deal ≡ true → After deal (WasUnable NotSent wanted ∷ marks)
 unsent_after deal marks wanted r never_online = (rw (r.0, never_online) refl, rw r.2 refl, r.5, r.6, r.7)
 
-sent_after : (deal : Deal) (marks : List Mark) (wanted : Kind) → Requested marks → offline deal ≡ false → After deal (WasUnable true wanted ∷ marks)
+sent_after : (deal : Deal) (marks : List Mark) (wanted : Kind) → Requested marks → offline deal ≡ false → After deal (WasUnable Sent wanted ∷ marks)
 sent_after deal marks wanted r goes_online = (rw (r.1, r.0, goes_online) refl, rw r.3 refl, r.5, r.6, r.7)
 
 again : (b : Bool) → b ≡ (true && not (not b || false))
@@ -219,11 +223,11 @@ reply_after deal marks reply r goes_online = (rw (r.1, r.0, goes_online) refl, r
 reply_told : (trade : Trade) (marks : List Mark) → Requested marks → offline trade.deal ≡ false → (said : Result ReplyData MessageFault) (log : List Logged) (replies : List Reply)
     → Told trade.deal (reply_read trade marks said log replies)
 reply_told trade marks r goes_online (Ok reply) = authentication_told trade (kept reply) (HasReply reply ∷ marks) (reply_after trade.deal marks reply r goes_online)
-reply_told trade marks r goes_online (Err fault) = unable_told trade true marks (sent_after trade.deal marks (kind_unable trade marks) r goes_online)
+reply_told trade marks r goes_online (Err fault) = unable_told trade Sent marks (sent_after trade.deal marks (kind_unable trade marks) r goes_online)
 
 replied_told : (trade : Trade) (marks : List Mark) → Requested marks → offline trade.deal ≡ false → (heard : Option (List ℕ)) (log : List Logged) (replies : List Reply)
     → Told trade.deal (replied trade marks heard log replies)
-replied_told trade marks r goes_online None = unable_told trade true marks (sent_after trade.deal marks (kind_unable trade marks) r goes_online)
+replied_told trade marks r goes_online None = unable_told trade Sent marks (sent_after trade.deal marks (kind_unable trade marks) r goes_online)
 replied_told trade marks r goes_online (Some said) = reply_told trade marks r goes_online (reply_of said)
 
 asked_told : (deal : Deal) (marks : List Mark) (message : List ℕ) → Requested marks → offline deal ≡ false → Told deal (stands marks (ToHost message))
@@ -236,8 +240,8 @@ asked_told deal marks message r goes_online = (
 )
 
 online_by_told : (trade : Trade) (marks : List Mark) (message : List ℕ) → Requested marks → (test : Bool) → offline trade.deal ≡ test → (log : List Logged) (replies : List Reply)
-    → Told trade.deal (let rest : Rest Mark = (if test then unable_online trade false marks else host_step marks message (replied trade marks)) in rest log replies)
-online_by_told trade marks message r true is = unable_told trade false marks (unsent_after trade.deal marks (kind_unable trade marks) r is)
+    → Told trade.deal (let rest : Rest Mark = (if test then unable_online trade NotSent marks else host_step marks message (replied trade marks)) in rest log replies)
+online_by_told trade marks message r true is = unable_told trade NotSent marks (unsent_after trade.deal marks (kind_unable trade marks) r is)
 online_by_told trade marks message r false is =
     host_all marks message (replied trade marks) (Told trade.deal) (asked_told trade.deal marks message r is) (replied_told trade marks r is)
 

@@ -23,6 +23,8 @@ use Rattle.kernel.specs.Laws.{AsBefore, LeavesBy, IsUnable, HeardBy, Turned, cut
 use Rattle.kernel.specs.Reply.{Reply, CardSaid, CardGone, HostSaid, HostSilent, ToCard, Over}
 use Rattle.kernel.specs.declared.kernel.Next.{Next}
 use Rattle.kernel.specs.declared.kernel.Next.TheVariants as next
+use Rattle.kernel.specs.declared.stage.OnlineOutcome.{OnlineOutcome}
+use Rattle.kernel.specs.declared.stage.OnlineOutcome.TheVariants.{Replied, Unable}
 use Rattle.online_step.specs.Authenticate.{authenticated}
 use Rattle.pse_directory.specs.Directory.{selecting_by}
 use Rattle.read_records.specs.Options.{Opened}
@@ -30,6 +32,8 @@ use Rattle.script_run.specs.Ran.{template_ran}
 use Rattle.terminal_state.specs.Marks.{Mark, HasVerified, HasJudged, HasAnalysed, HasFirst, HasReply, WasUnable, HasAuthenticated, HasRunBefore, HasSecond, HasRunBehind}
 use Rattle.terminal_state.specs.Scripts.{templates, kept}
 use Rattle.terminal_state.specs.Terminal.{Deal}
+use Rattle.terminal_state.specs.declared.moment.OnlineRequest.{OnlineRequest}
+use Rattle.terminal_state.specs.declared.moment.OnlineRequest.TheVariants.{Sent, NotSent}
 
 abbrev Turn : Standing Mark → Reply → Standing Mark → Type 0
 Turn s reply t = (t ≡ s) ⊎ Turned s reply t
@@ -101,10 +105,10 @@ host_starts marks message next log = (refl, refl, refl)
 cut_leaves : {A : Type 0} (marks : List Mark) → list_any is_second marks ≡ false → (cut : Step) (course : List (List ℕ) → Progress A) → LeavesBy (list_any is_second marks) marks (cut_off marks cut course)
 cut_leaves marks none cut course = rw none (cut, refl)
 
-decides : (on : Bool) (kind : Kind) → cuts (decision on kind) ≡ false
-decides on Tc = refl
-decides on Aac = refl
-decides on Arqc = refl
+decides : (outcome : OnlineOutcome) (kind : Kind) → cuts (decision outcome kind) ≡ false
+decides outcome Tc = refl
+decides outcome Aac = refl
+decides outcome Arqc = refl
 
 left_turns : (ending : Ending) → cuts ending ≡ false → (others : List (List ℕ)) (marks : List Mark) → list_any is_second marks ≡ true → (progress : Progress (List ℕ))
     → LeavesBy (list_any is_second marks) marks
@@ -122,16 +126,16 @@ scripts_behind_turns ending whole (template ∷ others) marks there =
     (λ result. scripts_behind_turns ending whole others (HasRunBehind result ∷ marks) there)
     step.Script (template_ran template)
 
-second_turns : (trade : Trade) (on : Bool) (asked : Kind) (behind : List (List ℕ)) (marks : List Mark) → list_any is_second marks ≡ false → Turns marks (second trade on asked behind marks)
+second_turns : (trade : Trade) (outcome : OnlineOutcome) (asked : Kind) (behind : List (List ℕ)) (marks : List Mark) → list_any is_second marks ≡ false → Turns marks (second trade outcome asked behind marks)
 unfolding second
-second_turns trade on asked behind marks none =
-    card_turns (cut_off marks) step.Second marks (λ ac. scripts_behind (decision on ac.kind) behind (HasSecond ac ∷ marks)) (cut_leaves marks none)
-    (λ ac. scripts_behind_turns (decision on ac.kind) (decides on ac.kind) behind (HasSecond ac ∷ marks) refl)
+second_turns trade outcome asked behind marks none =
+    card_turns (cut_off marks) step.Second marks (λ ac. scripts_behind (decision outcome ac.kind) behind (HasSecond ac ∷ marks)) (cut_leaves marks none)
+    (λ ac. scripts_behind_turns (decision outcome ac.kind) (decides outcome ac.kind) behind (HasSecond ac ∷ marks) refl)
     step.Second _
 
 scripts_before_turns : (trade : Trade) (reply : ReplyData) (scripts : List (List ℕ)) (marks : List Mark) → list_any is_second marks ≡ false → Turns marks (scripts_before trade reply scripts marks)
 unfolding scripts_before
-scripts_before_turns trade reply [] marks none = second_turns trade true (kind_for reply.code) (templates 0x72 reply.scripts) marks none
+scripts_before_turns trade reply [] marks none = second_turns trade Replied (kind_for reply.code) (templates 0x72 reply.scripts) marks none
 scripts_before_turns trade reply (template ∷ others) marks none =
     card_turns (cut_off marks) step.Script marks (λ result. scripts_before trade reply others (HasRunBefore result ∷ marks)) (cut_leaves marks none)
     (λ result. scripts_before_turns trade reply others (HasRunBefore result ∷ marks) none)
@@ -149,30 +153,30 @@ authentication_turns : (trade : Trade) (reply : ReplyData) (marks : List Mark) �
 unfolding authentication
 authentication_turns trade reply marks none = authentication_by_turns trade reply marks none (has_authentication trade.card) reply.auth
 
-unable_turns : (trade : Trade) (sent : Bool) (marks : List Mark) → list_any is_second marks ≡ false → Turns (WasUnable sent (kind_unable trade marks) ∷ marks) (unable_online trade sent marks)
+unable_turns : (trade : Trade) (request : OnlineRequest) (marks : List Mark) → list_any is_second marks ≡ false → Turns (WasUnable request (kind_unable trade marks) ∷ marks) (unable_online trade request marks)
 unfolding unable_online
-unable_turns trade sent marks none = second_turns trade false (kind_unable trade marks) [] (WasUnable sent (kind_unable trade marks) ∷ marks) none
+unable_turns trade request marks none = second_turns trade Unable (kind_unable trade marks) [] (WasUnable request (kind_unable trade marks) ∷ marks) none
 
 heard_by : (trade : Trade) (marks : List Mark) → list_any is_second marks ≡ false → (said : Result ReplyData MessageFault) (log : List Logged) → HeardBy said marks (reply_read trade marks said log [])
 heard_by trade marks none (Ok reply) log = (authentication_turns trade (kept reply) (HasReply reply ∷ marks) none).0 log
-heard_by trade marks none (Err fault) log = (unable_turns trade true marks none).0 log
+heard_by trade marks none (Err fault) log = (unable_turns trade Sent marks none).0 log
 
 read_turns : (trade : Trade) (marks : List Mark) → list_any is_second marks ≡ false → (said : Result ReplyData MessageFault) (log : List Logged) (replies : List Reply) (reply : Reply)
     → Turn (reply_read trade marks said log replies) reply (reply_read trade marks said log (replies ++ reply ∷ []))
 read_turns trade marks none (Ok said) log replies reply = (authentication_turns trade (kept said) (HasReply said ∷ marks) none).1 log replies reply
-read_turns trade marks none (Err fault) log replies reply = (unable_turns trade true marks none).1 log replies reply
+read_turns trade marks none (Err fault) log replies reply = (unable_turns trade Sent marks none).1 log replies reply
 
 replied_turns : (trade : Trade) (marks : List Mark) → list_any is_second marks ≡ false → (heard : Option (List ℕ)) (log : List Logged) (replies : List Reply) (reply : Reply)
     → Turn (replied trade marks heard log replies) reply (replied trade marks heard log (replies ++ reply ∷ []))
-replied_turns trade marks none None log replies reply = (unable_turns trade true marks none).1 log replies reply
+replied_turns trade marks none None log replies reply = (unable_turns trade Sent marks none).1 log replies reply
 replied_turns trade marks none (Some said) log replies reply = read_turns trade marks none (reply_of said) log replies reply
 
 online_by_turns : (trade : Trade) (marks : List Mark) (message : List ℕ) → list_any is_second marks ≡ false → (test : Bool)
-    → Turns marks (let rest : Rest Mark = (if test then unable_online trade false marks else host_step marks message (replied trade marks)) in rest)
-online_by_turns trade marks message none true = unable_turns trade false marks none
+    → Turns marks (let rest : Rest Mark = (if test then unable_online trade NotSent marks else host_step marks message (replied trade marks)) in rest)
+online_by_turns trade marks message none true = unable_turns trade NotSent marks none
 online_by_turns trade marks message none false = (
   λ log. host_starts marks message (replied trade marks) log,
-  λ log replies reply. host_walk marks message (replied trade marks) (λ log. (unable_turns trade true marks none).0 log)
+  λ log replies reply. host_walk marks message (replied trade marks) (λ log. (unable_turns trade Sent marks none).0 log)
       (λ said log. heard_by trade marks none (reply_of said) log) (replied_turns trade marks none) log replies reply,
 )
 

@@ -38,10 +38,13 @@ use Rattle.emv_dict.specs.declared.verified.Verified.{Verified}
 use Rattle.env_map.specs.Entries.{Entries}
 use Rattle.kernel.specs.Course.{Standing, Rest, stands, over, by_progress, card_step, cut_off, host_step}
 use Rattle.kernel.specs.Reply.{Reply, Over}
+use Rattle.kernel.specs.declared.stage.OnlineOutcome.{OnlineOutcome}
+use Rattle.kernel.specs.declared.stage.OnlineOutcome.TheVariants.{Replied, Unable}
 use Rattle.object_lists.specs.CardRead.{ReadCard}
 use Rattle.online_step.specs.Authenticate.{authenticated}
 use Rattle.online_step.specs.Generate.{generated, list_data}
 use Rattle.online_step.specs.Request.{request_of}
+use Rattle.online_step.specs.declared.ac.GenerateAc.TheVariants as generate
 use Rattle.pse_directory.specs.Directory.{selecting_by}
 use Rattle.read_records.specs.DataRead.{reading}
 use Rattle.read_records.specs.Options.{Opened, initiating}
@@ -52,6 +55,8 @@ use Rattle.terminal_state.specs.Marks as mark
 use Rattle.terminal_state.specs.Marks.{Mark, moment}
 use Rattle.terminal_state.specs.Scripts.{templates, kept}
 use Rattle.terminal_state.specs.Terminal.{Deal, terminal_objects}
+use Rattle.terminal_state.specs.declared.moment.OnlineRequest.{OnlineRequest}
+use Rattle.terminal_state.specs.declared.moment.OnlineRequest.TheVariants.{Sent, NotSent}
 
 -- a transaction once the card is read: what was dealt, the terminal's row of the application, and the card
 pub record Trade : Type 0 where
@@ -63,11 +68,16 @@ pub record Trade : Type 0 where
 abbrev pub objects_at : Trade → List Mark → Entries
 objects_at trade marks = terminal_objects trade.deal trade.row (moment marks)
 
+-- a decision is one online where the issuer's reply was read
+abbrev pub ends_online : OnlineOutcome → Bool
+ends_online Replied = true
+ends_online Unable = false
+
 -- what the cryptogram of this kind ends with
-abbrev pub decision : Bool → Kind → Ending
-decision online Tc = Approved online
-decision online Aac = Declined online
-decision online Arqc = Declined online
+abbrev pub decision : OnlineOutcome → Kind → Ending
+decision outcome Tc = Approved (ends_online outcome)
+decision outcome Aac = Declined (ends_online outcome)
+decision outcome Arqc = Declined (ends_online outcome)
 
 -- a card that is gone fails the script that runs and each one behind it, and the ending stands
 abbrev pub all_failed : List (List ℕ) → List Mark → List Mark
@@ -88,15 +98,15 @@ scripts_behind ending (template ∷ others) marks =
     (λ result. scripts_behind ending others (mark.HasRunBehind result ∷ marks))
 
 -- what follows the second cryptogram: the templates 72
-abbrev pub second_then : Bool → List (List ℕ) → List Mark → AcData → Rest Mark
-second_then online behind marks ac = scripts_behind (decision online ac.kind) behind (mark.HasSecond ac ∷ marks)
+abbrev pub second_then : OnlineOutcome → List (List ℕ) → List Mark → AcData → Rest Mark
+second_then outcome behind marks ac = scripts_behind (decision outcome ac.kind) behind (mark.HasSecond ac ∷ marks)
 
 -- the second GENERATE AC of this kind, over the data of CDOL2
-unfoldable pub second : Trade → Bool → Kind → List (List ℕ) → List Mark → Rest Mark
-second trade online asked behind marks =
+unfoldable pub second : Trade → OnlineOutcome → Kind → List (List ℕ) → List Mark → Rest Mark
+second trade outcome asked behind marks =
     card_step (cut_off marks) step.Second step.Second marks
-    (generated 0x8D asked true (list_data 0x8D trade.card (objects_at trade marks)))
-    (second_then online behind marks)
+    (generated 0x8D asked generate.Second (list_data 0x8D trade.card (objects_at trade marks)))
+    (second_then outcome behind marks)
 
 -- the kind that a reply's code asks for: 00 approves
 abbrev pub kind_for : List ℕ → Kind
@@ -104,7 +114,7 @@ kind_for code = (if bytes_eq code (0x30 ∷ 0x30 ∷ []) then Tc else Aac)
 
 -- the templates 71, before it
 unfoldable pub scripts_before : Trade → ReplyData → List (List ℕ) → List Mark → Rest Mark
-scripts_before trade reply [] marks = second trade true (kind_for reply.code) (templates 0x72 reply.scripts) marks
+scripts_before trade reply [] marks = second trade Replied (kind_for reply.code) (templates 0x72 reply.scripts) marks
 scripts_before trade reply (template ∷ others) marks =
     card_step (cut_off marks) step.Script step.Script marks (template_ran template)
     (λ result. scripts_before trade reply others (mark.HasRunBefore result ∷ marks))
@@ -135,17 +145,17 @@ authentication trade reply marks = authentication_by trade reply marks (has_auth
 abbrev pub kind_unable : Trade → List Mark → Kind
 kind_unable trade marks = unable (moment marks).tvr (codes_of trade.card trade.row) trade.deal.settings.kind
 
-unfoldable pub unable_online : Trade → Bool → List Mark → Rest Mark
-unable_online trade sent marks =
-    second trade false (kind_unable trade marks) [] (mark.WasUnable sent (kind_unable trade marks) ∷ marks)
+unfoldable pub unable_online : Trade → OnlineRequest → List Mark → Rest Mark
+unable_online trade request marks =
+    second trade Unable (kind_unable trade marks) [] (mark.WasUnable request (kind_unable trade marks) ∷ marks)
 
 abbrev pub reply_read : Trade → List Mark → Result ReplyData MessageFault → Rest Mark
 reply_read trade marks (Ok reply) = authentication trade (kept reply) (mark.HasReply reply ∷ marks)
-reply_read trade marks (Err fault) = unable_online trade true marks
+reply_read trade marks (Err fault) = unable_online trade Sent marks
 
 -- silence, or a reply with a fault, makes the terminal unable too
 abbrev pub replied : Trade → List Mark → Option (List ℕ) → Rest Mark
-replied trade marks None = unable_online trade true marks
+replied trade marks None = unable_online trade Sent marks
 replied trade marks (Some reply) = reply_read trade marks (reply_of reply)
 
 -- a terminal without online capability (EMV 4.3 Book 4 Annex A1)
@@ -154,7 +164,7 @@ is_offline_only kind = (kind == 23) || (kind == 26)
 
 abbrev pub online : Trade → AcData → List Mark → Rest Mark
 online trade ac marks =
-    if is_offline_only trade.deal.settings.kind then unable_online trade false marks
+    if is_offline_only trade.deal.settings.kind then unable_online trade NotSent marks
     else host_step marks (request_of trade.card (objects_at trade marks) trade.deal.settings ac (moment marks).pin) (replied trade marks)
 
 abbrev pub first_answered : Trade → AcData → List Mark → Kind → Rest Mark
@@ -170,7 +180,7 @@ first_then trade marks ac = first_answered trade ac (mark.HasFirst ac ∷ marks)
 unfoldable pub first : Trade → Kind → List Mark → Rest Mark
 first trade asked marks =
     card_step (cut_off marks) step.First step.First marks
-    (generated 0x8C asked false (list_data 0x8C trade.card (objects_at trade marks)))
+    (generated 0x8C asked generate.First (list_data 0x8C trade.card (objects_at trade marks)))
     (first_then trade marks)
 
 -- the kind that action analysis asks for

@@ -16,7 +16,7 @@ use Rattle.kernel.specs.declared.stage.Opening.{Opening}
 use Rattle.kernel.specs.declared.stage.Opening.TheVariants as opening
 use Rattle.object_lists.specs.CardRead.{card_of}
 use Rattle.object_lists.specs.Forms.{HasForms}
-use Rattle.read_records.specs.Checked.{HasOptions}
+use Rattle.object_lists.specs.Checked.{HasOptions}
 use Rattle.terminal_state.specs.Marks.{Mark, moment}
 use Rattle.terminal_state.specs.Table.{deal_of}
 use Rattle.terminal_state.specs.declared.table.Table.{Table}

@@ -17,7 +17,7 @@ use Rattle.kernel.specs.Ended.{EndData, end_of}
 use Rattle.kernel.specs.Reply.{Reply, CardSaid, CardGone, HostSaid, HostSilent, Deed, ToCard, ToHost, Over}
 use Rattle.object_lists.specs.CardRead.{ReadCard}
 use Rattle.restrictions.specs.Restricted.{restricted}
-use Rattle.terminal_state.specs.Marks.{Mark, HasRead, HasRestricted, HasVerified, HasJudged, HasFirst, HasReply, WasUnable, HasAuthenticated, HasRunBefore, HasSecond, HasRunBehind, latest, moment}
+use Rattle.terminal_state.specs.Marks.{Mark, HasRead, HasRestricted, HasVerified, HasJudged, HasFirst, HasReply, WasUnable, HasAuthenticated, HasRunBefore, HasSecond, HasRunBehind, was_sent, latest, moment}
 use Rattle.terminal_state.specs.Terminal.{Deal}
 
 -- what a terminal did at first, and behind each reply
@@ -73,16 +73,16 @@ is_request other = false
 
 -- the terminal was unable to go online: without a message, or behind one
 abbrev pub is_unsent : Mark → Bool
-is_unsent (WasUnable sent wanted) = not sent
+is_unsent (WasUnable request wanted) = not (was_sent request)
 is_unsent other = false
 
 abbrev pub is_silent : Mark → Bool
-is_silent (WasUnable sent wanted) = sent
+is_silent (WasUnable request wanted) = was_sent request
 is_silent other = false
 
 -- a message was sent, and the host was silent, said what can't be read, or replied
 abbrev pub is_sent : Mark → Bool
-is_sent (WasUnable sent wanted) = sent
+is_sent (WasUnable request wanted) = was_sent request
 is_sent (HasReply reply) = true
 is_sent other = false
 

@@ -38,7 +38,7 @@ trading_rank scripts trading.Online = 3 + most_scripts
 trading_rank scripts trading.Authenticate = 2 + (bytes_in (templates 0x71 scripts) + bytes_in (templates 0x72 scripts))
 trading_rank scripts (trading.ScriptBefore s) =
     length s.running.commands + 2 + (bytes_in (drop s.next (templates 0x71 scripts)) + bytes_in (templates 0x72 scripts))
-trading_rank scripts (trading.Second s) = 1 + bytes_in (behind_if s.online scripts)
+trading_rank scripts (trading.Second s) = 1 + bytes_in (behind_if s.outcome scripts)
 trading_rank scripts (trading.ScriptBehind s ending) = length s.running.commands + 1 + bytes_in (drop s.next (templates 0x72 scripts))
 trading_rank scripts (trading.Over ending) = 0
 

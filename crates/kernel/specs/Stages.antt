@@ -1,17 +1,18 @@
 -- What is left of a dialogue at each of its stages.
-use Rattle.std.specs.Prelude.{◌≡◌, ⊤, ℕ, ◌+◌, ◌-◌, ◌≤◌, Bool, true, false, if◌then◌else◌, List, [], ◌∷◌, length, drop, Some, None}
+use Rattle.std.specs.Prelude.{◌≡◌, ⊤, ℕ, ◌+◌, ◌-◌, ◌≤◌, Bool, List, [], ◌∷◌, length, drop, Some, None}
 use Rattle.app_select.specs.Leading.{rest_with}
 use Rattle.auth_message.specs.Whole.{IsMessage}
 use Rattle.cvm_list.specs.Waiting.{rest_of as verifying_rest}
 use Rattle.emv_dict.specs.Progress.{Progress, Wants}
 use Rattle.emv_dict.specs.Views.{AcData}
 use Rattle.emv_dict.specs.declared.ending.Kind.{Kind}
-use Rattle.emv_dict.specs.declared.ending.Step.{Step}
 use Rattle.emv_dict.specs.declared.ending.Step.TheVariants as step
 use Rattle.emv_dict.specs.declared.purchase.Logged.{Logged}
 use Rattle.kernel.specs.Course.{Standing, Rest, over, card_step, cut_off, host_step}
 use Rattle.kernel.specs.Dialogue.{Trade, selected_then, granted, candidates_left, read_then, verified_then, judged_then, first_then, replied, authenticated_then, scripts_before, scripts_behind, second_then, left_script}
 use Rattle.kernel.specs.Reply.{Reply}
+use Rattle.kernel.specs.declared.stage.OnlineOutcome.{OnlineOutcome}
+use Rattle.kernel.specs.declared.stage.OnlineOutcome.TheVariants.{Replied, Unable}
 use Rattle.kernel.specs.declared.stage.Opening.{Opening}
 use Rattle.kernel.specs.declared.stage.Opening.TheVariants as opening
 use Rattle.kernel.specs.declared.stage.Trading.{Trading}
@@ -20,6 +21,8 @@ use Rattle.object_lists.specs.CardRead.{ReadCard}
 use Rattle.online_step.specs.Ac.{ac_of}
 use Rattle.online_step.specs.Authenticate.{verdict_of, after_verdict}
 use Rattle.online_step.specs.Generate.{after_ac}
+use Rattle.online_step.specs.declared.ac.GenerateAc.{GenerateAc}
+use Rattle.online_step.specs.declared.ac.GenerateAc.TheVariants as generate
 use Rattle.pse_directory.specs.Left.{rest_of as directory_rest}
 use Rattle.read_records.specs.DataRead.{reading}
 use Rattle.read_records.specs.Options.{initiated}
@@ -32,9 +35,9 @@ use Rattle.terminal_state.specs.Table.{deal_of}
 use Rattle.terminal_state.specs.declared.table.Table.{Table}
 
 -- GENERATE AC was asked by this command
-abbrev pub generating : List ℕ → Kind → Bool → List (List ℕ) → Progress AcData
-generating command asked second [] = Wants command
-generating command asked second (answer ∷ rest) = after_ac (ac_of answer asked second) rest
+abbrev pub generating : List ℕ → Kind → GenerateAc → List (List ℕ) → Progress AcData
+generating command asked which [] = Wants command
+generating command asked which (answer ∷ rest) = after_ac (ac_of answer asked which) rest
 
 -- EXTERNAL AUTHENTICATE was asked by this one
 abbrev pub authenticating : List ℕ → List (List ℕ) → Progress Bool
@@ -42,8 +45,9 @@ authenticating command [] = Wants command
 authenticating command (answer ∷ rest) = after_verdict (verdict_of answer) rest
 
 -- the templates 72 of a reply that was read
-abbrev pub behind_if : Bool → List ℕ → List (List ℕ)
-behind_if online scripts = (if online then templates 0x72 scripts else [])
+abbrev pub behind_if : OnlineOutcome → List ℕ → List (List ℕ)
+behind_if Replied scripts = templates 0x72 scripts
+behind_if Unable scripts = []
 
 -- once the card is read
 abbrev pub trading_rest : Table → Trade → List Mark → Trading → Rest Mark
@@ -52,7 +56,7 @@ trading_rest t trade marks (trading.Verify v) =
 trading_rest t trade marks (trading.Risk j) =
     card_step (cut_off marks) step.Risk step.Risk marks (judging_rest j) (judged_then trade marks)
 trading_rest t trade marks (trading.First asked) =
-    card_step (cut_off marks) step.First step.First marks (generating t.command.items asked false)
+    card_step (cut_off marks) step.First step.First marks (generating t.command.items asked generate.First)
     (first_then trade marks)
 trading_rest t trade marks trading.Online = host_step marks t.message.items (replied trade marks)
 trading_rest t trade marks trading.Authenticate =
@@ -62,8 +66,8 @@ trading_rest t trade marks (trading.ScriptBefore s) =
     card_step (cut_off marks) step.Script step.Script marks (running_rest s.running)
     (λ result. scripts_before trade t.reply (drop s.next (templates 0x71 t.reply.scripts)) (mark.HasRunBefore result ∷ marks))
 trading_rest t trade marks (trading.Second s) =
-    card_step (cut_off marks) step.Second step.Second marks (generating t.command.items s.asked true)
-    (second_then s.online (behind_if s.online t.reply.scripts) marks)
+    card_step (cut_off marks) step.Second step.Second marks (generating t.command.items s.asked generate.Second)
+    (second_then s.outcome (behind_if s.outcome t.reply.scripts) marks)
 trading_rest t trade marks (trading.ScriptBehind s ending) =
     card_step (left_script ending (drop s.next (templates 0x72 t.reply.scripts)) marks) step.Script step.Script marks (running_rest s.running)
     (λ result. scripts_behind ending (drop s.next (templates 0x72 t.reply.scripts)) (mark.HasRunBehind result ∷ marks))
@@ -95,16 +99,12 @@ pub record Begins (t : Table) (card : ReadCard) (marks : List Mark) (rest start 
   pub tied : t.moment ≡ moment marks
   pub read : latest card_of None marks ≡ Some card
 
--- before the answer to the first command the card is gone at the power-up
-abbrev pub cut_of : Bool → Step
-cut_of begun = (if begun then step.Select else step.Power)
-
 -- before the card is read
 abbrev pub opening_rest : Table → Opening → Rest Mark
 opening_rest t (opening.Directory s) =
-    card_step (cut_off []) (cut_of s.begun) step.Select [] (directory_rest s.listing) (selected_then (deal_of t))
+    card_step (cut_off []) s.cut step.Select [] (directory_rest s.listing) (selected_then (deal_of t))
 opening_rest t (opening.Select s) =
-    card_step (cut_off []) (cut_of s.begun) step.Select [] (rest_with s.search t.candidates) (selected_then (deal_of t))
+    card_step (cut_off []) s.cut step.Select [] (rest_with s.search t.candidates) (selected_then (deal_of t))
 opening_rest t (opening.Initiate s) =
     card_step (cut_off []) step.Initiate step.Initiate [] (initiated s.initiating)
     (granted (deal_of t) s.choice.row (candidates_left (deal_of t) t.candidates))
@@ -133,7 +133,7 @@ scripts_left scripts (trading.First asked) = 8
 scripts_left scripts trading.Online = 8
 scripts_left scripts trading.Authenticate = length (templates 0x71 scripts) + length (templates 0x72 scripts)
 scripts_left scripts (trading.ScriptBefore s) = 1 + (length (templates 0x71 scripts) - s.next) + length (templates 0x72 scripts)
-scripts_left scripts (trading.Second s) = length (behind_if s.online scripts)
+scripts_left scripts (trading.Second s) = length (behind_if s.outcome scripts)
 scripts_left scripts (trading.ScriptBehind s ending) = 1 + (length (templates 0x72 scripts) - s.next)
 scripts_left scripts (trading.Over ending) = 0
 

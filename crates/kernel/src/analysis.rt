@@ -12,15 +12,15 @@ ghost use Rattle.kernel.specs.declared.stage.Trading.TheVariants as stage;
 ghost use Rattle.terminal_state.specs.Marks.{Mark, moment, HasFirst};
 ghost use Rattle.terminal_state.specs.Table.{deal_of};
 
+use crate::generate::ask_generate;
 use crate::online::go_online;
 use crate::stage::Trading;
 use crate::transaction::Transaction;
 use action_analysis::{codes_of, wanted};
-use arrayvec::ArrayVec;
 use ber_tlv::Tag;
 use emv_dict::{Ac, Cause, Ending, Kind, Step};
-use online_step::{fill_list, read_ac, write_generate};
-use terminal_state::{Moment, Table, put_terminal};
+use online_step::{GenerateAc, read_ac};
+use terminal_state::{Moment, Table};
 
 /// The object list of the first GENERATE AC (CDOL1).
 const FIRST_LIST: Tag = Tag(0x8c);
@@ -67,16 +67,7 @@ fn begin_first<'s>(
     ensures room { HasRoom table.new (scripts_left table.new.reply.scripts result) }
     ensures asked { HasMessage table.new result }
 {
-    put_terminal(
-        &mut table.objects,
-        transaction.settings,
-        transaction.purchase,
-        transaction.row,
-        &table.moment,
-    );
-    let mut filled = ArrayVec::new();
-    if fill_list(FIRST_LIST, transaction.card, &table.objects, &mut filled) {
-        write_generate(asked, &filled, &mut table.command);
+    if ask_generate(table, transaction, FIRST_LIST, asked) {
         Trading::First(asked)
     } else {
         Trading::Over(Ending::Terminated(Step::First, Cause::Dol(FIRST_LIST)))
@@ -99,7 +90,7 @@ pub(crate) fn on_first<'s>(
     ensures room { HasRoom table.new (scripts_left table.new.reply.scripts result) }
     ensures asked { HasMessage table.new result }
 {
-    match read_ac(reply, asked, false) {
+    match read_ac(reply, asked, GenerateAc::First) {
         Ok(ac) => decide(table, transaction, ac),
         Err(cause) => Trading::Over(Ending::Terminated(Step::First, cause)),
     }

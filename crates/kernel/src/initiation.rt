@@ -12,7 +12,7 @@ ghost use Rattle.kernel.specs.Reply.{Reply, CardSaid};
 ghost use Rattle.kernel.specs.Stages.{OpeningStands};
 ghost use Rattle.kernel.specs.declared.stage.Opening.TheVariants as stage;
 ghost use Rattle.read_records.specs.Afl.{most_records};
-ghost use Rattle.read_records.specs.Checked.{HasOptions};
+ghost use Rattle.object_lists.specs.Checked.{HasOptions};
 ghost use Rattle.read_records.specs.Leading.{OptionsNextLeads, IsBegun, begun_next};
 ghost use Rattle.read_records.specs.Options.{Opened};
 ghost use Rattle.terminal_state.specs.Marks.{Mark, moment};

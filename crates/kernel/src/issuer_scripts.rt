@@ -17,7 +17,7 @@ ghost use Rattle.terminal_state.specs.Scripts.{templates};
 ghost use Rattle.terminal_state.specs.Table.{deal_of};
 
 use crate::second::begin_second;
-use crate::stage::{AtScript, AtSecond, Trading};
+use crate::stage::{AtScript, AtSecond, OnlineOutcome, Trading};
 use crate::transaction::Transaction;
 use ber_tlv::{Tag, nth_value};
 use emv_dict::{Ending, Kind};
@@ -75,8 +75,8 @@ pub(crate) fn run_before<'s>(
         }
         None => {
             let asked = kind_for(&table.reply);
-            let online = true;
-            begin_second(table, transaction, AtSecond { asked, online })
+            let outcome = OnlineOutcome::Replied;
+            begin_second(table, transaction, AtSecond { asked, outcome })
         }
     }
 }

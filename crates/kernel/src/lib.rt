@@ -4,6 +4,7 @@
 
 mod analysis;
 pub mod ended;
+mod generate;
 mod initiation;
 mod issuer_scripts;
 pub mod kernel;

@@ -22,7 +22,7 @@ ghost use Rattle.terminal_state.specs.Terminal.{terminal_objects};
 
 use crate::issuer_scripts::run_before;
 use crate::second::begin_second;
-use crate::stage::{AtSecond, Trading};
+use crate::stage::{AtSecond, OnlineOutcome, Trading};
 use crate::transaction::Transaction;
 use action_analysis::{codes_of, unable};
 use auth_message::{Message, Reply as Said, read_reply};
@@ -32,7 +32,7 @@ use env_map::Env;
 use object_lists::CardData;
 use online_step::{authenticate_command, read_verdict, request};
 use terminal_state::moment::kept;
-use terminal_state::{HostReply, Moment, Table, put_terminal};
+use terminal_state::{HostReply, Moment, OnlineRequest, Table, put_terminal};
 
 /// The most script templates of a reply.
 const MOST_TEMPLATES: usize = 8;
@@ -51,7 +51,7 @@ pub(crate) fn go_online<'s>(table: &mut Table<'s>, transaction: &Transaction<'_,
     ensures asked { HasMessage table.new result }
 {
     if is_offline_only(transaction.settings) {
-        return be_unable(table, transaction, false);
+        return be_unable(table, transaction, OnlineRequest::NotSent);
     }
     put_objects(&mut table.objects, transaction, &table.moment);
     write_online(
@@ -135,7 +135,7 @@ pub(crate) fn on_reply<'s>(
 {
     match read_reply(reply) {
         Ok(said) => take_reply(table, transaction, said),
-        Err(_) => be_unable(table, transaction, true),
+        Err(_) => be_unable(table, transaction, OnlineRequest::Sent),
     }
 }
 
@@ -153,7 +153,7 @@ pub(crate) fn on_silence<'s>(
     ensures room { HasRoom table.new (scripts_left table.new.reply.scripts result) }
     ensures asked { HasMessage table.new result }
 {
-    be_unable(table, transaction, true)
+    be_unable(table, transaction, OnlineRequest::Sent)
 }
 
 /// A reply that was read.
@@ -269,16 +269,16 @@ pub(crate) fn on_authenticate<'s>(
     }
 }
 
-/// The terminal is unable to go online, behind a request that was `sent` or without one, and asks for the
-/// second cryptogram at once.
+/// The terminal is unable to go online, behind a request or without one, and asks for the second cryptogram
+/// at once.
 fn be_unable<'s>(
     table: &mut Table<'s>,
     transaction: &Transaction<'_, 's>,
-    sent: bool,
+    request: OnlineRequest,
 ) -> Trading<'s>
     requires room { HasRoom table.old 8 }
     ensures stands { (marks : List Mark) (log : List Logged) (rest : List Reply → Standing Mark)
-        → Begins table.old transaction.now.card.now marks rest (unable_online (trade_of transaction.now) sent marks log)
+        → Begins table.old transaction.now.card.now marks rest (unable_online (trade_of transaction.now) request marks log)
         → TradingStands table.new (trade_of transaction.now) result log rest }
     ensures same { deal_of table.new ≡ deal_of table.old }
     ensures few { trading_rank table.new.reply.scripts result ≤ 1 }
@@ -286,15 +286,9 @@ fn be_unable<'s>(
     ensures asked { HasMessage table.new result }
 {
     let asked = kind_unable(&table.moment, transaction);
-    table.moment.was_unable(sent, asked);
-    begin_second(
-        table,
-        transaction,
-        AtSecond {
-            asked,
-            online: false,
-        },
-    )
+    table.moment.was_unable(request, asked);
+    let outcome = OnlineOutcome::Unable;
+    begin_second(table, transaction, AtSecond { asked, outcome })
 }
 
 /// The kind of cryptogram that is asked for where the terminal was unable to go online.

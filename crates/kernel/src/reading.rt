@@ -14,7 +14,7 @@ ghost use Rattle.kernel.specs.Stages.{OpeningStands};
 ghost use Rattle.kernel.specs.declared.stage.Opening.TheVariants as stage;
 ghost use Rattle.object_lists.specs.CardRead.{ReadCard};
 ghost use Rattle.object_lists.specs.Forms.{HasForms};
-ghost use Rattle.read_records.specs.Checked.{HasOptions};
+ghost use Rattle.object_lists.specs.Checked.{HasOptions};
 ghost use Rattle.read_records.specs.DataRead.{reading};
 ghost use Rattle.read_records.specs.Leading.{CourseNextLeads, left_next};
 ghost use Rattle.read_records.specs.Stepping.{next_with};

@@ -1,5 +1,5 @@
 //! Application selection (EMV 4.3 Book 1 section 12).
-ghost use Rattle.std.specs.Prelude.{◌≡◌, ◌≤◌, ◌<◌, ◌+◌, ◌*◌, [], ◌∷◌, ℕ, List, if◌then◌else◌};
+ghost use Rattle.std.specs.Prelude.{◌≡◌, ◌≤◌, ◌<◌, ◌+◌, ◌*◌, [], ◌∷◌, ℕ, List};
 ghost use Rattle.app_select.specs.Leading.{HasRoom, rest_with, answers_left};
 ghost use Rattle.app_select.specs.NextLeads.{SearchNextLeads, NextHasRoom};
 ghost use Rattle.app_select.specs.Selecting.{SelectedData};
@@ -13,7 +13,7 @@ ghost use Rattle.kernel.specs.Fits.{OpeningFits, SelectFits, IsUnread};
 ghost use Rattle.kernel.specs.Kernel.{opening_next};
 ghost use Rattle.kernel.specs.Rank.{opening_rank, search_rank, rank_behind};
 ghost use Rattle.kernel.specs.Reply.{Reply, CardSaid};
-ghost use Rattle.kernel.specs.Stages.{OpeningStands, cut_of};
+ghost use Rattle.kernel.specs.Stages.{OpeningStands};
 ghost use Rattle.kernel.specs.declared.kernel.Next.TheVariants as waits;
 ghost use Rattle.kernel.specs.declared.stage.Opening.TheVariants as stage;
 ghost use Rattle.pse_directory.specs.Left.{answers_left as directory_answers_left};
@@ -46,15 +46,15 @@ pub(crate) fn begin<'s>(
     ensures few { (table : Table) → table.candidates ≡ [] → opening_rank table result ≤ 2 * 768 + (most_records + rank_behind table) }
     ensures fits { (table : Table) → table.candidates ≡ [] → table.objects ≡ [] → table.moment ≡ moment [] → OpeningFits table result }
 {
-    let begun = false;
+    let cut = Step::Power;
     if settings.pse {
         let listing = Listing::begin(settings, purchase.confirm);
         listing.ask(command);
-        Opening::Directory(AtDirectory { listing, begun })
+        Opening::Directory(AtDirectory { listing, cut })
     } else {
         let search = Search::begin(settings, purchase.confirm);
         search.ask(command);
-        Opening::Select(AtSelect { search, begun })
+        Opening::Select(AtSelect { search, cut })
     }
 }
 
@@ -74,22 +74,22 @@ fn directory_next<'s>(table: &mut Table<'s>, next: DirectoryNext<'s>) -> Opening
     match next {
         DirectoryNext::Ask(listing) => {
             listing.ask(&mut table.command);
-            let begun = true;
-            Opening::Directory(AtDirectory { listing, begun })
+            let cut = Step::Select;
+            Opening::Directory(AtDirectory { listing, cut })
         }
-        DirectoryNext::Found(search) => ask_search(table, true, search),
-        DirectoryNext::List(search) => ask_search(table, true, search),
+        DirectoryNext::Found(search) => ask_search(table, search),
+        DirectoryNext::List(search) => ask_search(table, search),
         DirectoryNext::Ended(cause) => Opening::Over(Ending::Terminated(Step::Select, cause)),
     }
 }
 
 /// The next SELECT is asked.
-fn ask_search<'s>(table: &mut Table<'s>, begun: bool, search: Search<'s>) -> Opening<'s>
+fn ask_search<'s>(table: &mut Table<'s>, search: Search<'s>) -> Opening<'s>
     requires room { HasRoom search table.old.candidates }
     requires objects { table.old.objects ≡ [] }
     requires moment { table.old.moment ≡ moment [] }
     ensures stands { (log : List Logged) (course : List (List ℕ) → Progress SelectedData) (rest : List Reply → Standing Mark)
-        → ((later : List Reply) → rest later ≡ card_step (cut_off []) (if begun then step.Select else step.Power) step.Select [] course (selected_then (deal_of table.old)) log later)
+        → ((later : List Reply) → rest later ≡ card_step (cut_off []) step.Select step.Select [] course (selected_then (deal_of table.old)) log later)
         → ((later : List (List ℕ)) → course later ≡ rest_with search.entry table.old.candidates later)
         → OpeningStands table.new result log rest }
     ensures same { deal_of table.new ≡ deal_of table.old }
@@ -97,7 +97,8 @@ fn ask_search<'s>(table: &mut Table<'s>, begun: bool, search: Search<'s>) -> Ope
     ensures fits { OpeningFits table.new result }
 {
     search.ask(&mut table.command);
-    Opening::Select(AtSelect { search, begun })
+    let cut = Step::Select;
+    Opening::Select(AtSelect { search, cut })
 }
 
 /// The card's answer for its directory.
@@ -114,7 +115,7 @@ pub(crate) fn on_directory<'s>(
     ensures nearer { opening_rank table.new result < 2 * directory_answers_left state.entry.listing + (most_records + rank_behind table.old) }
     ensures fits { OpeningFits table.new result }
 {
-    let AtDirectory { listing, begun: _ } = state;
+    let AtDirectory { listing, cut: _ } = state;
     let next = listing.take_into(&mut table.candidates, reply);
     directory_next(table, next)
 }
@@ -134,7 +135,7 @@ pub(crate) fn search_next<'s>(table: &mut Table<'s>, next: SearchNext<'s>) -> Op
     ensures fits { OpeningFits table.new result }
 {
     match next {
-        SearchNext::Ask(search) => ask_search(table, true, search),
+        SearchNext::Ask(search) => ask_search(table, search),
         SearchNext::Chosen(choice) => initiate(table, choice),
         SearchNext::Ended(cause) => Opening::Over(Ending::Terminated(Step::Select, cause)),
     }
@@ -151,14 +152,7 @@ pub(crate) fn on_select<'s>(table: &mut Table<'s>, state: AtSelect<'s>, reply: &
     ensures nearer { opening_rank table.new result < 2 * answers_left state.entry.search table.old.candidates + (most_records + rank_behind table.old) }
     ensures fits { OpeningFits table.new result }
 {
-    let AtSelect { search, begun: _ } = state;
+    let AtSelect { search, cut: _ } = state;
     let next = search.take(&mut table.candidates, reply);
     search_next(table, next)
-}
-
-/// The step that is named where the card is gone in application selection.
-pub(crate) fn step_of(begun: bool) -> Step
-    ensures { result ≡ cut_of begun }
-{
-    if begun { Step::Select } else { Step::Power }
 }

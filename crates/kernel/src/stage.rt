@@ -1,7 +1,7 @@
 //! The stages of a dialogue.
 use app_select::{Choice, Search};
 use cvm_list::Verifying;
-use emv_dict::{AidRow, Ending, Kind};
+use emv_dict::{AidRow, Ending, Kind, Step};
 use pse_directory::Listing;
 use read_records::{Course, Initiating};
 use risk_mgmt::Judging;
@@ -21,15 +21,15 @@ pub(crate) enum Opening<'s> {
 #[derive(Drop)]
 pub(crate) struct AtDirectory<'s> {
     pub listing: Listing<'s>,
-    /// Whether the card has answered yet.
-    pub begun: bool,
+    /// The step that is named where the card is gone: its power-up, until it has answered.
+    pub cut: Step,
 }
 
 #[derive(Drop)]
 pub(crate) struct AtSelect<'s> {
     pub search: Search<'s>,
-    /// Whether the card has answered yet.
-    pub begun: bool,
+    /// The step that is named where the card is gone: its power-up, until it has answered.
+    pub cut: Step,
 }
 
 #[derive(Drop)]
@@ -74,8 +74,16 @@ pub(crate) struct AtScript {
 #[derive(Drop)]
 pub(crate) struct AtSecond {
     pub asked: Kind,
-    /// Whether the host's reply was read.
-    pub online: bool,
+    pub outcome: OnlineOutcome,
+}
+
+/// What came of going online (EMV 4.3 Book 3 sections 10.9 and 10.11).
+#[derive(Clone, Copy)]
+pub(crate) enum OnlineOutcome {
+    /// The issuer's reply was read.
+    Replied,
+    /// The terminal was unable to go online.
+    Unable,
 }
 
 /// All stages.

@@ -1,3 +1,6 @@
+mod checking;
+mod deciding;
+mod reading;
 mod table;
 
 use crate::play::{Room, play};

@@ -5,7 +5,7 @@ use Rattle.word_lines.specs.Pieces.{Tells}
 use Rattle.word_lines.proofs.Telling.{tells_then}
 use Rattle.narrator.specs.Endings.{hex_number, end_bits, cvm_words, code_words, scripts_words, set_fields, outcome_words, rule_and_outcome}
 use Rattle.power_words.proofs.Parts.{tells_as}
-use Rattle.object_words.specs.Rules.{rule_words}
+use Rattle.list_words.specs.Rules.{rule_words}
 use Rattle.report_lines.specs.Reading.{FieldsData}
 
 fields_are : (f : FieldsData) (brief : Bool) → end_bits f brief ++ cvm_words (hex_number f.cvm) ++ code_words f.arc ++ scripts_words f.scripts ≡ set_fields f brief

@@ -14,9 +14,9 @@ use Rattle.emv_dict.specs.declared.ending.Kind.{Kind}
 use Rattle.action_words.specs.Told.{reason_words}
 use Rattle.action_words.specs.declared.reason.Reason.{Reason}
 use Rattle.object_words.specs.Results.{results_words}
-use Rattle.object_words.specs.Rules.{rule_words}
-use Rattle.exchange_words.specs.Statuses.{status_words, kind_name}
-use Rattle.exchange_words.specs.declared.lane.LaneState.{LaneState}
+use Rattle.list_words.specs.Rules.{rule_words}
+use Rattle.lane_words.specs.Statuses.{status_words, kind_name}
+use Rattle.lane_words.specs.declared.lane.LaneState.{LaneState}
 use Rattle.report_lines.specs.Reading.{EndingData, Approved, Declined, Terminated, Cut, FieldsData}
 use Rattle.narrator.specs.declared.phrases.TheConstants.{ENDED_AT, PULLED_OUT, CARD_ANSWERED, ASKED_FOR, ALL_CARRIED_OUT, NO_SCRIPT, NO_RULE}
 

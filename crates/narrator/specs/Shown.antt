@@ -1,42 +1,38 @@
 -- Which lines a filter leaves.
 use Rattle.std.specs.Prelude.{ℕ, ◌+◌, ◌==◌, Bool, true, false, not, ◌&&◌, ◌||◌, Option, Some, None, is_none}
-use Rattle.report_lines.specs.declared.line.ReportLine.{ReportLine}
-use Rattle.report_lines.specs.declared.line.What.{What}
-use Rattle.report_lines.specs.declared.line.What.TheVariants as what
-use Rattle.report_lines.specs.declared.line.Whose.{Whose}
-use Rattle.report_lines.specs.declared.line.Whose.TheVariants as whose
+use Rattle.report_lines.specs.Reading.{LineData, WhatData, WhoseData, Lane, Settlement, Audit, Report, Power, PowerTorn, PowerCanned, End, Lost, Balance, Done}
 use Rattle.narrator.specs.declared.filter.Filter.{Filter}
 
 -- a lane's lines, in its payments and in its settlement
-abbrev pub is_of_lane : Option ℕ → Whose → Bool
+abbrev pub is_of_lane : Option ℕ → WhoseData → Bool
 is_of_lane None w = true
-is_of_lane (Some wanted) (whose.Lane lane) = lane == wanted
-is_of_lane (Some wanted) (whose.Settlement lane) = lane == wanted
-is_of_lane (Some wanted) (whose.Audit card) = false
-is_of_lane (Some wanted) whose.Report = false
+is_of_lane (Some wanted) (Lane lane) = lane == wanted
+is_of_lane (Some wanted) (Settlement lane) = lane == wanted
+is_of_lane (Some wanted) (Audit card) = false
+is_of_lane (Some wanted) Report = false
 
 -- a lane's lines behind the end line before this number, up to the end line of this number
-abbrev pub is_of_purchase : Option ℕ → Whose → ℕ → Bool
+abbrev pub is_of_purchase : Option ℕ → WhoseData → ℕ → Bool
 is_of_purchase None w last_end = true
-is_of_purchase (Some wanted) (whose.Lane lane) last_end = wanted == last_end + 1
-is_of_purchase (Some wanted) (whose.Settlement lane) last_end = false
-is_of_purchase (Some wanted) (whose.Audit card) last_end = false
-is_of_purchase (Some wanted) whose.Report last_end = false
+is_of_purchase (Some wanted) (Lane lane) last_end = wanted == last_end + 1
+is_of_purchase (Some wanted) (Settlement lane) last_end = false
+is_of_purchase (Some wanted) (Audit card) last_end = false
+is_of_purchase (Some wanted) Report last_end = false
 
 -- a power-up, an end, a balance, or how many purchases ended
-abbrev pub is_end : What → Bool
-is_end (what.Power card apps) = true
-is_end (what.PowerTorn card) = true
-is_end (what.PowerCanned card) = true
-is_end (what.End number ending fields) = true
-is_end (what.Lost number) = true
-is_end what.Balance = true
-is_end what.Done = true
+abbrev pub is_end : WhatData → Bool
+is_end (Power card apps) = true
+is_end (PowerTorn card) = true
+is_end (PowerCanned card) = true
+is_end (End number ending fields) = true
+is_end (Lost number) = true
+is_end Balance = true
+is_end Done = true
 is_end _ = false
 
 abbrev pub shows_all : Filter → Bool
 shows_all f = not f.ends && (is_none f.lane && is_none f.purchase)
 
 -- filters go together
-abbrev pub is_shown : Filter → ReportLine → ℕ → Bool
+abbrev pub is_shown : Filter → LineData → ℕ → Bool
 is_shown f line last_end = is_of_lane f.lane line.whose && (is_of_purchase f.purchase line.whose last_end && (not f.ends || is_end line.what))

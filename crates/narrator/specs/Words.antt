@@ -1,16 +1,26 @@
 -- What is told of a line, behind what the lines before it left.
 use Rattle.std.specs.Prelude.{ℕ, ◌≡◌, ◌%◌, Bool, if◌then◌else◌, List, [], ◌++◌, map, slice_get, Option, Some, None, option_map, unwrap_or}
-use Rattle.word_lines.specs.Lines.{WordsData}
-use Rattle.word_lines.specs.Pieces.{Piece, Tells, line, text, number, lines_of}
+use Rattle.word_lines.specs.Pieces.{Piece, line, text, number, lines_of}
 use Rattle.explain_words.specs.Words.{word_in}
 use Rattle.explain_words.specs.declared.codes.TheConstants.{REFUSALS}
-use Rattle.report_lines.specs.Reading.{LineData, WhatData, WhoseData, EndingData, FieldsData, line_in, Lane, Settlement, Audit, Report, Power, PowerTorn, PowerCanned, Sent, Given, Torn, ToHost, FromHost, End, Gone, NoReply, Lost, Object, Refused, Differs, ReadEnded}
-use Rattle.report_lines.specs.Bytes.{bytes_told}
-use Rattle.exchange_words.specs.declared.lane.LaneState.{LaneState}
-use Rattle.exchange_words.specs.Lanes.{torn_words}
+use Rattle.exchange_words.specs.Answers.{words_of_answer}
+use Rattle.exchange_words.specs.Commands.{words_of_command}
+use Rattle.lane_words.specs.Lanes.{without_command}
+use Rattle.lane_words.specs.Terminals.{row_for}
+use Rattle.lane_words.specs.Torn.{torn_words}
+use Rattle.lane_words.specs.declared.terminal.Terminal.{Terminal}
+use Rattle.list_words.specs.Fields.{fields_of}
+use Rattle.message_words.specs.Messages.{call_words, reply_words}
+use Rattle.message_words.specs.declared.host.Settled.TheVariants.{Nothing}
+use Rattle.object_words.specs.Objects.{object_words, plain}
 use Rattle.power_words.specs.Cards.{power_words}
+use Rattle.report_lines.specs.Bytes.{bytes_told}
+use Rattle.report_lines.specs.Reading.{LineData, WhatData, WhoseData, EndingData, FieldsData, line_in, Lane, Settlement, Audit, Report, Power, PowerTorn, PowerCanned, Sent, Given, Torn, ToHost, FromHost, End, Gone, NoReply, Lost, Object, Refused, Differs, ReadEnded}
 use Rattle.narrator.specs.Endings.{break_words, end_words, hex_number}
-use Rattle.narrator.specs.State.{StateData, Leaves, audit_place}
+use Rattle.narrator.specs.Shown.{is_shown, shows_all}
+use Rattle.narrator.specs.State.{Manner, StateData, left_by, audit_place}
+use Rattle.narrator.specs.declared.filter.Filter.{Filter}
+use Rattle.narrator.specs.declared.past.LanePast.{LanePast}
 use Rattle.narrator.specs.declared.phrases.TheConstants.{POWER_TORN, POWER_CANNED, CARD_GONE, NO_REPLY, PURCHASE_LOST, TRACE_DIFFERS, OR_MISSING}
 
 -- a line of a lane or of the audit: the card is pulled out or has canned answers as it is powered up, has none left; no
@@ -41,75 +51,132 @@ refusal_words fault = refusal_told (refusal_word (fault % 65536))
 abbrev pub differs_words : ℕ → List Piece
 differs_words entry = line 1 ++ text TRACE_DIFFERS.now ++ number entry ++ text OR_MISSING.now
 
--- bytes that stand in no hexadecimal are not told; of others this does not say the words
-abbrev pub of_bytes : Option (List ℕ) → Option (List Piece)
-of_bytes None = Some []
-of_bytes (Some bytes) = None
+-- a command, an answer, a message to the issuer and its reply, behind what the lane's lines before them left
+abbrev pub sent_words : Bool → List Terminal → ℕ → List ℕ → LanePast → List Piece
+sent_words brief terminals place bytes past = words_of_command past.talk bytes (row_for terminals place past.talk.name.items) brief
 
-abbrev pub of_object : Option ℕ → Option (List ℕ) → Option (List Piece)
-of_object None value = Some []
-of_object (Some tag) value = of_bytes value
+abbrev pub given_words : Bool → List ℕ → LanePast → List Piece
+given_words brief bytes past = words_of_answer (without_command past.talk) past.talk.command.items bytes brief
+
+abbrev pub to_host_words : Bool → List ℕ → LanePast → List Piece
+to_host_words brief bytes past = call_words (fields_of past.talk.cdol1.items past.talk.first.items) bytes brief
+
+abbrev pub from_host_words : Bool → List ℕ → List Piece
+from_host_words brief bytes = reply_words Nothing bytes brief
+
+-- a reply in the settlement
+abbrev pub settled_words : Bool → List ℕ → LanePast → List Piece
+settled_words brief bytes past = reply_words past.settled bytes brief
+
+-- what is told of a lane, where it is one
+abbrev pub at_past : (LanePast → List Piece) → Option LanePast → List Piece
+at_past words None = []
+at_past words (Some past) = words past
+
+-- the words of the bytes that a line of a lane or of the audit has
+abbrev pub bytes_words : Manner → StateData → ℕ → WhatData → List ℕ → List Piece
+bytes_words manner state place (Sent text) bytes = at_past (sent_words manner.filter.brief manner.terminals place bytes) (slice_get state.lanes place)
+bytes_words manner state place (Given text) bytes = at_past (given_words manner.filter.brief bytes) (slice_get state.lanes place)
+bytes_words manner state place (ToHost text) bytes = at_past (to_host_words manner.filter.brief bytes) (slice_get state.lanes place)
+bytes_words manner state place (FromHost text) bytes = at_past (λ past. from_host_words manner.filter.brief bytes) (slice_get state.lanes place)
+bytes_words manner state place _ bytes = []
+
+-- a text that is no bytes is not told
+abbrev pub talk_words : Manner → StateData → ℕ → WhatData → Option (List ℕ) → List Piece
+talk_words manner state place what None = []
+talk_words manner state place what (Some bytes) = bytes_words manner state place what bytes
+
+abbrev pub settling_words : Bool → Option LanePast → Option (List ℕ) → List Piece
+settling_words brief past None = []
+settling_words brief past (Some bytes) = at_past (to_host_words brief bytes) past
+
+abbrev pub reply_told : Bool → Option LanePast → Option (List ℕ) → List Piece
+reply_told brief past None = []
+reply_told brief past (Some bytes) = at_past (settled_words brief bytes) past
+
+-- a line of the settlement
+abbrev pub of_settlement : Bool → StateData → ℕ → WhatData → List Piece
+of_settlement brief state place (Sent text) = settling_words brief (slice_get state.lanes place) (bytes_told text)
+of_settlement brief state place (Given text) = reply_told brief (slice_get state.lanes place) (bytes_told text)
+of_settlement brief state place _ = []
+
+-- an object that a card gave: its tag is what stands in the last three bytes of the number
+abbrev pub object_told : ℕ → Option (List ℕ) → List Piece
+object_told tag None = []
+object_told tag (Some bytes) = object_words (plain 1) (tag % 0x1000000) bytes
+
+abbrev pub of_object : Option ℕ → Option (List ℕ) → List Piece
+of_object None value = []
+of_object (Some tag) value = object_told tag value
 
 -- a line of no lane and no card
-abbrev pub of_report : Bool → WhatData → Option (List Piece)
-of_report brief (Object tag value) = (if brief then Some [] else of_object (hex_number tag) (bytes_told value))
-of_report brief (ReadEnded ending) = Some (break_words ending)
-of_report brief (Refused fault) = Some (refusal_words fault)
-of_report brief (Differs entry) = Some (differs_words entry)
-of_report brief _ = Some []
-
-abbrev pub of_settlement : WhatData → Option (List Piece)
-of_settlement (Sent text) = of_bytes (bytes_told text)
-of_settlement (Given text) = of_bytes (bytes_told text)
-of_settlement _ = Some []
+abbrev pub of_report : Bool → WhatData → List Piece
+of_report brief (Object tag value) = (if brief then [] else of_object (hex_number tag) (bytes_told value))
+of_report brief (ReadEnded ending) = break_words ending
+of_report brief (Refused fault) = refusal_words fault
+of_report brief (Differs entry) = differs_words entry
+of_report brief _ = []
 
 -- a lane's last command was left without an answer
-abbrev pub torn_at : Option LaneState → List Piece
-torn_at None = []
-torn_at (Some lane) = torn_words lane.command.items
+abbrev pub torn_at : Option LanePast → List Piece
+torn_at past = at_past (λ it. torn_words it.talk.command.items) past
 
 -- a lane's purchase ended
-abbrev pub end_at : Option LaneState → EndingData → FieldsData → Bool → List Piece
-end_at None ending fields brief = []
-end_at (Some lane) ending fields brief = end_words lane ending fields brief
+abbrev pub end_at : Option LanePast → EndingData → FieldsData → Bool → List Piece
+end_at past ending fields brief = at_past (λ it. end_words it.talk ending fields brief) past
 
 -- a line of a lane or of the audit
-abbrev pub at_lane : Bool → StateData → ℕ → WhatData → Option (List Piece)
-at_lane brief state place (Power card apps) = Some (power_words state.cards card apps)
-at_lane brief state place (Sent text) = of_bytes (bytes_told text)
-at_lane brief state place (Given text) = of_bytes (bytes_told text)
-at_lane brief state place (ToHost text) = of_bytes (bytes_told text)
-at_lane brief state place (FromHost text) = of_bytes (bytes_told text)
-at_lane brief state place Torn = Some (torn_at (slice_get state.lanes place))
-at_lane brief state place (End number ending fields) = Some (end_at (slice_get state.lanes place) ending fields brief)
-at_lane brief state place what = Some (unwrap_or (of_talk what) [])
+abbrev pub at_lane : Manner → StateData → ℕ → WhatData → List Piece
+at_lane manner state place (Power card apps) = power_words state.cards card apps
+at_lane manner state place (Sent text) = talk_words manner state place (Sent text) (bytes_told text)
+at_lane manner state place (Given text) = talk_words manner state place (Given text) (bytes_told text)
+at_lane manner state place (ToHost text) = talk_words manner state place (ToHost text) (bytes_told text)
+at_lane manner state place (FromHost text) = talk_words manner state place (FromHost text) (bytes_told text)
+at_lane manner state place Torn = torn_at (slice_get state.lanes place)
+at_lane manner state place (End number ending fields) = end_at (slice_get state.lanes place) ending fields manner.filter.brief
+at_lane manner state place what = unwrap_or (of_talk what) []
 
-abbrev pub by_whose : Bool → StateData → WhoseData → WhatData → Option (List Piece)
-by_whose brief state (Lane lane) what = at_lane brief state lane what
-by_whose brief state (Audit card) what = at_lane brief state audit_place what
-by_whose brief state (Settlement lane) what = of_settlement what
-by_whose brief state Report what = of_report brief what
+abbrev pub by_whose : Manner → StateData → WhoseData → WhatData → List Piece
+by_whose manner state (Lane lane) what = at_lane manner state lane what
+by_whose manner state (Audit card) what = at_lane manner state audit_place what
+by_whose manner state (Settlement lane) what = of_settlement manner.filter.brief state lane what
+by_whose manner state Report what = of_report manner.filter.brief what
 
--- what is told of a line behind this state, `brief` or whole; none where this does not say it: of the bytes of commands,
--- answers, messages and objects
-abbrev pub said : Bool → StateData → LineData → Option (List Piece)
-said brief state line = by_whose brief state line.whose line.what
+-- what is told of a line behind this state, in this manner
+abbrev pub said : Manner → StateData → LineData → List Piece
+said manner state line = by_whose manner state line.whose line.what
 
--- these were told, where it is said what
-abbrev pub TellsSaid : Option (List Piece) → WordsData → WordsData → Type 0
-TellsSaid None old new = Unit {0}
-TellsSaid (Some pieces) old new = Tells old new pieces
+-- the number of the last purchase of a line's lane that ended before it; 0 where none has
+abbrev pub end_of : Option LanePast → ℕ
+end_of None = 0
+end_of (Some past) = past.last_end
 
--- the words are these, where it is said what
-abbrev pub IsMade : Option (List Piece) → List ℕ → Type 0
-IsMade None words = Unit {0}
-IsMade (Some pieces) words = words ≡ lines_of pieces
+abbrev pub last_end : StateData → WhoseData → ℕ
+last_end state (Lane lane) = end_of (slice_get state.lanes lane)
+last_end state _ = 0
 
-abbrev pub NarratesLine : Bool → Option LineData → StateData → List ℕ → StateData → Type 0
-NarratesLine brief None old words new = IsMade (Some []) words × (new ≡ old)
-NarratesLine brief (Some line) old words new = IsMade (said brief old line) words × Leaves line old new
+-- whether a line is left by the filter
+abbrev pub is_left : Filter → StateData → LineData → Bool
+is_left filter state line = is_shown filter line (last_end state line.whose)
 
--- one line of a report: behind this state it has these words, and leaves this state. A text that is no line has no words,
--- and leaves what was
-unfoldable pub Narrates : Bool → List ℕ → StateData → List ℕ → StateData → Type 0
-Narrates brief text old words new = NarratesLine brief (line_in text) old words new
+-- the words of a text and what it leaves: of a line of a report these; a text that is no line has no words, and leaves what
+-- was, and is left where all is
+abbrev pub words_by : Manner → StateData → Option LineData → List Piece
+words_by manner state None = []
+words_by manner state (Some line) = said manner state line
+
+abbrev pub state_by : Manner → StateData → Option LineData → StateData
+state_by manner state None = state
+state_by manner state (Some line) = left_by manner line state
+
+abbrev pub left_where : Filter → StateData → Option LineData → Bool
+left_where filter state None = shows_all filter
+left_where filter state (Some line) = is_left filter state line
+
+-- one line of a report: behind this state and in this manner it has these words, and leaves this state
+unfoldable pub Narrates : Manner → List ℕ → StateData → List ℕ → StateData → Type 0
+Narrates manner text old words new = (words ≡ lines_of (words_by manner old (line_in text))) × (new ≡ state_by manner old (line_in text))
+
+-- whether it is left by the filter
+unfoldable pub is_text_left : Filter → StateData → List ℕ → Bool
+is_text_left filter state text = left_where filter state (line_in text)

@@ -1,75 +1,27 @@
 //! Endings in words.
 ghost use Rattle.std.specs.Prelude.{◌≡◌, ◌<◌, ◌||◌, ◌++◌, [], if◌then◌else◌, codes, option_map, Some};
-ghost use Rattle.std.specs.List.{list_all};
 ghost use Rattle.narrator.specs.Endings as spec;
 ghost use Rattle.report_lines.specs.Reading.{seen_ending, seen_fields};
 ghost use Rattle.word_lines.specs.Bits.{has_bit};
 ghost use Rattle.word_lines.specs.Pieces as piece;
 ghost use Rattle.word_lines.specs.Pieces.{Tells};
 
+use crate::digits::hex_number;
 use crate::phrases::{
     ALL_CARRIED_OUT, ASKED_FOR, CARD_ANSWERED, ENDED_AT, NO_RULE, NO_SCRIPT, PULLED_OUT,
 };
 use action_words::{Reason, tell_reason};
 use ber_tlv::Tag;
 use emv_dict::Kind;
-use exchange_words::{LaneState, kind_name, tell_status};
 use explain_words::{
     CAUSES, CRYPTOGRAMS, Form, OUTCOMES, RESPONSES, STATUS_BITS, STEPS, name_of, word_of,
     word_of_text,
 };
-use object_words::{tell_results, tell_rule};
+use lane_words::{LaneState, kind_name, tell_status};
+use list_words::tell_rule;
+use object_words::tell_results;
 use report_lines::{EndFields, Ending};
 use word_lines::WordLines;
-
-/// Whether a byte is a lower-case hexadecimal digit.
-fn is_digit(byte: u8) -> bool
-    ensures { result ≡ spec.is_hex_digit byte }
-{
-    (b'0' <= byte && byte <= b'9') || (b'a' <= byte && byte <= b'f')
-}
-
-/// The value of a lower-case hexadecimal digit.
-fn digit_value(byte: u8) -> u8
-    ensures { result ≡ spec.hex_digit byte }
-{
-    if byte <= b'9' {
-        byte.saturating_sub(b'0')
-    } else {
-        byte.saturating_sub(b'a' - 10)
-    }
-}
-
-/// The number of these hexadecimal digits.
-fn digits_number(digits: &[u8]) -> u64
-    ensures { result ≡ spec.digits_number digits.now }
-{
-    let mut number: u64 = 0;
-    for digit in digits {
-        number = number
-            .saturating_mul(16)
-            .saturating_add(u64::from(digit_value(*digit)));
-    }
-    number
-}
-
-/// Whether each byte is a lower-case hexadecimal digit.
-fn are_digits(text: &[u8]) -> bool
-    ensures { result ≡ list_all spec.is_hex_digit text.now }
-{
-    text.iter().all(|byte| is_digit(*byte))
-}
-
-/// The number of 1 to 16 hexadecimal digits.
-#[tactic(auto, unfolding(crate::specs::Endings::hex_number))]
-pub(crate) fn hex_number(text: &[u8]) -> Option<u64>
-    ensures { result ≡ spec.hex_number text.now }
-{
-    if text.is_empty() || text.len() > 16 || !are_digits(text) {
-        return None;
-    }
-    Some(digits_number(text))
-}
 
 /// The words of a step.
 fn step_word(step: &[u8]) -> Option<&'static [u8]>
@@ -113,7 +65,6 @@ fn tag_name(tag: u32) -> Option<(&'static [u8], Form)>
 }
 
 /// Tells the name of a tag, whose number this is.
-#[tactic(auto, using(word_lines::proofs::Telling::telling))]
 fn tell_tag_name(out: &mut WordLines, number: u64)
     ensures { Tells out.old out.new (spec.tag_words number) }
 {
@@ -124,7 +75,6 @@ fn tell_tag_name(out: &mut WordLines, number: u64)
 }
 
 /// Tells the word of a kind of cryptogram.
-#[tactic(auto, using(word_lines::proofs::Telling::telling))]
 fn tell_kind(out: &mut WordLines, number: u64)
     ensures { Tells out.old out.new (spec.kind_words number) }
 {
@@ -145,7 +95,6 @@ fn names_tag(cause: &[u8]) -> bool
 }
 
 /// Tells what a cause names in words: a status, a kind, or a tag.
-#[tactic(auto, using(word_lines::proofs::Telling::telling))]
 fn tell_detail_words(out: &mut WordLines, step: &[u8], cause: &[u8], number: u64)
     ensures { Tells out.old out.new (spec.detail_words step.now cause.now (Some number)) }
 {
@@ -169,7 +118,6 @@ fn tell_named(out: &mut WordLines, step: &[u8], cause: &[u8], number: Option<u64
 }
 
 /// Tells what a cause names.
-#[tactic(auto, using(word_lines::proofs::Telling::telling))]
 fn tell_detail(out: &mut WordLines, step: &[u8], cause: &[u8], detail: &[u8])
     ensures { Tells out.old out.new (spec.in_brackets step.now cause.now detail.now) }
 {
@@ -200,7 +148,6 @@ fn tell_cause(out: &mut WordLines, cause: &[u8])
 }
 
 /// Tells that the terminal ended it, in a step and for a cause.
-#[tactic(auto, using(word_lines::proofs::Telling::telling))]
 fn tell_terminated(out: &mut WordLines, step: &[u8], cause: &[u8], detail: &[u8])
     ensures { Tells out.old out.new (spec.terminated_words step.now cause.now detail.now) }
 {
@@ -213,7 +160,6 @@ fn tell_terminated(out: &mut WordLines, step: &[u8], cause: &[u8], detail: &[u8]
 }
 
 /// Tells an ending that is no decision.
-#[tactic(auto, using(word_lines::proofs::Telling::telling))]
 pub(crate) fn tell_break(out: &mut WordLines, ending: &Ending<'_>)
     ensures { Tells out.old out.new (spec.break_words (seen_ending ending.now)) }
 {
@@ -233,7 +179,6 @@ pub(crate) fn tell_break(out: &mut WordLines, ending: &Ending<'_>)
 }
 
 /// Tells what the card answered.
-#[tactic(auto, using(word_lines::proofs::Telling::telling))]
 fn tell_answered(out: &mut WordLines, answered: Option<Kind>)
     ensures { Tells out.old out.new (spec.answered_words answered) }
 {
@@ -244,7 +189,6 @@ fn tell_answered(out: &mut WordLines, answered: Option<Kind>)
 }
 
 /// Tells what was asked for last, why, and what was answered.
-#[tactic(auto, using(word_lines::proofs::Telling::telling))]
 fn tell_decision(out: &mut WordLines, lane: &LaneState, asked: Kind, reason: Reason)
     ensures { Tells out.old out.new (spec.decided_words asked reason lane.now) }
 {
@@ -274,7 +218,6 @@ fn tell_ending(out: &mut WordLines, lane: &LaneState, ending: &Ending<'_>)
 
 /// Tells what was performed by its place among 16 bits, where it is set, behind a comma where others were told
 /// before; whether any was told.
-#[tactic(auto, using(word_lines::proofs::Telling::telling))]
 fn tell_performed_bit(out: &mut WordLines, status: u64, place: u8, told: bool) -> bool
     requires { place < 16 }
     ensures words { Tells out.old out.new
@@ -332,7 +275,6 @@ fn tell_performed(out: &mut WordLines, status: u64)
 }
 
 /// Tells whether cardholder verification was successful.
-#[tactic(auto, using(word_lines::proofs::Telling::telling))]
 fn tell_outcome(out: &mut WordLines, outcome: u8)
     ensures { Tells out.old out.new (spec.outcome_words outcome) }
 {
@@ -374,7 +316,7 @@ fn tell_reached(out: &mut WordLines, cvm: u64)
 }
 
 /// Tells the result of cardholder verification.
-#[tactic(auto, using(word_lines::proofs::Telling::telling), unfolding(crate::specs::Endings::verification_words))]
+#[tactic(auto, unfolding(crate::specs::Endings::verification_words))]
 fn tell_verification(out: &mut WordLines, cvm: u64)
     ensures { Tells out.old out.new (spec.verification_words cvm) }
 {
@@ -401,7 +343,6 @@ fn tell_code_words(out: &mut WordLines, code: u32)
 }
 
 /// Tells the response code.
-#[tactic(auto, using(word_lines::proofs::Telling::telling))]
 fn tell_code(out: &mut WordLines, arc: &[u8])
     ensures { Tells out.old out.new (spec.code_words arc.now) }
 {
@@ -418,7 +359,6 @@ fn tell_code(out: &mut WordLines, arc: &[u8])
 }
 
 /// Tells that a command failed.
-#[tactic(auto, using(word_lines::proofs::Telling::telling))]
 fn tell_failed(out: &mut WordLines, command: u64)
     ensures { Tells out.old out.new (spec.failed_words command) }
 {
@@ -432,7 +372,7 @@ fn tell_failed(out: &mut WordLines, command: u64)
 }
 
 /// Tells the result of a script: five bytes as one number (EMV 4.3 Book 4 Annex A5).
-#[tactic(auto, using(word_lines::proofs::Telling::telling), unfolding(crate::specs::Endings::script_words))]
+#[tactic(auto, unfolding(crate::specs::Endings::script_words))]
 fn tell_script(out: &mut WordLines, bytes: u64)
     ensures { Tells out.old out.new (spec.script_words bytes) }
 {
@@ -498,7 +438,6 @@ fn is_untouched(fields: &EndFields<'_>) -> bool
 }
 
 /// Tells the terminal verification results.
-#[tactic(auto, using(word_lines::proofs::Telling::telling))]
 fn tell_tvr(out: &mut WordLines, results: Option<u64>)
     ensures { Tells out.old out.new (spec.tvr_words results) }
 {
@@ -510,7 +449,6 @@ fn tell_tvr(out: &mut WordLines, results: Option<u64>)
 }
 
 /// Tells the transaction status information.
-#[tactic(auto, using(word_lines::proofs::Telling::telling))]
 fn tell_tsi(out: &mut WordLines, status: Option<u64>)
     ensures { Tells out.old out.new (spec.tsi_words status) }
 {
@@ -522,7 +460,6 @@ fn tell_tsi(out: &mut WordLines, status: Option<u64>)
 }
 
 /// Tells the bits of an end line.
-#[tactic(auto, using(word_lines::proofs::Telling::telling))]
 fn tell_end_bits(out: &mut WordLines, fields: &EndFields<'_>, brief: bool)
     ensures { Tells out.old out.new (spec.end_bits (seen_fields fields.now) brief) }
 {

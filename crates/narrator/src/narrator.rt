@@ -1,29 +1,25 @@
 //! The teller of a report's lines.
 ghost use Rattle.std.specs.Prelude.{◌≡◌, ◌<◌, [], replicate, slice_get, OnOk, IfOk, option_map, unwrap_or};
-ghost use Rattle.exchange_words.specs.Lanes.{fresh, begun};
 ghost use Rattle.power_words.specs.Cards.{power_words};
 ghost use Rattle.narrator.specs.State as state;
 ghost use Rattle.narrator.specs.State.{seen_state};
 ghost use Rattle.narrator.specs.Shown.{shows_all};
 ghost use Rattle.narrator.specs.Words as spec;
-ghost use Rattle.narrator.specs.Words.{TellsSaid, Narrates};
+ghost use Rattle.narrator.specs.Words.{Narrates, is_text_left};
 ghost use Rattle.report_lines.specs.Bytes.{bytes_told};
-ghost use Rattle.report_lines.specs.Reading.{seen_ending, seen_fields, seen_line, seen_what};
+ghost use Rattle.report_lines.specs.Reading.{seen_ending, seen_fields, seen_line, seen_what, seen_whose};
 ghost use Rattle.word_lines.specs.Lines.{AreWordLines};
 ghost use Rattle.word_lines.specs.Pieces.{Tells};
 
 use crate::ending::tell_end;
 use crate::filter::Filter;
+use crate::past::LanePast;
 use crate::phrases::{CARD_GONE, NO_REPLY, POWER_CANNED, POWER_TORN, PURCHASE_LOST};
 use crate::report::tell_of_report;
-use exchange_words::{
-    LaneState, Settled, Terminal, learn_reply, row_for, settled_by, tell_answer, tell_call,
-    tell_command, tell_reply, tell_torn,
-};
+use lane_words::{Terminal, tell_torn};
 use power_words::{CardSeen, tell_power};
 use report_lines::{EndFields, Ending, ReportLine, What, Whose, bytes_of, read_line};
 use std::alloc::{AllocError, Global};
-use std::mem;
 use word_lines::WordLines;
 
 /// The place where the audit's card is kept, behind the lanes.
@@ -35,7 +31,7 @@ pub struct Narrator {
     alloc: Global,
     filter: Filter,
     terminals: Vec<Terminal>,
-    lanes: Vec<LaneState>,
+    lanes: Vec<LanePast>,
     cards: Vec<CardSeen>,
 }
 
@@ -64,12 +60,12 @@ fn tell_alone(out: &mut WordLines, what: &What<'_>)
 }
 
 /// The lanes before the first line, and the audit's card behind them.
-fn fresh_lanes(alloc: Global) -> Result<Vec<LaneState>, AllocError>
-    ensures { IfOk result (λ lanes. lanes.items ≡ replicate 17 fresh) }
+fn fresh_lanes(alloc: Global) -> Result<Vec<LanePast>, AllocError>
+    ensures { IfOk result (λ lanes. lanes.items ≡ replicate 17 state.untold) }
 {
     let mut lanes = Vec::with_capacity(alloc, 17)?;
     for place in 0..17u8 {
-        lanes.push(LaneState::new())?;
+        lanes.push(LanePast::new())?;
     }
     Ok(lanes)
 }
@@ -83,6 +79,7 @@ impl Narrator {
     ) -> Result<Narrator, AllocError>
         ensures state { IfOk result (λ n. seen_state n ≡ state.start) }
         ensures filter { IfOk result (λ n. n.filter ≡ filter) }
+        ensures terminals { IfOk result (λ n. n.terminals.items ≡ terminals.items) }
     {
         let lanes = fresh_lanes(alloc)?;
         Ok(Narrator {
@@ -95,73 +92,78 @@ impl Narrator {
     }
 
     /// Whether a line is left by the filter.
-    fn shows(&self, line: &ReportLine<'_>) -> bool {
-        let last_end = match line.whose {
-            Whose::Lane(lane) => match self.lanes.get(usize::from(lane)) {
-                Some(state) => state.last_end,
+    fn shows(&self, line: &ReportLine<'_>) -> bool
+        ensures { result ≡ spec.is_left self.now.filter (seen_state self.now) (seen_line line.now) }
+    {
+        self.filter.shows(line, self.last_end(&line.whose))
+    }
+
+    /// The number of the last purchase of a line's lane that ended before it; 0 where none has.
+    fn last_end(&self, whose: &Whose<'_>) -> u64
+        ensures { result ≡ spec.last_end (seen_state self.now) (seen_whose whose.now) }
+    {
+        match whose {
+            Whose::Lane(lane) => match self.lanes.get(usize::from(*lane)) {
+                Some(past) => past.last_end,
                 None => 0,
             },
             _ => 0,
-        };
-        self.filter.shows(line, last_end)
+        }
     }
 
     /// Tells a command.
     fn tell_sent(&mut self, place: u8, bytes: &[u8], out: &mut WordLines)
-        ensures state { state.Turns (state.HasAsked bytes.now) (seen_state self.old) place (seen_state self.new) }
-        ensures filter { self.new.filter ≡ self.old.filter }
+        ensures words { Tells out.old out.new (spec.at_past (spec.sent_words self.old.filter.brief self.old.terminals.items place bytes.now) (slice_get self.old.lanes.items place)) }
+        ensures state { seen_state self.new ≡ state.changed (state.asked self.old.terminals.items place bytes.now) (seen_state self.old) place }
+        ensures manner { state.manner_of self.new ≡ state.manner_of self.old }
     {
         let brief = self.filter.brief;
         match self.lanes.get_mut(usize::from(place)) {
-            Some(lane) => {
-                let row = row_for(&self.terminals, place, lane.name.as_slice());
-                tell_command(out, lane, bytes, row, brief);
-            }
+            Some(past) => past.tell_sent(&self.terminals, place, bytes, brief, out),
             None => {}
         }
     }
 
     /// Tells an answer.
     fn tell_given(&mut self, place: u8, bytes: &[u8], out: &mut WordLines)
-        ensures state { state.Turns state.HasAnswered (seen_state self.old) place (seen_state self.new) }
-        ensures filter { self.new.filter ≡ self.old.filter }
+        ensures words { Tells out.old out.new (spec.at_past (spec.given_words self.old.filter.brief bytes.now) (slice_get self.old.lanes.items place)) }
+        ensures state { seen_state self.new ≡ state.changed (state.answered bytes.now) (seen_state self.old) place }
+        ensures manner { state.manner_of self.new ≡ state.manner_of self.old }
     {
         let brief = self.filter.brief;
         match self.lanes.get_mut(usize::from(place)) {
-            Some(lane) => {
-                let command = mem::take(&mut lane.command);
-                tell_answer(out, lane, command.as_slice(), bytes, brief);
-            }
+            Some(past) => past.tell_given(bytes, brief, out),
             None => {}
         }
     }
 
     /// Tells a reply of the issuer.
     fn tell_from_host(&mut self, place: u8, bytes: &[u8], out: &mut WordLines)
-        ensures state { state.Turns state.HasReplied (seen_state self.old) place (seen_state self.new) }
-        ensures filter { self.new.filter ≡ self.old.filter }
+        ensures words { Tells out.old out.new (spec.at_past (λ _. spec.from_host_words self.old.filter.brief bytes.now) (slice_get self.old.lanes.items place)) }
+        ensures state { seen_state self.new ≡ state.changed (state.replied bytes.now) (seen_state self.old) place }
+        ensures manner { state.manner_of self.new ≡ state.manner_of self.old }
     {
         let brief = self.filter.brief;
         match self.lanes.get_mut(usize::from(place)) {
-            Some(lane) => {
-                learn_reply(lane, bytes);
-                tell_reply(out, Settled::Nothing, bytes, brief);
-            }
+            Some(past) => past.tell_from_host(bytes, brief, out),
             None => {}
         }
     }
 
     /// Tells a message to the issuer.
-    fn tell_to_host(&self, place: u8, bytes: &[u8], out: &mut WordLines) {
-        if let Some(lane) = self.lanes.get(usize::from(place)) {
-            tell_call(out, lane, bytes, self.filter.brief);
+    fn tell_to_host(&self, place: u8, bytes: &[u8], out: &mut WordLines)
+        ensures { Tells out.old out.new (spec.at_past (spec.to_host_words self.now.filter.brief bytes.now) (slice_get self.now.lanes.items place)) }
+    {
+        if let Some(past) = self.lanes.get(usize::from(place)) {
+            past.tell_to_host(bytes, self.filter.brief, out);
         }
     }
 
     /// Tells a command, an answer, or a message of a lane or of the audit.
     fn tell_bytes(&mut self, place: u8, what: &What<'_>, bytes: &[u8], out: &mut WordLines)
-        ensures state { state.TurnsTo (seen_what what.now) bytes.now (seen_state self.old) place (seen_state self.new) }
-        ensures filter { self.new.filter ≡ self.old.filter }
+        ensures words { Tells out.old out.new (spec.bytes_words (state.manner_of self.old) (seen_state self.old) place (seen_what what.now) bytes.now) }
+        ensures state { seen_state self.new ≡ state.left_of_bytes (state.manner_of self.old) (seen_what what.now) bytes.now (seen_state self.old) place }
+        ensures manner { state.manner_of self.new ≡ state.manner_of self.old }
     {
         match what {
             What::Sent(_) => self.tell_sent(place, bytes, out),
@@ -180,9 +182,9 @@ impl Narrator {
         text: &[u8],
         out: &mut WordLines,
     ) -> Result<(), AllocError>
-        ensures words { OnOk result (TellsSaid (spec.of_bytes (bytes_told text.now)) out.old out.new) }
-        ensures state { OnOk result (state.TurnsBy (seen_what what.now) (bytes_told text.now) (seen_state self.old) place (seen_state self.new)) }
-        ensures filter { self.new.filter ≡ self.old.filter }
+        ensures words { OnOk result (Tells out.old out.new (spec.talk_words (state.manner_of self.old) (seen_state self.old) place (seen_what what.now) (bytes_told text.now))) }
+        ensures state { OnOk result (seen_state self.new ≡ state.left_of_exchange (state.manner_of self.old) (seen_what what.now) (bytes_told text.now) (seen_state self.old) place) }
+        ensures manner { state.manner_of self.new ≡ state.manner_of self.old }
     {
         match bytes_of(self.alloc, text)? {
             Some(bytes) => self.tell_bytes(place, what, bytes.as_slice(), out),
@@ -195,8 +197,8 @@ impl Narrator {
     fn tell_torn_at(&self, place: u8, out: &mut WordLines)
         ensures { Tells out.old out.new (spec.torn_at (slice_get self.now.lanes.items place)) }
     {
-        if let Some(lane) = self.lanes.get(usize::from(place)) {
-            tell_torn(out, lane.command.as_slice());
+        if let Some(past) = self.lanes.get(usize::from(place)) {
+            tell_torn(out, past.talk.command.as_slice());
         }
     }
 
@@ -210,33 +212,29 @@ impl Narrator {
     )
         ensures { Tells out.old out.new (spec.end_at (slice_get self.now.lanes.items place) (seen_ending ending.now) (seen_fields fields.now) self.now.filter.brief) }
     {
-        if let Some(lane) = self.lanes.get(usize::from(place)) {
-            tell_end(out, lane, ending, fields, self.filter.brief);
+        if let Some(past) = self.lanes.get(usize::from(place)) {
+            tell_end(out, &past.talk, ending, fields, self.filter.brief);
         }
     }
 
     /// Keeps the number of the purchase that ended.
     fn keep_end(&mut self, place: u8, number: u64)
         ensures state { seen_state self.new ≡ state.changed (state.ended number) (seen_state self.old) place }
-        ensures filter { self.new.filter ≡ self.old.filter }
+        ensures manner { state.manner_of self.new ≡ state.manner_of self.old }
     {
         match self.lanes.get_mut(usize::from(place)) {
-            Some(lane) => {
-                lane.last_end = number;
-            }
+            Some(past) => past.last_end = number,
             None => {}
         }
     }
 
     /// Forgets what the lane's last card gave.
     fn begin(&mut self, place: u8)
-        ensures state { seen_state self.new ≡ state.changed begun (seen_state self.old) place }
-        ensures filter { self.new.filter ≡ self.old.filter }
+        ensures state { seen_state self.new ≡ state.changed state.begun (seen_state self.old) place }
+        ensures manner { state.manner_of self.new ≡ state.manner_of self.old }
     {
         match self.lanes.get_mut(usize::from(place)) {
-            Some(lane) => {
-                lane.begin();
-            }
+            Some(past) => past.begin(),
             None => {}
         }
     }
@@ -244,8 +242,8 @@ impl Narrator {
     /// Keeps what a line that tells enough by itself leaves: a card that is powered up leaves nothing of the
     /// last one, and a lost purchase its number.
     fn keep(&mut self, place: u8, what: &What<'_>)
-        ensures state { state.Kept (seen_what what.now) (seen_state self.old) place (seen_state self.new) }
-        ensures filter { self.new.filter ≡ self.old.filter }
+        ensures state { seen_state self.new ≡ state.kept_alone (seen_what what.now) (seen_state self.old) place }
+        ensures manner { state.manner_of self.new ≡ state.manner_of self.old }
     {
         match what {
             What::PowerTorn(_) | What::PowerCanned(_) => self.begin(place),
@@ -264,7 +262,7 @@ impl Narrator {
     ) -> Result<(), AllocError>
         ensures words { OnOk result (Tells out.old out.new (power_words self.old.cards.items card.now apps.now)) }
         ensures state { OnOk result (seen_state self.new ≡ state.powered card.now apps.now (seen_state self.old) place) }
-        ensures filter { self.new.filter ≡ self.old.filter }
+        ensures manner { state.manner_of self.new ≡ state.manner_of self.old }
     {
         self.begin(place);
         tell_power(out, &mut self.cards, card, apps)
@@ -272,9 +270,9 @@ impl Narrator {
 
     /// Tells a line of a lane or of the audit.
     fn tell_at(&mut self, place: u8, what: &What<'_>, out: &mut WordLines) -> Result<(), AllocError>
-        ensures words { OnOk result (TellsSaid (spec.at_lane self.old.filter.brief (seen_state self.old) place (seen_what what.now)) out.old out.new) }
-        ensures state { OnOk result (state.LeavesAt (seen_what what.now) (seen_state self.old) place (seen_state self.new)) }
-        ensures filter { self.new.filter ≡ self.old.filter }
+        ensures words { OnOk result (Tells out.old out.new (spec.at_lane (state.manner_of self.old) (seen_state self.old) place (seen_what what.now))) }
+        ensures state { OnOk result (seen_state self.new ≡ state.left_at (state.manner_of self.old) (seen_what what.now) (seen_state self.old) place) }
+        ensures manner { state.manner_of self.new ≡ state.manner_of self.old }
     {
         match what {
             What::Power { card, apps } => self.power(place, card, apps, out),
@@ -305,31 +303,31 @@ impl Narrator {
 
     /// Tells a message of the settlement.
     fn settle(&mut self, place: u8, bytes: &[u8], out: &mut WordLines)
-        ensures state { state.Turns state.HasSettled (seen_state self.old) place (seen_state self.new) }
-        ensures filter { self.new.filter ≡ self.old.filter }
+        ensures words { Tells out.old out.new (spec.at_past (spec.to_host_words self.old.filter.brief bytes.now) (slice_get self.old.lanes.items place)) }
+        ensures state { seen_state self.new ≡ state.changed (state.settling bytes.now) (seen_state self.old) place }
+        ensures manner { state.manner_of self.new ≡ state.manner_of self.old }
     {
         let brief = self.filter.brief;
         match self.lanes.get_mut(usize::from(place)) {
-            Some(lane) => {
-                lane.settled = settled_by(bytes);
-                tell_call(out, lane, bytes, brief);
-            }
+            Some(past) => past.tell_settling(bytes, brief, out),
             None => {}
         }
     }
 
     /// Tells a reply in the settlement.
-    fn tell_settled(&self, place: u8, bytes: &[u8], out: &mut WordLines) {
-        if let Some(lane) = self.lanes.get(usize::from(place)) {
-            tell_reply(out, lane.settled, bytes, self.filter.brief);
+    fn tell_settled(&self, place: u8, bytes: &[u8], out: &mut WordLines)
+        ensures { Tells out.old out.new (spec.at_past (spec.settled_words self.now.filter.brief bytes.now) (slice_get self.now.lanes.items place)) }
+    {
+        if let Some(past) = self.lanes.get(usize::from(place)) {
+            past.tell_settled(bytes, self.filter.brief, out);
         }
     }
 
     /// Tells a message of the settlement, which stands in hexadecimal.
     fn settle_text(&mut self, place: u8, text: &[u8], out: &mut WordLines) -> Result<(), AllocError>
-        ensures words { OnOk result (TellsSaid (spec.of_bytes (bytes_told text.now)) out.old out.new) }
-        ensures state { OnOk result (state.SettlesBy (bytes_told text.now) (seen_state self.old) place (seen_state self.new)) }
-        ensures filter { self.new.filter ≡ self.old.filter }
+        ensures words { OnOk result (Tells out.old out.new (spec.settling_words self.old.filter.brief (slice_get self.old.lanes.items place) (bytes_told text.now))) }
+        ensures state { OnOk result (seen_state self.new ≡ state.left_by_settling (bytes_told text.now) (seen_state self.old) place) }
+        ensures manner { state.manner_of self.new ≡ state.manner_of self.old }
     {
         match bytes_of(self.alloc, text)? {
             Some(bytes) => self.settle(place, bytes.as_slice(), out),
@@ -345,7 +343,7 @@ impl Narrator {
         text: &[u8],
         out: &mut WordLines,
     ) -> Result<(), AllocError>
-        ensures { OnOk result (TellsSaid (spec.of_bytes (bytes_told text.now)) out.old out.new) }
+        ensures { OnOk result (Tells out.old out.new (spec.reply_told self.now.filter.brief (slice_get self.now.lanes.items place) (bytes_told text.now))) }
     {
         match bytes_of(self.alloc, text)? {
             Some(bytes) => self.tell_settled(place, bytes.as_slice(), out),
@@ -361,9 +359,9 @@ impl Narrator {
         what: &What<'_>,
         out: &mut WordLines,
     ) -> Result<(), AllocError>
-        ensures words { OnOk result (TellsSaid (spec.of_settlement (seen_what what.now)) out.old out.new) }
-        ensures state { OnOk result (state.LeavesSettled (seen_what what.now) (seen_state self.old) place (seen_state self.new)) }
-        ensures filter { self.new.filter ≡ self.old.filter }
+        ensures words { OnOk result (Tells out.old out.new (spec.of_settlement self.old.filter.brief (seen_state self.old) place (seen_what what.now))) }
+        ensures state { OnOk result (seen_state self.new ≡ state.left_by_settlement (seen_what what.now) (seen_state self.old) place) }
+        ensures manner { state.manner_of self.new ≡ state.manner_of self.old }
     {
         match what {
             What::Sent(text) => self.settle_text(place, text, out),
@@ -374,9 +372,9 @@ impl Narrator {
 
     /// Tells a line, and keeps what it leaves for the lines behind it.
     fn tell_line(&mut self, line: &ReportLine<'_>, out: &mut WordLines) -> Result<(), AllocError>
-        ensures words { OnOk result (TellsSaid (spec.said self.old.filter.brief (seen_state self.old) (seen_line line.now)) out.old out.new) }
-        ensures state { OnOk result (state.Leaves (seen_line line.now) (seen_state self.old) (seen_state self.new)) }
-        ensures filter { self.new.filter ≡ self.old.filter }
+        ensures words { OnOk result (Tells out.old out.new (spec.said (state.manner_of self.old) (seen_state self.old) (seen_line line.now))) }
+        ensures state { OnOk result (seen_state self.new ≡ state.left_by (state.manner_of self.old) (seen_line line.now) (seen_state self.old)) }
+        ensures manner { state.manner_of self.new ≡ state.manner_of self.old }
     {
         match line.whose {
             Whose::Lane(lane) => self.tell_at(lane, &line.what, out),
@@ -396,11 +394,12 @@ impl Narrator {
     /// Puts the words of a line, which stands without its newline, in place of what `out` held, and keeps
     /// what the line leaves for the lines behind it. Whether the filter leaves the line. An error says that
     /// there was no memory.
-    #[tactic(auto, unfolding(crate::specs::Words::Narrates))]
+    #[tactic(auto, unfolding(crate::specs::Words::Narrates, crate::specs::Words::is_text_left))]
     pub fn tell(&mut self, text: &[u8], out: &mut WordLines) -> Result<bool, AllocError>
         ensures lines { OnOk result (AreWordLines out.new.bytes) }
-        ensures told { OnOk result (Narrates self.old.filter.brief text.now (seen_state self.old) out.new.bytes (seen_state self.new)) }
-        ensures filter { self.new.filter ≡ self.old.filter }
+        ensures shown { IfOk result (λ shown. shown ≡ is_text_left self.old.filter (seen_state self.old) text.now) }
+        ensures told { OnOk result (Narrates (state.manner_of self.old) text.now (seen_state self.old) out.new.bytes (seen_state self.new)) }
+        ensures manner { state.manner_of self.new ≡ state.manner_of self.old }
     {
         out.clear();
         match read_line(text) {

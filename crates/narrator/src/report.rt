@@ -1,13 +1,13 @@
 //! Lines of no lane and no card in words.
 ghost use Rattle.std.specs.Prelude.{◌≡◌, OnOk, option_map};
 ghost use Rattle.narrator.specs.Words as spec;
-ghost use Rattle.narrator.specs.Words.{TellsSaid};
 ghost use Rattle.narrator.specs.Endings as endings;
 ghost use Rattle.report_lines.specs.Bytes.{bytes_told};
 ghost use Rattle.report_lines.specs.Reading.{seen_what};
 ghost use Rattle.word_lines.specs.Pieces.{Tells};
 
-use crate::ending::{hex_number, tell_break};
+use crate::digits::hex_number;
+use crate::ending::tell_break;
 use crate::phrases::{OR_MISSING, TRACE_DIFFERS};
 use ber_tlv::Tag;
 use explain_words::{REFUSALS, word_of};
@@ -23,7 +23,7 @@ fn tell_given_object(
     tag: &[u8],
     value: &[u8],
 ) -> Result<(), AllocError>
-    ensures { OnOk result (TellsSaid (spec.of_object (endings.hex_number tag.now) (bytes_told value.now)) out.old out.new) }
+    ensures { OnOk result (Tells out.old out.new (spec.of_object (endings.hex_number tag.now) (bytes_told value.now))) }
 {
     let Some(number) = hex_number(tag) else {
         return Ok(());
@@ -72,7 +72,7 @@ pub(crate) fn tell_of_report(
     what: &What<'_>,
     brief: bool,
 ) -> Result<(), AllocError>
-    ensures { OnOk result (TellsSaid (spec.of_report brief (seen_what what.now)) out.old out.new) }
+    ensures { OnOk result (Tells out.old out.new (spec.of_report brief (seen_what what.now))) }
 {
     match what {
         What::Object { tag, value } => {

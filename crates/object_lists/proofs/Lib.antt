@@ -1,3 +1,4 @@
 pub mod DolReading
 pub mod DolSpelling
 pub mod EntryPlaces
+pub mod FormLemmas

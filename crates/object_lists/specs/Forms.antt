@@ -7,7 +7,7 @@ use Rattle.emv_dict.specs.Settings.{is_code}
 use Rattle.env_map.specs.Entries.{Entries, value_of}
 use Rattle.object_lists.specs.DolEntries.{dol_of}
 
--- 13 to 16 digits, filled with F
+-- 13 to 19 digits, filled with F
 abbrev pub is_account_number : List ℕ → Bool
 is_account_number value = is_ok (pan_of value)
 

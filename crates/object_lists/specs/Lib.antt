@@ -1,4 +1,5 @@
 pub mod CardRead
+pub mod Checked
 pub mod DolEntries
 pub mod DolSeen
 pub mod DolSpelled
@@ -6,3 +7,4 @@ pub mod EntryAt
 pub mod Filled
 pub mod Forms
 pub mod Given
+pub mod SeenRow

@@ -1,10 +1,11 @@
-ghost use Rattle.std.specs.Prelude.{◌≡◌, Some, option_and_then, option_map};
+ghost use Rattle.std.specs.Prelude.{◌≡◌, ◌↔◌, Some, IsSome, IfSome, option_and_then, option_map};
 ghost use Rattle.std.specs.Result.{result_ok};
 ghost use Rattle.emv_dict.specs.Pan.{pan_of};
 ghost use Rattle.env_map.specs.Entries.{value_of};
 ghost use Rattle.object_lists.specs.CardRead.{IsRead, card_of};
 ghost use Rattle.object_lists.specs.Forms.{HasForms};
 
+use crate::checked::{has_options, objects_fault};
 use ber_tlv::Tag;
 use emv_dict::{Digits, pan_digits};
 use env_map::Env;
@@ -32,6 +33,20 @@ impl Model for CardData {
 }
 
 impl CardData {
+    /// What these objects make, where they are those of a finished reading.
+    pub fn checked(env: Env) -> Option<CardData>
+        ensures card { IfSome result (λ card. card ≡ card_of env) }
+        ensures read { IsSome result ↔ HasForms env }
+    {
+        if !has_options(&env) {
+            return None;
+        }
+        match objects_fault(&env) {
+            None => Some(CardData::new(env)),
+            Some(_) => None,
+        }
+    }
+
     /// What these objects make.
     pub fn new(env: Env) -> CardData
         requires { HasForms env }

@@ -2,10 +2,12 @@
 #![tactic(auto)]
 
 pub mod card_data;
+pub mod checked;
 pub mod dol;
 pub mod filling;
 
 pub use card_data::CardData;
+pub use checked::objects_fault;
 pub use dol::{Dol, DolFault, place, read_dol, total};
 pub use filling::{fill, fill_without_card};
 

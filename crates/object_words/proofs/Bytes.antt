@@ -1,11 +1,8 @@
 -- Bytes that are told one by one.
-use Rattle.std.proofs.Common.{◌≡◌, ℕ, ◌+◌, ◌<◌, ◌≤◌, List, [], ◌∷◌, ◌++◌, length, get_or, drop, ap, add-one, drop-cons, refl}
+use Rattle.std.proofs.Common.{◌≡◌, ℕ, ◌+◌, ◌<◌, ◌≤◌, List, [], ◌++◌, length, get_or, drop, ap}
 use Rattle.std.proofs.lemmas.List.{drop_all}
 use Rattle.object_words.specs.Bits.{bit_numbers_from, byte_bits, bit_words_from, byte_words}
-
--- the bytes from a place on: the first, and those behind it
-from_place : (value : List ℕ) (place : ℕ) → place < length value → drop place value ≡ get_or value place 0 ∷ drop (place + 1) value
-from_place value place within = rw (add-one, drop-cons value place 0) refl
+use Rattle.list_words.proofs.Places.{from_place}
 
 pub numbers_next : (value : List ℕ) (place : ℕ) → place < length value
     → bit_numbers_from (place + 1) (drop place value) ≡ byte_bits (place + 1) (get_or value place 0) ++ bit_numbers_from (place + 1 + 1) (drop (place + 1) value)

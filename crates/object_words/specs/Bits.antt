@@ -4,7 +4,7 @@ use Rattle.std.specs.List.{list_any}
 use Rattle.word_lines.specs.Pieces.{Piece, text, number, hex, word_or}
 use Rattle.word_lines.specs.Bits.{bits_from}
 use Rattle.explain_words.specs.Words.{word_in}
-use Rattle.object_words.specs.Plain.{hex_words, told_if}
+use Rattle.list_words.specs.Plain.{hex_words, told_if}
 
 -- a bit as BYTE.BIT, by its place in its byte from 0 at the left
 abbrev pub bit_number : ℕ → ℕ → List Piece

@@ -4,7 +4,7 @@ use Rattle.word_lines.specs.Pieces.{Piece, text, number, hex}
 use Rattle.emv_dict.specs.Bcd as bcd
 use Rattle.explain_words.specs.Words.{word_in}
 use Rattle.explain_words.specs.declared.codes.TheConstants.{SCRIPT_COMMANDS}
-use Rattle.object_words.specs.Plain.{number_in, all_digits}
+use Rattle.list_words.specs.Plain.{number_in, all_digits}
 use Rattle.object_words.specs.declared.phrases.TheConstants.{NO_SCRIPT_COMMAND}
 
 -- PUT DATA of the limit of the number of offline approvals: one byte behind the length 09

@@ -1,6 +1,6 @@
 pub mod Bits
 pub mod Commands
 pub mod Issuer
-pub mod Plain
+pub mod Leading
+pub mod Objects
 pub mod Results
-pub mod Rules

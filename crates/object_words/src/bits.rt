@@ -2,13 +2,13 @@
 ghost use Rattle.std.specs.Prelude.{◌≡◌, ◌==◌, not, ◌+◌, ◌<◌, ◌≤◌, ◌++◌, [], length, map, if◌then◌else◌, codes, is_some, option_map};
 ghost use Rattle.std.specs.List.{list_any};
 ghost use Rattle.object_words.specs.Bits as spec;
-ghost use Rattle.object_words.specs.Plain.{or_nothing};
+ghost use Rattle.list_words.specs.Plain.{or_nothing};
 ghost use Rattle.word_lines.specs.Bits.{has_bit as is_set};
 ghost use Rattle.word_lines.specs.Pieces as piece;
 ghost use Rattle.word_lines.specs.Pieces.{Tells};
 
-use crate::plain::tell_hex;
 use explain_words::word_of;
+use list_words::tell_hex;
 use word_lines::WordLines;
 
 /// Whether a byte has the bit of this place, from 0 at the left.

@@ -1,13 +1,13 @@
 //! Values that the issuer gives or reads.
 ghost use Rattle.std.specs.Prelude.{◌≡◌, is_some, option_map};
 ghost use Rattle.object_words.specs.Issuer as spec;
-ghost use Rattle.object_words.specs.Plain.{or_nothing};
+ghost use Rattle.list_words.specs.Plain.{or_nothing};
 ghost use Rattle.word_lines.specs.Pieces.{Tells};
 
 use crate::bits::tell_bit_words;
 use crate::phrases::{
-    APPLICATION_BLOCKED, AUTHENTICATION_FAILED, OFFLINE_APPROVALS, REFUSED, RESPONSE_CRYPTOGRAM,
-    STATUS_UPDATE,
+    APPLICATION_BLOCKED, AUTHENTICATION_FAILED, OFFLINE_APPROVALS, PIN_TRIES, REFUSED,
+    RESPONSE_CRYPTOGRAM, STATUS_UPDATE,
 };
 use crate::style::Style;
 use explain_words::{CRYPTOGRAMS, RESPONSES, UPDATE_BITS, word_of};
@@ -44,14 +44,37 @@ fn tell_kind(out: &mut WordLines, byte: u8)
     }
 }
 
-/// Tells the kind of issuer application data, behind a comma.
-fn tell_data_kind(out: &mut WordLines, kind: u8) {
-    match kind {
-        0 => out.text(b", AAC"),
-        1 => out.text(b", TC"),
-        2 => out.text(b", ARQC"),
-        _ => out.text(b", no kind"),
+/// The kind of issuer application data, behind a comma.
+fn data_kind(kind: u8) -> &'static [u8]
+    ensures { result.now ≡ spec.data_kind kind }
+{
+    if kind == 0 {
+        b", AAC"
+    } else if kind == 1 {
+        b", TC"
+    } else if kind == 2 {
+        b", ARQC"
+    } else {
+        b", no kind"
     }
+}
+
+/// Tells the offline approvals and the PIN tries.
+fn tell_data_counts(out: &mut WordLines, count: u8, tries: u8)
+    ensures { Tells out.old out.new (spec.data_counts count tries) }
+{
+    out.text(OFFLINE_APPROVALS);
+    out.number(u64::from(count));
+    out.text(PIN_TRIES);
+    out.number(u64::from(tries));
+}
+
+/// Tells the flags of issuer application data.
+fn tell_data_flags(out: &mut WordLines, flags: u8)
+    ensures { Tells out.old out.new (spec.data_flags flags) }
+{
+    tell_flag(out, flags % 2 == 1, APPLICATION_BLOCKED);
+    tell_flag(out, flags / 2 % 2 == 1, AUTHENTICATION_FAILED);
 }
 
 /// Tells a flag that is set.
@@ -65,18 +88,17 @@ fn tell_flag(out: &mut WordLines, holds: bool, text: &[u8])
 
 /// Tells issuer application data of this project's form: 01, the kind, the flags, the offline approvals,
 /// the PIN tries that are left, 01.
-pub(crate) fn tell_issuer_data(out: &mut WordLines, value: &[u8]) -> bool {
+pub(crate) fn tell_issuer_data(out: &mut WordLines, value: &[u8]) -> bool
+    ensures words { Tells out.old out.new (or_nothing (spec.issuer_data_words value.now)) }
+    ensures told { result ≡ is_some (spec.issuer_data_words value.now) }
+{
     let [1, kind, flags, count, tries, 1] = value else {
         return false;
     };
     out.hex(value);
-    tell_data_kind(out, *kind / 64);
-    out.text(OFFLINE_APPROVALS);
-    out.number(u64::from(*count));
-    out.text(b", PIN tries ");
-    out.number(u64::from(*tries));
-    tell_flag(out, *flags % 2 == 1, APPLICATION_BLOCKED);
-    tell_flag(out, *flags / 2 % 2 == 1, AUTHENTICATION_FAILED);
+    out.text(data_kind(*kind / 64));
+    tell_data_counts(out, *count, *tries);
+    tell_data_flags(out, *flags);
     true
 }
 
@@ -103,26 +125,40 @@ fn tell_update(out: &mut WordLines, update: [u8; 4])
     tell_bit_words(out, &UPDATE_BITS, &[0, second & 0xf0]);
 }
 
+/// Tells a response cryptogram of four bytes and a card status update of four.
+fn tell_update_data(out: &mut WordLines, front: &[u8])
+    ensures { Tells out.old out.new (spec.update_data_words front.now) }
+{
+    if let [a, b, c, d, e, f, g, h] = front {
+        out.hex(&[*a, *b, *c, *d]);
+        tell_update(out, [*e, *f, *g, *h]);
+    }
+}
+
+/// Tells a response cryptogram of eight bytes and a code of two, or the other form.
+fn tell_response_data(out: &mut WordLines, front: &[u8], rest: &[u8], has_code: bool)
+    ensures { Tells out.old out.new (spec.response_data front.now rest.now has_code) }
+{
+    if has_code {
+        out.hex(front);
+        out.text(b", code ");
+        out.text(rest);
+    } else {
+        tell_update_data(out, front);
+    }
+}
+
 /// Tells issuer authentication data: a response cryptogram of eight bytes and a code, or one of four bytes
 /// and a card status update (EMV 4.3 Book 2 section 8.2).
-pub(crate) fn tell_authentication(out: &mut WordLines, value: &[u8]) -> bool {
+pub(crate) fn tell_authentication(out: &mut WordLines, value: &[u8]) -> bool
+    ensures words { Tells out.old out.new (or_nothing (spec.authentication_words value.now)) }
+    ensures told { result ≡ is_some (spec.authentication_words value.now) }
+{
     let Some((front, rest)) = value.split_at_checked(8) else {
         return false;
     };
     out.text(RESPONSE_CRYPTOGRAM);
-    if rest.len() == 2 {
-        out.hex(front);
-        out.text(b", code ");
-        out.text(rest);
-        return true;
-    }
-    let [a, b, c, d, update @ ..] = front else {
-        return false;
-    };
-    out.hex(&[*a, *b, *c, *d]);
-    if let [a, b, c, d, ..] = update {
-        tell_update(out, [*a, *b, *c, *d]);
-    }
+    tell_response_data(out, front, rest, rest.len() == 2);
     true
 }
 

@@ -21,14 +21,8 @@ pub const RESPONSE_CRYPTOGRAM: &[u8] = b"response cryptogram ";
 /// A message of the settlement that the issuer refuses.
 pub const REFUSED: &[u8] = b"refused: nothing moves";
 
-/// A method of cardholder verification that is not known.
-pub const UNKNOWN_METHOD: &[u8] = b"unrecognised method";
-
-/// Before a condition of it that is not known.
-pub const UNKNOWN_CONDITION: &[u8] = b"never (condition ";
-
-/// The cardholder must confirm the application.
-pub const CONFIRM: &[u8] = b", the cardholder must confirm";
-
 /// No code of the card has a bit.
 pub const IN_NO_CARD_CODE: &[u8] = b"in no code of the card";
+
+/// Before the PIN tries that are left.
+pub const PIN_TRIES: &[u8] = b", PIN tries ";

@@ -1,3 +1,7 @@
+//! Where and how objects are told.
+ghost use Rattle.std.specs.Prelude.{◌≡◌};
+ghost use Rattle.object_words.specs.Objects.{plain};
+
 use action_words::{CardCodes, Row};
 
 /// The action codes that are known.
@@ -30,7 +34,9 @@ pub struct Style {
 
 impl Style {
     /// At this level.
-    pub fn plain(level: u8) -> Style {
+    pub fn plain(level: u8) -> Style
+        ensures { result ≡ plain level }
+    {
         Style {
             level,
             results: ResultsStyle::Lines,

@@ -21,6 +21,7 @@ use Rattle.emv_dict.specs.declared.ending.Kind.{Kind}
 use Rattle.emv_dict.specs.declared.ending.Kind.TheVariants.{Aac, Tc, Arqc}
 use Rattle.online_step.specs.Ac.{AcObjects, ◌>>=◌, in_format_one, in_format_two, of_values, of_objects, by_format, objects_in, is_refused, of_kind, allowed, ac_said, ac_of}
 use Rattle.online_step.specs.Laws.{Given, IsGiven, answer_one, answer_two, objects_of, read_of}
+use Rattle.online_step.specs.declared.ac.GenerateAc.{GenerateAc}
 
 objects_from : Given → AcObjects
 objects_from given = record { information = kind_byte given.kind; counter = given.high ∷ given.low ∷ []; cryptogram = given.cryptogram; iad = given.iad }
@@ -30,19 +31,19 @@ kind_again Aac = refl
 kind_again Tc = refl
 kind_again Arqc = refl
 
-allowed_given : (given : Given) (asked : Kind) (second : Bool) → is_refused given.kind asked second ≡ false → allowed asked second (objects_from given) ≡ Ok (read_of given)
+allowed_given : (given : Given) (asked : Kind) (which : GenerateAc) → is_refused given.kind asked which ≡ false → allowed asked which (objects_from given) ≡ Ok (read_of given)
 unfolding objects_from
-allowed_given given asked second may =
-    ap (of_kind asked second (objects_from given)) (kind_again given.kind) ∙ rw may refl
+allowed_given given asked which may =
+    ap (of_kind asked which (objects_from given)) (kind_again given.kind) ∙ rw may refl
 
 -- an answer with this body
-said : (body : List ℕ) (given : Given) (asked : Kind) (second : Bool) → length body ≤ 256 → objects_in body ≡ Ok (objects_from given) → is_refused given.kind asked second ≡ false
-    → ac_of (response_bytes body no_error) asked second ≡ Ok (read_of given)
+said : (body : List ℕ) (given : Given) (asked : Kind) (which : GenerateAc) → length body ≤ 256 → objects_in body ≡ Ok (objects_from given) → is_refused given.kind asked which ≡ false
+    → ac_of (response_bytes body no_error) asked which ≡ Ok (read_of given)
 unfolding ac_of
-said body given asked second short objects may =
-    ap (ac_said asked second) (response_again body no_error short)
-    ∙ ap (λ (r : Result AcObjects Cause). r >>= allowed asked second) objects
-    ∙ allowed_given given asked second may
+said body given asked which short objects may =
+    ap (ac_said asked which) (response_again body no_error short)
+    ∙ ap (λ (r : Result AcObjects Cause). r >>= allowed asked which) objects
+    ∙ allowed_given given asked which may
 
 cut_first : (n : ℕ) (xs ys : List ℕ) → length xs ≡ n → take n (xs ++ ys) ≡ xs
 cut_first n xs ys same = ap (λ (m : ℕ). take m (xs ++ ys)) (sym same) ∙ take-append_seam xs ys
@@ -115,15 +116,15 @@ objects_two given is =
     ∙ ap (in_format_two body) (items_two given)
     ∙ format_two given 0 is
 
-pub read_one : (given : Given) (asked : Kind) (second : Bool) → IsGiven given → is_refused given.kind asked second ≡ false → ac_of (answer_one given) asked second ≡ Ok (read_of given)
-read_one given asked second is may =
+pub read_one : (given : Given) (asked : Kind) (which : GenerateAc) → IsGiven given → is_refused given.kind asked which ≡ false → ac_of (answer_one given) asked which ≡ Ok (read_of given)
+read_one given asked which is may =
     let most = is.iad in
     let count = value_one-length given is in
     let short = written_short 0x80 (value_one given) in
-    said (written 0x80 (value_one given)) given asked second (omega arith) (objects_one given is) may
+    said (written 0x80 (value_one given)) given asked which (omega arith) (objects_one given is) may
 
-pub read_two : (given : Given) (asked : Kind) (second : Bool) → IsGiven given → is_refused given.kind asked second ≡ false → ac_of (answer_two given) asked second ≡ Ok (read_of given)
-read_two given asked second is may =
+pub read_two : (given : Given) (asked : Kind) (which : GenerateAc) → IsGiven given → is_refused given.kind asked which ≡ false → ac_of (answer_two given) asked which ≡ Ok (read_of given)
+read_two given asked which is may =
     let a = written 0x9F27 (kind_byte given.kind ∷ []) in
     let b = written 0x9F36 (given.high ∷ given.low ∷ []) in
     let c = written 0x9F26 given.cryptogram in
@@ -136,4 +137,4 @@ read_two given asked second is may =
     let fourth = written_short 0x9F10 given.iad in
     let count : length (spelled (objects_of given)) ≡ length a + (length b + (length c + (length d + 0))) = simp length-append refl in
     let whole = written_short 0x77 (spelled (objects_of given)) in
-    said (written 0x77 (spelled (objects_of given))) given asked second (omega arith) (objects_two given is) may
+    said (written 0x77 (spelled (objects_of given))) given asked which (omega arith) (objects_two given is) may

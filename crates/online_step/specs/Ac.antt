@@ -13,6 +13,8 @@ use Rattle.emv_dict.specs.declared.ending.Cause.{Cause}
 use Rattle.emv_dict.specs.declared.ending.Cause.TheVariants as cause
 use Rattle.emv_dict.specs.declared.ending.Kind.{Kind}
 use Rattle.emv_dict.specs.declared.ending.Kind.TheVariants.{Aac, Tc, Arqc}
+use Rattle.online_step.specs.declared.ac.GenerateAc.{GenerateAc}
+use Rattle.online_step.specs.declared.ac.GenerateAc.TheVariants.{First, Second}
 
 -- the values of the four objects: 9F27, one byte, 9F36, two bytes, 9F26, eight bytes, and 9F10
 pub record AcObjects : Type 0 where
@@ -86,13 +88,14 @@ is_request Tc = false
 is_request Aac = false
 
 -- a card may answer the kind that is asked or one below; the second time no request
-abbrev pub is_refused : Kind → Kind → Bool → Bool
-is_refused kind asked second = is_above kind asked || (second && is_request kind)
+abbrev pub is_refused : Kind → Kind → GenerateAc → Bool
+is_refused kind asked First = is_above kind asked
+is_refused kind asked Second = is_above kind asked || is_request kind
 
-abbrev pub of_kind : Kind → Bool → AcObjects → Option Kind → Result AcData Cause
-of_kind asked second objects None = Err (cause.Kind objects.information)
-of_kind asked second objects (Some kind) =
-    if is_refused kind asked second then Err (cause.Kind objects.information)
+abbrev pub of_kind : Kind → GenerateAc → AcObjects → Option Kind → Result AcData Cause
+of_kind asked which objects None = Err (cause.Kind objects.information)
+of_kind asked which objects (Some kind) =
+    if is_refused kind asked which then Err (cause.Kind objects.information)
     else Ok (record {
       kind = kind;
       counter = slice_index objects.counter 0 * 256 + slice_index objects.counter 1;
@@ -101,14 +104,14 @@ of_kind asked second objects (Some kind) =
     })
 
 -- what these objects give where this kind was asked, the first or the second time
-abbrev pub allowed : Kind → Bool → AcObjects → Result AcData Cause
-allowed asked second objects = of_kind asked second objects (kind_of objects.information)
+abbrev pub allowed : Kind → GenerateAc → AcObjects → Result AcData Cause
+allowed asked which objects = of_kind asked which objects (kind_of objects.information)
 
-abbrev pub ac_said : Kind → Bool → Option ResponseData → Result AcData Cause
-ac_said asked second None = Err cause.Answer
-ac_said asked second (Some said) =
-    if said.status == no_error then (objects_in said.body >>= allowed asked second) else Err (cause.Status said.status)
+abbrev pub ac_said : Kind → GenerateAc → Option ResponseData → Result AcData Cause
+ac_said asked which None = Err cause.Answer
+ac_said asked which (Some said) =
+    if said.status == no_error then (objects_in said.body >>= allowed asked which) else Err (cause.Status said.status)
 
 -- what an answer gives, or why it ends the transaction
-unfoldable pub ac_of : List ℕ → Kind → Bool → Result AcData Cause
-ac_of answer asked second = ac_said asked second (response_of answer)
+unfoldable pub ac_of : List ℕ → Kind → GenerateAc → Result AcData Cause
+ac_of answer asked which = ac_said asked which (response_of answer)

@@ -15,20 +15,20 @@ use Rattle.object_lists.specs.CardRead.{ReadCard}
 -- with, what it gives, and the response code
 abbrev pub presentment_data : ReadCard → SettingsData → PurchaseData → ℕ → AcData → List ℕ → PresentData
 presentment_data card settings purchase tvr ac code = record {
-  t9f1c = settings.id;
-  pan = card.pan;
-  t5f34 = value_of 0x5F34 card.entries;
-  t9f02 = numeric 6 purchase.amount;
-  t9f03 = numeric 6 purchase.other;
-  t9f1a = settings.country;
-  t95 = tvr_bytes tvr;
-  t5f2a = purchase.currency;
-  t9a = purchase.date;
-  t9c = purchase.trade ∷ [];
-  t9f37 = purchase.number;
-  t82 = card.aip;
-  t9f36 = to_be_bytes w16 ac.counter;
-  t9f26 = ac.cryptogram;
+  named = record { t9f1c = settings.id; pan = card.pan; t5f34 = value_of 0x5F34 card.entries };
+  paid = record {
+    t9f02 = numeric 6 purchase.amount;
+    t9f03 = numeric 6 purchase.other;
+    t9f1a = settings.country;
+    t95 = tvr_bytes tvr;
+    t5f2a = purchase.currency;
+    t9a = purchase.date;
+    t9c = purchase.trade ∷ [];
+    t9f37 = purchase.number;
+    t82 = card.aip;
+    t9f36 = to_be_bytes w16 ac.counter;
+    t9f26 = ac.cryptogram;
+  };
   t9f10 = ac.iad;
   t8a = code;
 }

@@ -1,6 +1,6 @@
 -- GENERATE AC: its data, the command, and the step over a card's answers (EMV 4.3 Book 3 sections 6.5.5, 10.8
 -- and 10.11).
-use Rattle.std.specs.Prelude.{ℕ, Bool, nat_le, if◌then◌else◌, List, [], ◌∷◌, Option, Some, None, option_and_then, Result, Ok, Err}
+use Rattle.std.specs.Prelude.{ℕ, nat_le, if◌then◌else◌, List, [], ◌∷◌, Option, Some, None, option_and_then, Result, Ok, Err}
 use Rattle.apdu_core.specs.Command.{command_bytes}
 use Rattle.emv_dict.specs.Kinds.{kind_byte}
 use Rattle.emv_dict.specs.Progress.{Progress, Wants, Stopped, Done}
@@ -14,6 +14,7 @@ use Rattle.object_lists.specs.DolEntries.{DolEntry, dol_of, total_of}
 use Rattle.object_lists.specs.Filled.{dol_data}
 use Rattle.object_lists.specs.declared.dol.DolFault.{DolFault}
 use Rattle.online_step.specs.Ac.{ac_of}
+use Rattle.online_step.specs.declared.ac.GenerateAc.{GenerateAc}
 
 -- the data of a list, where it is read and they have room in a command
 abbrev pub filled : Entries → Entries → Result (List DolEntry) DolFault → Option (List ℕ)
@@ -34,7 +35,7 @@ after_ac (Err because) rest = Stopped because
 
 -- the step: the first time with the data of CDOL1, the second with those of CDOL2; no data where the list of
 -- this tag wants too many
-abbrev pub generated : ℕ → Kind → Bool → Option (List ℕ) → List (List ℕ) → Progress AcData
-generated tag asked second None answers = Stopped (Dol (record { 0 = tag }))
-generated tag asked second (Some given) [] = Wants (generate_command asked given)
-generated tag asked second (Some given) (answer ∷ rest) = after_ac (ac_of answer asked second) rest
+abbrev pub generated : ℕ → Kind → GenerateAc → Option (List ℕ) → List (List ℕ) → Progress AcData
+generated tag asked which None answers = Stopped (Dol (record { 0 = tag }))
+generated tag asked which (Some given) [] = Wants (generate_command asked given)
+generated tag asked which (Some given) (answer ∷ rest) = after_ac (ac_of answer asked which) rest

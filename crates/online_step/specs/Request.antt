@@ -18,21 +18,21 @@ enciphered settings card pin = option_map (λ digits. online_of settings.pin_key
 -- entered
 abbrev pub request_data : ReadCard → Entries → SettingsData → AcData → Option (List ℕ) → RequestData
 request_data card terminal settings ac pin = record {
-  t9f1c = object 0x9F1C terminal;
-  pan = card.pan;
-  t5f34 = value_of 0x5F34 card.entries;
+  named = record { t9f1c = object 0x9F1C terminal; pan = card.pan; t5f34 = value_of 0x5F34 card.entries };
   t5f24 = object 0x5F24 card.entries;
-  t9f02 = object 0x9F02 terminal;
-  t9f03 = object 0x9F03 terminal;
-  t9f1a = object 0x9F1A terminal;
-  t95 = object 0x95 terminal;
-  t5f2a = object 0x5F2A terminal;
-  t9a = object 0x9A terminal;
-  t9c = object 0x9C terminal;
-  t9f37 = object 0x9F37 terminal;
-  t82 = card.aip;
-  t9f36 = to_be_bytes w16 ac.counter;
-  t9f26 = ac.cryptogram;
+  paid = record {
+    t9f02 = object 0x9F02 terminal;
+    t9f03 = object 0x9F03 terminal;
+    t9f1a = object 0x9F1A terminal;
+    t95 = object 0x95 terminal;
+    t5f2a = object 0x5F2A terminal;
+    t9a = object 0x9A terminal;
+    t9c = object 0x9C terminal;
+    t9f37 = object 0x9F37 terminal;
+    t82 = card.aip;
+    t9f36 = to_be_bytes w16 ac.counter;
+    t9f26 = ac.cryptogram;
+  };
   t9f10 = ac.iad;
   tdf11 = enciphered settings card pin;
 }

@@ -10,17 +10,27 @@ use arrayvec::ArrayVec;
 use ber_tlv::append;
 use emv_dict::{Ac, Cause, Kind};
 
-/// Reads the answer to a GENERATE AC that asked for this kind, the first or the `second` time. It is refused
-/// by `Answer` where it is none, by its `Status`, by `Coding` where its data are neither an object 80 nor a
-/// template 77, by `Missing` and `Value` of an object (9F27, 9F36, 9F26, 9F10 in this order, or 80), and by
-/// `Kind` with the cryptogram information data, where the kind is above the one asked in the order TC,
-/// ARQC, AAC, or is ARQC the second time (EMV 4.3 Book 3 sections 6.5.5.4 and 10.8).
+/// Which GENERATE AC of a transaction: that of card action analysis, or that of completion (EMV 4.3 Book 3
+/// sections 10.8 and 10.11).
+#[derive(Clone, Copy)]
+pub enum GenerateAc {
+    /// With the data of CDOL1.
+    First,
+    /// With those of CDOL2.
+    Second,
+}
+
+/// Reads the answer to this GENERATE AC, which asked for this kind. It is refused by `Answer` where it is
+/// none, by its `Status`, by `Coding` where its data are neither an object 80 nor a template 77, by `Missing`
+/// and `Value` of an object (9F27, 9F36, 9F26, 9F10 in this order, or 80), and by `Kind` with the cryptogram
+/// information data, where the kind is above the one asked in the order TC, ARQC, AAC, or is ARQC the second
+/// time (EMV 4.3 Book 3 sections 6.5.5.4 and 10.8).
 #[tactic(auto, unfolding(crate::specs::Ac::ac_of))]
-pub fn read_ac(reply: &[u8], asked: Kind, second: bool) -> Result<Ac, Cause>
+pub fn read_ac(reply: &[u8], asked: Kind, which: GenerateAc) -> Result<Ac, Cause>
     ensures exact { MatchResult result
-        (λ ac. ac_of reply.now asked second ≡ Ok ac)
-        (λ cause. ac_of reply.now asked second ≡ Err cause) }
-    ensures kind { IfOk result (λ ac. refusal_test ac.kind asked second ≡ false) }
+        (λ ac. ac_of reply.now asked which ≡ Ok ac)
+        (λ cause. ac_of reply.now asked which ≡ Err cause) }
+    ensures kind { IfOk result (λ ac. refusal_test ac.kind asked which ≡ false) }
 {
     let Ok(response) = read_response(reply) else {
         return Err(Cause::Answer);
@@ -29,23 +39,23 @@ pub fn read_ac(reply: &[u8], asked: Kind, second: bool) -> Result<Ac, Cause>
         return Err(Cause::Status(response.status));
     }
     match read_objects(response.body) {
-        Ok(objects) => allowed(&objects, asked, second),
+        Ok(objects) => allowed(&objects, asked, which),
         Err(cause) => Err(cause),
     }
 }
 
 /// What the objects give, where their kind may be answered.
-fn allowed(objects: &Objects, asked: Kind, second: bool) -> Result<Ac, Cause>
+fn allowed(objects: &Objects, asked: Kind, which: GenerateAc) -> Result<Ac, Cause>
     requires { length objects.now.iad.now ≤ 32 }
     ensures exact { MatchResult result
-        (λ ac. allowed asked second (seen_objects objects.now) ≡ Ok ac)
-        (λ cause. allowed asked second (seen_objects objects.now) ≡ Err cause) }
-    ensures kind { IfOk result (λ ac. refusal_test ac.kind asked second ≡ false) }
+        (λ ac. allowed asked which (seen_objects objects.now) ≡ Ok ac)
+        (λ cause. allowed asked which (seen_objects objects.now) ≡ Err cause) }
+    ensures kind { IfOk result (λ ac. refusal_test ac.kind asked which ≡ false) }
 {
     let Some(kind) = Kind::of(objects.information) else {
         return Err(Cause::Kind(objects.information));
     };
-    if is_refused(kind, asked, second) {
+    if is_refused(kind, asked, which) {
         return Err(Cause::Kind(objects.information));
     }
     let [high, low] = objects.counter;
@@ -60,8 +70,11 @@ fn allowed(objects: &Objects, asked: Kind, second: bool) -> Result<Ac, Cause>
 }
 
 /// Whether a card may not answer this kind.
-fn is_refused(kind: Kind, asked: Kind, second: bool) -> bool
-    ensures { result ≡ refusal_test kind asked second }
+fn is_refused(kind: Kind, asked: Kind, which: GenerateAc) -> bool
+    ensures { result ≡ refusal_test kind asked which }
 {
-    kind.is_above(asked) || (second && kind == Kind::Arqc)
+    match which {
+        GenerateAc::First => kind.is_above(asked),
+        GenerateAc::Second => kind.is_above(asked) || kind == Kind::Arqc,
+    }
 }

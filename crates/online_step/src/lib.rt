@@ -11,7 +11,7 @@ pub mod laws;
 mod objects;
 pub mod online;
 
-pub use ac::read_ac;
+pub use ac::{GenerateAc, read_ac};
 pub use authenticate::{authenticate_command, read_verdict};
 pub use captures::{Approval, presentment, reversal};
 pub use emv_dict::Ac;

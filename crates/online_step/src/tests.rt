@@ -6,8 +6,8 @@ mod card;
 mod terminal;
 
 use crate::{
-    Approval, authenticate_command, fill_list, presentment, read_ac, read_verdict, request,
-    reversal, write_generate,
+    Approval, GenerateAc, authenticate_command, fill_list, presentment, read_ac, read_verdict,
+    request, reversal, write_generate,
 };
 use apdu_core::Out;
 use arrayvec::ArrayVec;
@@ -172,6 +172,13 @@ fn kind(word: &str) -> Option<Kind> {
     }
 }
 
+fn which(order: &str) -> GenerateAc {
+    match order {
+        "second" => GenerateAc::Second,
+        _ => GenerateAc::First,
+    }
+}
+
 fn cause(name: &str, text: &str) -> Cause {
     let tag = Tag(number(text));
     match name {
@@ -193,7 +200,7 @@ fn answers_are_read(rt: HostRuntime) {
         let (asked, answer) = call.split_once(' ').unwrap_or((call, ""));
         let asked = kind(asked).unwrap_or_default();
         let (name, rest) = words.split_once(' ').unwrap_or((words, ""));
-        match read_ac(&bytes(answer), asked, order == "second") {
+        match read_ac(&bytes(answer), asked, which(order)) {
             Ok(ac) => {
                 let (counter, cryptogram) = rest.split_once(' ').unwrap_or((rest, ""));
                 assert_eq!(rt; Some(ac.kind), kind(name), "{row}");
@@ -219,7 +226,7 @@ fn issuer_data_are_kept(rt: HostRuntime) {
         ),
         ("77149f2701409f3602000b9f260811223344556677889000", ""),
     ] {
-        match read_ac(&bytes(answer), Kind::Tc, false) {
+        match read_ac(&bytes(answer), Kind::Tc, GenerateAc::First) {
             Ok(ac) => assert_eq!(rt; ac.iad.as_slice(), bytes(iad).as_slice(), "{answer}"),
             Err(_) => assert!(rt; false, "{answer}"),
         }
@@ -311,7 +318,7 @@ fn settings(alloc: Global) -> Settings {
 
 /// The cryptogram that an answer gives.
 fn ac(rt: &impl Abort, answer: &str) -> Option<Ac> {
-    match read_ac(&bytes(answer), Kind::Tc, false) {
+    match read_ac(&bytes(answer), Kind::Tc, GenerateAc::First) {
         Ok(ac) => Some(ac),
         Err(_) => {
             assert!(rt; false, "{answer}");

@@ -82,7 +82,7 @@ fn tell_tries(out: &mut WordLines, counters: &Counters)
 }
 
 /// Tells what is not as it should be, and the sum in the second currency.
-#[tactic(auto, using(word_lines::proofs::Telling::telling), unfolding(crate::specs::Powers::standing_words))]
+#[tactic(auto, unfolding(crate::specs::Powers::standing_words))]
 fn tell_standing(out: &mut WordLines, counters: &Counters)
     ensures { Tells out.old out.new (spec.standing_words counters.now) }
 {
@@ -92,7 +92,7 @@ fn tell_standing(out: &mut WordLines, counters: &Counters)
 }
 
 /// Tells the counters of an application.
-#[tactic(auto, using(word_lines::proofs::Telling::telling), unfolding(crate::specs::Powers::counters_words))]
+#[tactic(auto, unfolding(crate::specs::Powers::counters_words))]
 fn tell_counters(out: &mut WordLines, counters: &Counters)
     ensures { Tells out.old out.new (spec.counters_words counters.now) }
 {
@@ -127,7 +127,6 @@ fn tell_step(out: &mut WordLines, before: u64, now: u64)
 }
 
 /// Tells how a number changed, where it did; whether any change was told.
-#[tactic(auto, using(word_lines::proofs::Telling::telling))]
 fn tell_change(out: &mut WordLines, told: bool, name: &[u8], before: u64, now: u64) -> bool
     ensures words { Tells out.old out.new (spec.change_words told name.now before now) }
     ensures told { result ≡ (told || spec.differ before now) }
@@ -170,7 +169,7 @@ fn tell_flag(out: &mut WordLines, told: bool, name: &[u8], before: bool, now: bo
 }
 
 /// Tells what changed of the numbers of an application; whether anything did.
-#[tactic(auto, using(word_lines::proofs::Telling::telling), unfolding(crate::specs::Powers::changes_words))]
+#[tactic(auto, unfolding(crate::specs::Powers::changes_words))]
 fn tell_changes(out: &mut WordLines, before: &Counters, now: &Counters) -> bool
     ensures words { Tells out.old out.new (spec.changes_words before.now now.now) }
     ensures told { result ≡ spec.has_changed before.now now.now }
@@ -189,7 +188,7 @@ fn tell_changes(out: &mut WordLines, before: &Counters, now: &Counters) -> bool
 }
 
 /// Tells what changed of the flags of an application; whether anything was told.
-#[tactic(auto, using(word_lines::proofs::Telling::telling), unfolding(crate::specs::Powers::flags_words))]
+#[tactic(auto, unfolding(crate::specs::Powers::flags_words))]
 fn tell_flags(out: &mut WordLines, told: bool, before: &Counters, now: &Counters) -> bool
     ensures words { Tells out.old out.new (spec.flags_words told before.now now.now) }
     ensures told { result ≡ (told || spec.has_turned before.now now.now) }
@@ -224,7 +223,7 @@ fn tell_changed(out: &mut WordLines, before: &Counters, now: &Counters) -> bool
 }
 
 /// Tells what changed of an application since the card's last power line.
-#[tactic(auto, using(word_lines::proofs::Telling::telling), unfolding(crate::specs::Powers::since_words))]
+#[tactic(auto, unfolding(crate::specs::Powers::since_words))]
 fn tell_since(out: &mut WordLines, before: &Counters, now: &Counters)
     ensures { Tells out.old out.new (spec.since_words before.now now.now) }
 {
@@ -257,7 +256,7 @@ fn tell_place(out: &mut WordLines, several: bool, place: usize)
 }
 
 /// Tells the counters of an application, and what changed since the card's last power line.
-#[tactic(auto, using(word_lines::proofs::Telling::telling), unfolding(crate::specs::Powers::app_words))]
+#[tactic(auto, unfolding(crate::specs::Powers::app_words))]
 fn tell_app(
     out: &mut WordLines,
     several: bool,

@@ -1,14 +1,22 @@
 mod document;
+mod early_tears;
+mod late_tears;
+mod payments;
 mod table;
+mod terminals;
 
 use document::{CARD, ISSUER, LANE, PURCHASE};
+use early_tears::EARLY_TEARS;
 use emv_ports::{MemorySink, MemorySource};
 use emv_top::run;
+use late_tears::LATE_TEARS;
 use memory_bank::blank_bank;
+use payments::PAYMENTS;
 use std::alloc::Global;
 use std::process::Abort;
 use std::test::Fail;
-use table::{HISTORIES, History};
+use table::History;
+use terminals::TERMINALS;
 
 /// Adds a text to a document, with other texts in place of some of its own.
 fn add(
@@ -92,10 +100,17 @@ fn replay(rt: &impl Abort, alloc: Global, history: &History) -> Result<(), Fail>
     Ok(())
 }
 
-#[test]
-fn purchases_are_as_an_independent_implementation_reports(rt: HostRuntime) -> Result<(), Fail> {
-    for history in &HISTORIES {
-        replay(&rt, rt.alloc(), history)?;
+fn replay_each(rt: &impl Abort, alloc: Global, histories: &[History]) -> Result<(), Fail> {
+    for history in histories {
+        replay(rt, alloc, history)?;
     }
     Ok(())
+}
+
+#[test]
+fn purchases_are_as_an_independent_implementation_reports(rt: HostRuntime) -> Result<(), Fail> {
+    replay_each(&rt, rt.alloc(), &PAYMENTS)?;
+    replay_each(&rt, rt.alloc(), &EARLY_TEARS)?;
+    replay_each(&rt, rt.alloc(), &LATE_TEARS)?;
+    replay_each(&rt, rt.alloc(), &TERMINALS)
 }

@@ -24,7 +24,7 @@ taken_short bytes fits = omega (arith, length-take (length bytes - 2) bytes)
 short_test : (count : ℕ) → (nat_le 2 count && nat_le count 258) ≡ true → count ≤ 258
 short_test count e = grind (arith, common_steps)
 
-body_short : (answer : List ℕ) (said : ResponseData) → response_of answer ≡ Some said → length said.body ≤ 256
+pub body_short : (answer : List ℕ) (said : ResponseData) → response_of answer ≡ Some said → length said.body ≤ 256
 unfolding response_of
 body_short answer said e = go (nat_le 2 (length answer) && nat_le (length answer) 258) refl e
   where

@@ -9,7 +9,7 @@ use Rattle.emv_dict.specs.declared.ending.Cause.{Cause}
 use Rattle.env_map.specs.Entries.{Entries}
 use Rattle.object_lists.specs.CardRead.{ReadCard, card_of}
 use Rattle.read_records.specs.Afl.{RecordPlace}
-use Rattle.read_records.specs.Checked.{objects_fault}
+use Rattle.object_lists.specs.Checked.{objects_fault}
 use Rattle.read_records.specs.DataRead.{card_unless, card_from, card_read, finished, read_on, reading}
 use Rattle.read_records.specs.Options.{Opened, Said, options_command, options_said, after_options, initiated}
 use Rattle.read_records.specs.Records.{held_in, held_in_all, gathered_all}

@@ -10,7 +10,7 @@ use Rattle.emv_dict.specs.declared.ending.Step.TheVariants.{Initiate, Read}
 use Rattle.env_map.specs.Entries.{Entries}
 use Rattle.object_lists.specs.CardRead.{ReadCard, card_of}
 use Rattle.read_records.specs.Afl.{RecordPlace}
-use Rattle.read_records.specs.Checked.{objects_fault}
+use Rattle.object_lists.specs.Checked.{objects_fault}
 use Rattle.read_records.specs.Options.{Opened, Said, Refused, Granted, Faulty, options_said}
 use Rattle.read_records.specs.Records.{held_in_all, gathered_all}
 

@@ -1,10 +1,8 @@
 pub mod Afl
-pub mod Checked
 pub mod DataRead
 pub mod Leading
 pub mod Options
 pub mod Records
-pub mod SeenRow
 pub mod SeenOptions
 pub mod SeenFault
 pub mod Stepping

@@ -2,7 +2,7 @@
 ghost use Rattle.std.specs.Prelude.{◌≡◌, ◌≢◌, ℕ, List, [], ◌∷◌, ◌++◌, ◌≤◌, ◌<◌, length, Option, Some, None, MatchResult, option_map};
 ghost use Rattle.emv_dict.specs.Progress.{Progress, Wants, Stopped, Leads};
 ghost use Rattle.read_records.specs.Afl.{most_records};
-ghost use Rattle.read_records.specs.Checked.{HasOptions};
+ghost use Rattle.object_lists.specs.Checked.{HasOptions};
 ghost use Rattle.read_records.specs.Options.{Opened, initiated, initiating, options_command, options_data};
 ghost use Rattle.object_lists.specs.Filled.{dol_data};
 

@@ -3,7 +3,6 @@
 #![tactic(auto)]
 
 pub mod afl;
-pub mod checked;
 pub mod initiating;
 pub mod options;
 pub mod reading;

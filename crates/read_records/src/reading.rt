@@ -4,20 +4,19 @@ ghost use Rattle.emv_dict.specs.Progress.{Progress, Wants, Leads};
 ghost use Rattle.emv_dict.specs.declared.ending.Cause.{Cause};
 ghost use Rattle.env_map.specs.Entries.{Entries};
 ghost use Rattle.object_lists.specs.CardRead.{ReadCard};
+ghost use Rattle.object_lists.specs.Checked.{HasOptions};
 ghost use Rattle.object_lists.specs.Forms.{HasForms};
 ghost use Rattle.read_records.specs.Afl.{RecordPlace, places_from, places_of, places_with};
-ghost use Rattle.read_records.specs.Checked.{HasOptions};
 ghost use Rattle.read_records.specs.DataRead.{reading, finished, card_read, data_read, at_step};
 ghost use Rattle.read_records.specs.Options.{Opened, Refused, Granted, Faulty, options_said};
 ghost use Rattle.apdu_core.specs.Command.{record_command};
 
 use crate::afl::{Group, Groups};
-use crate::checked::objects_fault;
 use crate::record::read_record;
 use apdu_core::{Out, write_record_command};
 use emv_dict::{Cause, Step};
 use env_map::Env;
-use object_lists::CardData;
+use object_lists::{CardData, objects_fault};
 use std::marker::Model;
 
 /// The records that are still to be read, at least one. The objects so far stand beside it, in a map that
@@ -192,7 +191,7 @@ impl Model for Reading {
 
     ghost Value = { Opened };
 
-    ghost use Rattle.read_records.specs.Checked.{HasOptions};
+    ghost use Rattle.object_lists.specs.Checked.{HasOptions};
 
     ghost view = { λ reading. record { entries = reading.env; left = reading.course } };
 

@@ -1,5 +1,6 @@
 //! An answer to READ RECORD (EMV 4.3 Book 3 section 6.5.11.4).
-ghost use Rattle.std.specs.Prelude.{◌≡◌, ℕ, List, Ok, Err, Some, MatchResult, is_some};
+ghost use Rattle.std.specs.Prelude.{◌≡◌, ◌≤◌, ℕ, List, length, Ok, Err, Some, MatchResult, is_some};
+ghost use Rattle.std.specs.List.{AllByRecursion};
 ghost use Rattle.ber_tlv.specs.Direct.{sole_value};
 ghost use Rattle.ber_tlv.specs.Left.{items_of};
 ghost use Rattle.env_map.specs.Entries.{value_of};
@@ -59,3 +60,10 @@ fn cause_of(fault: GatherFault) -> Cause
         GatherFault::Put(EnvFault::TooLong) => Cause::TooMuch,
     }
 }
+
+/// That an object list and the list of verification methods have at most 255 bytes is no limit to a card:
+/// no answer has room for more in an object of a record.
+#[tactic(auto, using(crate::proofs::Room::records_short))]
+pub fn records_have_no_room()
+    ensures { (sfi : ℕ) (answer : List ℕ) → AllByRecursion (λ item. length item.value ≤ 254) (held_in sfi answer).objects }
+{}

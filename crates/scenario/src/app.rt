@@ -1,126 +1,33 @@
 //! The table of an application of a card.
-ghost use Rattle.std.specs.Prelude.{◌≡◌, ◌≤◌, ℕ, ◌∷◌, [], length, codes, false, option_map, IsTrue, IfOk, OnOk};
+ghost use Rattle.std.specs.Prelude.{◌≡◌, ◌∷◌, [], codes, false, option_map, IsTrue, IfOk};
 ghost use Rattle.std.specs.List.{list_any};
 ghost use Rattle.std.specs.Str.{bytes_eq};
 ghost use Rattle.emv_dict.specs.Bcd.{has_digits};
 ghost use Rattle.card_files.specs.AppRules.{is_name, is_label, is_format};
-ghost use Rattle.card_files.specs.Lists.{has_all, holds_all, entries_within, is_optional_pdol, most_cdol};
 ghost use Rattle.toml.specs.View.{view, table_view};
 ghost use Rattle.scenario_fields.specs.Fault.{Gives};
 ghost use Rattle.scenario_fields.specs.Fields.{only, text_at, listed_or, number_or, optional_number};
-ghost use Rattle.scenario_fields.specs.Place.{path, spot_path};
+ghost use Rattle.scenario_fields.specs.Place.{path};
 ghost use Rattle.scenario.specs.Cards as spec;
-ghost use Rattle.scenario.specs.Cards.{list_of, pdol_at as pdol_found, cdol_at as cdol_found, app_keys, app_of, app_item as item_of, files_of, sequence_at as sequence_found, holder_of, counters_of, access_of, app_with, opening_of, own_or};
+ghost use Rattle.scenario.specs.Cards.{app_keys, app_of, app_item as item_of, files_of, sequence_at as sequence_found, holder_of, counters_of, access_of, app_with, opening_of, own_or};
 ghost use Rattle.scenario.specs.CardRules.{KeepsFiles, KeepsHolder, KeepsCounters, KeepsAccess, KeepsExtras, IsNewApp};
 ghost use Rattle.scenario_fields.specs.declared.spot.Characters.TheVariants.{Printable};
 ghost use Rattle.scenario.specs.Extras.{extras_of};
-ghost use Rattle.scenario.specs.SeenCards.{wanted_by};
 
 use crate::extras::{Extras, no_log, read_extras};
+use crate::lists::{Holding, cdol_at, pdol_at};
 use crate::record::records_at;
-use card_files::lists::{MOST_CDOL, MOST_DATA, MOST_PDOL, has_cdol1_entries, has_cdol2_entries};
 use card_files::rules::{MOST_AFL, reference_pin};
 use card_files::{AppImage, RecordImage};
 use card_keys::master_key;
 use card_state::AppState;
 use emv_dict::{Digits, LEAST_PAN, MOST_AMOUNT, MOST_PAN, Name, two_digits};
 use issuer_host::HostKeys;
-use object_lists::{Dol, read_dol, total};
 use scenario_fields::{Characters, Fields, Place, ScenarioFault, Spot};
 use std::alloc::Global;
 use std::marker::Model;
 use toml::{Table, Value};
 use triple_des::Key16;
-
-/// What an object list must hold.
-#[derive(Clone, Copy)]
-enum Holding {
-    /// Anything.
-    Anything,
-    /// What the first GENERATE AC brings.
-    First,
-    /// What the second one brings.
-    Second,
-}
-
-/// Whether a list holds what it must.
-fn holds(holding: Holding, dol: &Dol) -> bool
-    ensures { result ≡ has_all (wanted_by holding) dol.now }
-{
-    match holding {
-        Holding::Anything => true,
-        Holding::First => has_cdol1_entries(dol),
-        Holding::Second => has_cdol2_entries(dol),
-    }
-}
-
-/// Tries an object list: it can be read, it wants at most 252 bytes of data, and it holds what it must.
-#[tactic(auto, unfolding(crate::specs::Cards::list_of, card_files::specs::Lists::entries_within))]
-fn try_list(spot: &Spot, holding: Holding, bytes: &[u8]) -> Result<(), ScenarioFault>
-    requires { length bytes.now ≤ 255 }
-    ensures exact { Gives (λ _. bytes.now) result (list_of (spot_path spot.now.place spot.now.key.now spot.now.index) (wanted_by holding) bytes.now) }
-    ensures held { (most : ℕ) → length bytes.now ≤ most
-        → OnOk result (IsTrue (holds_all (wanted_by holding) (entries_within most bytes.now))) }
-{
-    let Ok(dol) = read_dol(bytes) else {
-        return Err(spot.bad());
-    };
-    if total(&dol) > MOST_DATA {
-        return Err(spot.far());
-    }
-    if !holds(holding, &dol) {
-        return Err(spot.bad());
-    }
-    Ok(())
-}
-
-/// The processing options object list, where there is one.
-#[tactic(auto, unfolding(crate::specs::Cards::pdol_at))]
-fn pdol_at(
-    alloc: Global,
-    card: usize,
-    index: usize,
-    table: &Table,
-) -> Result<Option<Vec<u8>>, ScenarioFault>
-    ensures exact { Gives (λ o. option_map (λ v. v.items) o) result (pdol_found card index (table_view table.now)) }
-    ensures rule { IfOk result (λ o. IsTrue (is_optional_pdol (option_map (λ v. v.items) o))) }
-{
-    let fields = Fields {
-        alloc,
-        place: Place::App(card, index),
-        table,
-    };
-    match fields.optional_bytes("pdol", 0, MOST_PDOL)? {
-        Some(bytes) => {
-            try_list(&fields.spot("pdol"), Holding::Anything, bytes.as_slice())?;
-            Ok(Some(bytes))
-        }
-        None => Ok(None),
-    }
-}
-
-/// The object list at this key, which must hold what its GENERATE AC brings.
-#[tactic(auto, unfolding(crate::specs::Cards::cdol_at))]
-fn cdol_at(
-    alloc: Global,
-    card: usize,
-    index: usize,
-    key: &str,
-    holding: Holding,
-    table: &Table,
-) -> Result<Vec<u8>, ScenarioFault>
-    ensures exact { Gives (λ v. v.items) result (cdol_found key.now (wanted_by holding) card index (table_view table.now)) }
-    ensures held { IfOk result (λ v. IsTrue (holds_all (wanted_by holding) (entries_within most_cdol v.items))) }
-{
-    let fields = Fields {
-        alloc,
-        place: Place::App(card, index),
-        table,
-    };
-    let bytes = fields.bytes(key, 0, MOST_CDOL)?;
-    try_list(&fields.spot(key), holding, bytes.as_slice())?;
-    Ok(bytes)
-}
 
 /// Whether an application has this name.
 #[tactic(auto, unfolding(crate::specs::Cards::has_name))]

@@ -8,6 +8,7 @@ pub mod canned;
 pub mod card;
 pub mod extras;
 pub mod issuer;
+mod lists;
 pub mod plan;
 pub mod read;
 pub mod record;

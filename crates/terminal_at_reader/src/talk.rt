@@ -13,14 +13,14 @@ ghost use Rattle.reader_lines.specs.Coming.{OfFirstLine};
 ghost use Rattle.trace_check.specs.Texts.{entry_of};
 ghost use Rattle.terminal_at_reader.specs.Talk.{Heard, IsCut, IsEntryRead, IsStuck, IsWhole, NoEntry, NoReply, SinkCount, SoFar, SourceCount};
 
-use crate::asking::{take, tell_ask, tell_end};
+use crate::asking::{tell_ask, tell_end};
 use emv_ports::{Failed, Sink, Source, write_all};
 use kernel::{Kernel, Next};
 use reader_lines::{Came, LineText, read_line};
 use report_text::Text;
 use std::alloc::{AllocError, Global};
-use trace_check::Entry;
 use trace_check::entry::entry_of;
+use trace_check::{Entry, take};
 
 /// Why a talk stops before its end.
 #[derive(Clone, Copy, PartialEq, Eq, Debug)]

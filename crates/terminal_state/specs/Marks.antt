@@ -1,6 +1,6 @@
 -- What the finished steps of a dialogue leave: which bits stand at a moment, and the other values that the terminal
 -- then holds (EMV 4.3 Book 3 section 10 and Annexes C5 and C6).
-use Rattle.std.specs.Prelude.{ℕ, Bool, false, ◌==◌, not, if◌then◌else◌, List, [], ◌∷◌, ◌++◌, length, bit_or, Option, Some, None}
+use Rattle.std.specs.Prelude.{ℕ, Bool, true, false, ◌==◌, not, if◌then◌else◌, List, [], ◌∷◌, ◌++◌, length, bit_or, Option, Some, None}
 use Rattle.std.specs.Str.{bytes_eq}
 use Rattle.auth_message.specs.Reply.{ReplyData}
 use Rattle.emv_dict.specs.Digits.{is_pin_length}
@@ -11,6 +11,8 @@ use Rattle.emv_dict.specs.declared.ending.Kind.TheVariants.{Aac, Tc, Arqc}
 use Rattle.emv_dict.specs.declared.judged.Judged.{Judged}
 use Rattle.emv_dict.specs.declared.verified.Verified.{Verified}
 use Rattle.object_lists.specs.CardRead.{ReadCard}
+use Rattle.terminal_state.specs.declared.moment.OnlineRequest.{OnlineRequest}
+use Rattle.terminal_state.specs.declared.moment.OnlineRequest.TheVariants.{Sent, NotSent}
 
 -- a step that is finished, with what it found
 pub data Mark : Type 0 where
@@ -24,7 +26,7 @@ pub data Mark : Type 0 where
   -- the host's reply was read
   HasReply : (reply : ReplyData) → Mark
   -- the terminal was unable to go online, behind a request or without one, and wants this kind
-  WasUnable : (sent : Bool) → (wanted : Kind) → Mark
+  WasUnable : (request : OnlineRequest) → (wanted : Kind) → Mark
   HasAuthenticated : (good : Bool) → Mark
   -- a template 71 ran, to this result
   HasRunBefore : (result : List ℕ) → Mark
@@ -97,7 +99,7 @@ abbrev pub code_of : Mark → Option (Option (List ℕ))
 code_of (HasAnalysed wanted) = Some (offline_code wanted)
 code_of (HasFirst ac) = Some (offline_code ac.kind)
 code_of (HasReply reply) = Some (Some reply.code)
-code_of (WasUnable sent wanted) = Some (Some (unable_code wanted))
+code_of (WasUnable request wanted) = Some (Some (unable_code wanted))
 code_of other = None
 
 -- the verification results (9F34)
@@ -136,10 +138,15 @@ abbrev pub card_of : Mark → Option (Option ReadCard)
 card_of (HasRead card) = Some (Some card)
 card_of other = None
 
+-- a request went to the issuer
+abbrev pub was_sent : OnlineRequest → Bool
+was_sent Sent = true
+was_sent NotSent = false
+
 -- a request was sent, and no reply other than 00 was read
 abbrev pub open_of : Mark → Option Bool
 open_of (HasReply reply) = Some (bytes_eq reply.code (0x30 ∷ 0x30 ∷ []))
-open_of (WasUnable sent wanted) = Some sent
+open_of (WasUnable request wanted) = Some (was_sent request)
 open_of other = None
 
 -- the results of the scripts, the first one first

@@ -9,6 +9,6 @@ pub mod table;
 pub mod terminal;
 
 pub use held::HeldCard;
-pub use moment::{IssuerData, Moment};
+pub use moment::{IssuerData, Moment, OnlineRequest};
 pub use table::{HostReply, Table};
 pub use terminal::put_terminal;

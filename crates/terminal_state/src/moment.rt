@@ -2,7 +2,7 @@
 ghost use Rattle.std.specs.Prelude.{◌≡◌, ◌+◌, [], ◌∷◌, ◌<◌, ◌≤◌, ℕ, List, length, option_map, IfSome, Some, not};
 ghost use Rattle.emv_dict.specs.Digits.{HasPinLength};
 ghost use Rattle.object_lists.specs.CardRead.{ReadCard};
-ghost use Rattle.terminal_state.specs.Marks.{Mark, HasRead, HasRestricted, HasVerified, HasJudged, HasAnalysed, HasFirst, HasReply, WasUnable, HasAuthenticated, HasRunBefore, HasSecond, HasRunBehind, moment, offline_code as spec_offline, unable_code as spec_unable, is_whole as whole_test, bits_if, sound_pin as sound};
+ghost use Rattle.terminal_state.specs.Marks.{Mark, HasRead, HasRestricted, HasVerified, HasJudged, HasAnalysed, HasFirst, HasReply, WasUnable, HasAuthenticated, HasRunBefore, HasSecond, HasRunBehind, moment, offline_code as spec_offline, unable_code as spec_unable, is_whole as whole_test, bits_if, sound_pin as sound, was_sent as sent_test};
 
 use arrayvec::ArrayVec;
 use auth_message::Reply;
@@ -12,6 +12,15 @@ use std::marker::Model;
 
 /// The issuer authentication data (91): 8 to 16 bytes.
 pub type IssuerData = ArrayVec<u8, 16>;
+
+/// The request to the issuer, where the terminal was unable to go online (EMV 4.3 Book 3 section 10.9).
+#[derive(Clone, Copy)]
+pub enum OnlineRequest {
+    /// It was sent, and no reply came, or one that can't be read.
+    Sent,
+    /// The terminal never goes online.
+    NotSent,
+}
 
 /// What the steps that are finished leave.
 #[derive(Drop)]
@@ -176,14 +185,14 @@ impl Moment {
         self.is_open = reply.code == *b"00";
     }
 
-    /// The terminal was unable to go online, behind a request that was `sent` or without one, and asks for
-    /// this kind of cryptogram.
-    pub fn was_unable(&mut self, sent: bool, wanted: Kind)
-        ensures marks { (marks : List Mark) → self.old ≡ moment marks → self.new ≡ moment (WasUnable sent wanted ∷ marks) }
+    /// The terminal was unable to go online, behind a request or without one, and asks for this kind of
+    /// cryptogram.
+    pub fn was_unable(&mut self, request: OnlineRequest, wanted: Kind)
+        ensures marks { (marks : List Mark) → self.old ≡ moment marks → self.new ≡ moment (WasUnable request wanted ∷ marks) }
         ensures scripts { self.new.scripts ≡ self.old.scripts }
     {
         self.code = Some(unable_code(wanted));
-        self.is_open = sent;
+        self.is_open = was_sent(request);
     }
 
     /// The card has answered EXTERNAL AUTHENTICATE, and found the issuer's cryptogram `good` or not.
@@ -227,6 +236,16 @@ impl Moment {
         self.tvr = Tvr(self.tvr.0 | tvr_unless(whole, Tvr::SCRIPT_FAILED_AFTER_FINAL_CRYPTOGRAM));
         self.tsi = Tsi(self.tsi.0 | Tsi::SCRIPT_PROCESSING.0);
         self.scripts.push(script);
+    }
+}
+
+/// Whether a request went to the issuer.
+fn was_sent(request: OnlineRequest) -> bool
+    ensures { result ≡ sent_test request }
+{
+    match request {
+        OnlineRequest::Sent => true,
+        OnlineRequest::NotSent => false,
     }
 }
 

@@ -19,12 +19,16 @@ use Rattle.kernel.specs.Course.{Standing, Rest, stands, over, by_progress, settl
 use Rattle.kernel.specs.Dialogue.{Trade, all_failed, left_script, scripts_behind, second, scripts_before, authentication, authentication_by, has_authentication, unable_online, kind_unable, reply_read, replied, is_offline_only, first_answered, first, analysis, risk, verification, restrictions, read, granted, initiation, opened, candidates_left, dialogue, decision, kind_for, kind_wanted}
 use Rattle.kernel.specs.Laws.{asks_host}
 use Rattle.kernel.specs.Reply.{Reply, CardSaid, CardGone, HostSaid, HostSilent, Deed, ToCard, ToHost, Over}
+use Rattle.kernel.specs.declared.stage.OnlineOutcome.{OnlineOutcome}
+use Rattle.kernel.specs.declared.stage.OnlineOutcome.TheVariants.{Replied, Unable}
 use Rattle.online_step.specs.Authenticate.{authenticated}
 use Rattle.read_records.specs.Options.{Opened}
 use Rattle.script_run.specs.Ran.{template_ran}
 use Rattle.terminal_state.specs.Marks.{Mark, HasVerified, HasJudged, HasAnalysed, HasFirst, HasReply, WasUnable, HasAuthenticated, HasRunBefore, HasSecond, HasRunBehind}
 use Rattle.terminal_state.specs.Scripts.{templates, kept}
 use Rattle.terminal_state.specs.Terminal.{Deal}
+use Rattle.terminal_state.specs.declared.moment.OnlineRequest.{OnlineRequest}
+use Rattle.terminal_state.specs.declared.moment.OnlineRequest.TheVariants.{Sent, NotSent}
 use Rattle.trace_check.specs.Dialogues.{is_awaited}
 
 -- each reply came where one of its side was awaited
@@ -141,21 +145,21 @@ scripts_behind_quiet ending (template ∷ others) marks log =
     card_quiet (left_script ending others marks) step.Script marks (λ result. scripts_behind ending others (HasRunBehind result ∷ marks))
     (λ result. scripts_behind_quiet ending others (HasRunBehind result ∷ marks)) step.Script (template_ran template) log
 
-second_closes : (trade : Trade) (on : Bool) (asked : Kind) (behind : List (List ℕ)) (marks : List Mark) → Closes (second trade on asked behind marks)
+second_closes : (trade : Trade) (outcome : OnlineOutcome) (asked : Kind) (behind : List (List ℕ)) (marks : List Mark) → Closes (second trade outcome asked behind marks)
 unfolding second
-second_closes trade on asked behind marks =
-    card_closes (cut_off marks) step.Second marks (λ ac. scripts_behind (decision on ac.kind) behind (HasSecond ac ∷ marks)) (cut_leaves marks)
-    (λ ac. scripts_behind_close (decision on ac.kind) behind (HasSecond ac ∷ marks)) step.Second _
+second_closes trade outcome asked behind marks =
+    card_closes (cut_off marks) step.Second marks (λ ac. scripts_behind (decision outcome ac.kind) behind (HasSecond ac ∷ marks)) (cut_leaves marks)
+    (λ ac. scripts_behind_close (decision outcome ac.kind) behind (HasSecond ac ∷ marks)) step.Second _
 
-second_quiet : (trade : Trade) (on : Bool) (asked : Kind) (behind : List (List ℕ)) (marks : List Mark) → Quiet (second trade on asked behind marks)
+second_quiet : (trade : Trade) (outcome : OnlineOutcome) (asked : Kind) (behind : List (List ℕ)) (marks : List Mark) → Quiet (second trade outcome asked behind marks)
 unfolding second
-second_quiet trade on asked behind marks =
-    card_quiet (cut_off marks) step.Second marks (λ ac. scripts_behind (decision on ac.kind) behind (HasSecond ac ∷ marks))
-    (λ ac. scripts_behind_quiet (decision on ac.kind) behind (HasSecond ac ∷ marks)) step.Second _
+second_quiet trade outcome asked behind marks =
+    card_quiet (cut_off marks) step.Second marks (λ ac. scripts_behind (decision outcome ac.kind) behind (HasSecond ac ∷ marks))
+    (λ ac. scripts_behind_quiet (decision outcome ac.kind) behind (HasSecond ac ∷ marks)) step.Second _
 
 scripts_before_close : (trade : Trade) (reply : ReplyData) (scripts : List (List ℕ)) (marks : List Mark) → Closes (scripts_before trade reply scripts marks)
 unfolding scripts_before
-scripts_before_close trade reply [] marks = second_closes trade true (kind_for reply.code) (templates 0x72 reply.scripts) marks
+scripts_before_close trade reply [] marks = second_closes trade Replied (kind_for reply.code) (templates 0x72 reply.scripts) marks
 scripts_before_close trade reply (template ∷ others) marks =
     card_closes (cut_off marks) step.Script marks (λ result. scripts_before trade reply others (HasRunBefore result ∷ marks)) (cut_leaves marks)
     (λ result. scripts_before_close trade reply others (HasRunBefore result ∷ marks)) step.Script (template_ran template)
@@ -171,26 +175,26 @@ authentication_closes : (trade : Trade) (reply : ReplyData) (marks : List Mark) 
 unfolding authentication
 authentication_closes trade reply marks = authentication_by_closes trade reply marks (has_authentication trade.card) reply.auth
 
-unable_closes : (trade : Trade) (sent : Bool) (marks : List Mark) → Closes (unable_online trade sent marks)
+unable_closes : (trade : Trade) (request : OnlineRequest) (marks : List Mark) → Closes (unable_online trade request marks)
 unfolding unable_online
-unable_closes trade sent marks = second_closes trade false (kind_unable trade marks) [] (WasUnable sent (kind_unable trade marks) ∷ marks)
+unable_closes trade request marks = second_closes trade Unable (kind_unable trade marks) [] (WasUnable request (kind_unable trade marks) ∷ marks)
 
-unable_quiet : (trade : Trade) (sent : Bool) (marks : List Mark) → Quiet (unable_online trade sent marks)
+unable_quiet : (trade : Trade) (request : OnlineRequest) (marks : List Mark) → Quiet (unable_online trade request marks)
 unfolding unable_online
-unable_quiet trade sent marks = second_quiet trade false (kind_unable trade marks) [] (WasUnable sent (kind_unable trade marks) ∷ marks)
+unable_quiet trade request marks = second_quiet trade Unable (kind_unable trade marks) [] (WasUnable request (kind_unable trade marks) ∷ marks)
 
 read_closes : (trade : Trade) (marks : List Mark) (said : Result ReplyData MessageFault) → Closes (reply_read trade marks said)
 read_closes trade marks (Ok reply) = authentication_closes trade (kept reply) (HasReply reply ∷ marks)
-read_closes trade marks (Err fault) = unable_closes trade true marks
+read_closes trade marks (Err fault) = unable_closes trade Sent marks
 
 replied_closes : (trade : Trade) (marks : List Mark) (said : Option (List ℕ)) → Closes (replied trade marks said)
-replied_closes trade marks None = unable_closes trade true marks
+replied_closes trade marks None = unable_closes trade Sent marks
 replied_closes trade marks (Some said) = read_closes trade marks (reply_of said)
 
 online_by_closes : (trade : Trade) (marks : List Mark) (message : List ℕ) (test : Bool)
-    → Closes (let rest : Rest Mark = (if test then unable_online trade false marks else host_step marks message (replied trade marks)) in rest)
-online_by_closes trade marks message true = unable_closes trade false marks
-online_by_closes trade marks message false = host_closes marks message (replied trade marks) (unable_quiet trade true marks) (replied_closes trade marks)
+    → Closes (let rest : Rest Mark = (if test then unable_online trade NotSent marks else host_step marks message (replied trade marks)) in rest)
+online_by_closes trade marks message true = unable_closes trade NotSent marks
+online_by_closes trade marks message false = host_closes marks message (replied trade marks) (unable_quiet trade Sent marks) (replied_closes trade marks)
 
 first_answered_closes : (trade : Trade) (ac : AcData) (marks : List Mark) (kind : Kind) → Closes (first_answered trade ac marks kind)
 first_answered_closes trade ac marks Tc = over_closes marks _

@@ -1,24 +1,23 @@
 //! A trace is read against the dialogue of its terminal, an exchange at a time.
-ghost use Rattle.std.specs.Prelude.{◌≡◌, ◌≢◌, ◌≤◌, ◌<◌, ◌∷◌, ◌++◌, [], false, List, Option, Some, None, option_map, length, drop};
+ghost use Rattle.std.specs.Prelude.{◌≡◌, ◌≢◌, ◌≤◌, ◌<◌, ◌∷◌, ◌++◌, [], false, List, Option, Some, None, length, drop};
 ghost use Rattle.kernel.specs.Dialogue.{dialogue};
 ghost use Rattle.kernel.specs.Kernel.{KernelStands, deal_in, next_of};
 ghost use Rattle.kernel.specs.Reply.{Reply};
 ghost use Rattle.kernel.specs.declared.kernel.Next.TheVariants as next;
-ghost use Rattle.trace_check.specs.Dialogues as spec;
-ghost use Rattle.trace_check.specs.Dialogues.{entry_at, reply_in};
+ghost use Rattle.trace_check.specs.Dialogues.{entry_at};
 ghost use Rattle.trace_check.specs.Document.{IsTrace};
 ghost use Rattle.trace_check.specs.Loop as loops;
-ghost use Rattle.trace_check.specs.Loop.{Exchanged, Taken};
+ghost use Rattle.trace_check.specs.Loop.{Exchanged};
 ghost use Rattle.trace_check.specs.Verdicts.{same_entry, verdict, verdict_of};
 ghost use Rattle.trace_check.specs.declared.entry.Entry.{Entry as EntryRow};
 ghost use Rattle.trace_check.specs.declared.entry.Entry.TheVariants as entries;
 
+use crate::ended::add_end_text;
 use crate::entry::Entry;
 use crate::read::Trace;
-use auth_message::Message;
-use emv_dict::Ac;
-use kernel::{Capture, EndRecord, Kernel, Next, Tally};
-use report_text::{EndParts, Text, end_parts};
+use crate::taking::take;
+use kernel::{Kernel, Next, Tally};
+use report_text::Text;
 
 /// What a trace is to the dialogue of its terminal.
 #[derive(Clone, Copy, PartialEq, Eq, Debug)]
@@ -28,53 +27,6 @@ pub enum Verdict {
     /// The entry of this number, from 0, is the first that is not the dialogue's. Where there is none, the number is
     /// that of the entries: the next one lacks.
     Differs(u32),
-}
-
-/// The counter and the cryptogram of the card's last one.
-fn last_of(last: &Option<Ac>) -> Option<(u16, [u8; 8])>
-    ensures { result ≡ option_map (λ ac. (ac.counter, ac.cryptogram)) last.now }
-{
-    match last {
-        Some(ac) => Some((ac.counter, ac.cryptogram)),
-        None => None,
-    }
-}
-
-/// Nobody captures what a trace tells of.
-fn let_go(capture: Option<Capture>) {
-    if let Some(capture) = capture {
-        let mut message = Message::new();
-        capture.into_message(&mut message);
-    }
-}
-
-/// The text of an end, as a report's line tells it behind the purchase's number.
-fn end_text(end: EndRecord, out: &mut Text)
-    ensures { out.new.items ≡ spec.end_text end }
-{
-    let EndRecord {
-        ending,
-        tvr,
-        tsi,
-        cvm,
-        pan: _,
-        code,
-        last,
-        scripts,
-        capture,
-    } = end;
-    let_go(capture);
-    out.clear();
-    let parts = EndParts {
-        ending,
-        tvr,
-        tsi,
-        cvm,
-        arc: code,
-        atc_ac: last_of(&last),
-        scripts,
-    };
-    end_parts(out, &parts);
 }
 
 /// Whether an entry is an end with this text.
@@ -119,7 +71,7 @@ fn is_end(kernel: &mut Kernel<'_>, entry: &Entry) -> bool
 {
     let end = kernel.end(&mut Tally::new());
     let mut told = Text::new();
-    end_text(end, &mut told);
+    add_end_text(end, &mut told);
     is_end_with(entry, told.as_slice())
 }
 
@@ -133,67 +85,6 @@ fn is_asked(kernel: &Kernel<'_>, entry: &Entry) -> bool
         Next::ToCard => is_command(entry, kernel.bytes()),
         Next::ToHost => is_message(entry, kernel.bytes()),
         Next::Ended => unreachable!(),
-    }
-}
-
-/// Tells a terminal that awaits the card's reply an entry, where it is one.
-fn from_card(kernel: &mut Kernel<'_>, entry: &Entry) -> bool
-    requires waits { next_of kernel.old ≡ next.ToCard }
-    requires fresh { kernel.old.is_spent ≡ false }
-    ensures taken { (replies : List Reply) → KernelStands kernel.old replies
-        → Taken spec.of_card kernel.new replies (reply_in entry.now) result }
-    ensures deal { deal_in kernel.new ≡ deal_in kernel.old }
-    ensures fresh { kernel.new.is_spent ≡ false }
-{
-    match entry {
-        Entry::CardSaid(answer) => {
-            kernel.take_card(answer.as_slice(), &[]);
-            true
-        }
-        Entry::CardGone => {
-            kernel.take_gone();
-            true
-        }
-        Entry::ToCard(_) | Entry::ToHost(_) | Entry::End(_) => false,
-        Entry::HostSaid(_) | Entry::HostSilent => false,
-    }
-}
-
-/// Tells a terminal that awaits the host's reply an entry, where it is one.
-fn from_host(kernel: &mut Kernel<'_>, entry: &Entry) -> bool
-    requires waits { next_of kernel.old ≡ next.ToHost }
-    requires fresh { kernel.old.is_spent ≡ false }
-    ensures taken { (replies : List Reply) → KernelStands kernel.old replies
-        → Taken spec.of_host kernel.new replies (reply_in entry.now) result }
-    ensures deal { deal_in kernel.new ≡ deal_in kernel.old }
-    ensures fresh { kernel.new.is_spent ≡ false }
-{
-    match entry {
-        Entry::HostSaid(reply) => {
-            kernel.take_host(Some(reply.as_slice()));
-            true
-        }
-        Entry::HostSilent => {
-            kernel.take_host(None);
-            true
-        }
-        Entry::ToCard(_) | Entry::ToHost(_) | Entry::End(_) => false,
-        Entry::CardSaid(_) | Entry::CardGone => false,
-    }
-}
-
-/// Tells a terminal an entry, where it is a reply that it awaits.
-fn take(kernel: &mut Kernel<'_>, entry: &Entry) -> bool
-    requires { kernel.old.is_spent ≡ false }
-    ensures taken { (replies : List Reply) → KernelStands kernel.old replies
-        → Taken (spec.is_awaited (dialogue (deal_in kernel.old) replies).deed) kernel.new replies (reply_in entry.now) result }
-    ensures deal { deal_in kernel.new ≡ deal_in kernel.old }
-    ensures fresh { kernel.new.is_spent ≡ false }
-{
-    match kernel.next() {
-        Next::ToCard => from_card(kernel, entry),
-        Next::ToHost => from_host(kernel, entry),
-        Next::Ended => false,
     }
 }
 

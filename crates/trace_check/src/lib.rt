@@ -3,13 +3,17 @@
 #![tactic(auto)]
 
 pub mod compare;
+pub mod ended;
 pub mod entry;
 pub mod laws;
 pub mod read;
+pub mod taking;
 
 pub use compare::{Verdict, check};
+pub use ended::add_end_text;
 pub use entry::{Bytes, Entry};
 pub use read::{Trace, read_trace};
+pub use taking::take;
 
 #[cfg(test)]
 mod tests;

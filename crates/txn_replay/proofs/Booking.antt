@@ -48,7 +48,7 @@ IsPlain kept = kept.reply ≡ said_bytes (plain kept.code)
 
 module _ (keys : HostKeys) (accounts : List AccountData) where
   new_plain : (books : Books) (message : List ℕ) (f : PresentData) → IsPlain (new_present keys accounts books message f)
-  new_plain books message f = ap said_bytes (by (account_of f.pan accounts))
+  new_plain books message f = ap said_bytes (by (account_of f.named.pan accounts))
     where
       by : (account : Option AccountData) → present_reply keys account books f ≡ plain (present_reply keys account books f).code
       by None = refl

@@ -68,7 +68,6 @@ pub mod Respelling
 pub mod Lost
 pub mod Unique
 pub mod SameTotals
-pub mod Showing
 mod Worked
 pub mod OwnPieces
 pub mod OwnLines

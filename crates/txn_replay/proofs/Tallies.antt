@@ -5,8 +5,9 @@ use Rattle.std.proofs.lemmas.List.Sums.{sum_by-cons, sum_by-append}
 use Rattle.emv_dict.specs.declared.ending.Ending.{Ending}
 use Rattle.emv_dict.specs.declared.ending.Ending.TheVariants.{Approved, Declined, Terminated, CutOff}
 use Rattle.kernel.specs.Ended.{EndData}
+use Rattle.kernel.specs.Laws.{approves}
 use Rattle.kernel.specs.Tally.{Counts, raised}
-use Rattle.txn_replay.specs.Counting.{is_approved, is_declined, is_other, ended_so, capped, counts_of, all_ended, counts}
+use Rattle.txn_replay.specs.Counting.{is_declined, is_other, ended_so, capped, counts_of, all_ended, counts}
 use Rattle.txn_replay.specs.Standing.{count_end, counted, ArePasts}
 use Rattle.txn_replay.specs.World.{Past, LaneRow, World, new_lane}
 
@@ -43,7 +44,7 @@ one_if b = cond b 1 0
 
 count_one : (a d o r : ℕ) (ending : Ending) (replies : ℕ)
     → raised (stopped a d o r) ending replies
-    ≡ stopped (a + one_if (is_approved ending)) (d + one_if (is_declined ending)) (o + one_if (is_other ending)) (r + replies)
+    ≡ stopped (a + one_if (approves ending)) (d + one_if (is_declined ending)) (o + one_if (is_other ending)) (r + replies)
 count_one a d o r (Approved online) n = λ i. record {
   approved = plus_capped a 1 i;
   declined = (let e : capped d ≡ capped (d + 0) = omega arith in e) i;
@@ -71,7 +72,7 @@ count_one a d o r (CutOff step) n = λ i. record {
 
 -- how often each adds to the four sums
 abbrev approvals : Past → ℕ
-approvals past = one_if (ended_so is_approved past.end)
+approvals past = one_if (ended_so approves past.end)
 
 abbrev declines : Past → ℕ
 declines past = one_if (ended_so is_declined past.end)
@@ -85,7 +86,7 @@ taken past = length past.replies
 -- a purchase without an end record adds nothing
 count_end_one : (a d o r : ℕ) (end : Option EndData) (replies : ℕ) → (is_none end ≡ true → replies ≡ 0)
     → count_end (stopped a d o r) replies end
-    ≡ stopped (a + one_if (ended_so is_approved end)) (d + one_if (ended_so is_declined end)) (o + one_if (ended_so is_other end)) (r + replies)
+    ≡ stopped (a + one_if (ended_so approves end)) (d + one_if (ended_so is_declined end)) (o + one_if (ended_so is_other end)) (r + replies)
 count_end_one a d o r None replies none = λ i. record {
   approved = (let e : capped a ≡ capped (a + 0) = omega arith in e) i;
   declined = (let e : capped d ≡ capped (d + 0) = omega arith in e) i;

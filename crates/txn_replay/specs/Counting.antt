@@ -3,14 +3,9 @@ use Rattle.std.specs.Prelude.{ℕ, ◌-◌, ◌^◌, min, Bool, true, false, not
 use Rattle.emv_dict.specs.declared.ending.Ending.{Ending}
 use Rattle.emv_dict.specs.declared.ending.Ending.TheVariants.{Approved, Declined, Terminated, CutOff}
 use Rattle.kernel.specs.Ended.{EndData}
+use Rattle.kernel.specs.Laws.{approves}
 use Rattle.kernel.specs.Tally.{Counts}
 use Rattle.txn_replay.specs.World.{Past, World}
-
-abbrev pub is_approved : Ending → Bool
-is_approved (Approved online) = true
-is_approved (Declined online) = false
-is_approved (Terminated step cause) = false
-is_approved (CutOff step) = false
 
 abbrev pub is_declined : Ending → Bool
 is_declined (Approved online) = false
@@ -31,12 +26,12 @@ ended_so test None = false
 ended_so test (Some end) = test end.ending
 
 abbrev pub is_other : Ending → Bool
-is_other ending = not (is_approved ending || is_declined ending)
+is_other ending = not (approves ending || is_declined ending)
 
 -- those that were approved, those that were declined, all others, and the replies of them all
 abbrev pub counts_of : List Past → Counts
 counts_of ended = record {
-  approved = capped (count_by (λ past. ended_so is_approved past.end) ended);
+  approved = capped (count_by (λ past. ended_so approves past.end) ended);
   declined = capped (count_by (λ past. ended_so is_declined past.end) ended);
   other = capped (count_by (λ past. ended_so is_other past.end) ended);
   replies = capped (sum_by (λ past. length past.replies) ended);

@@ -1,14 +1,9 @@
 -- The lines of a report that a run makes (this project's own).
-use Rattle.std.specs.Prelude.{ℕ, Bool, if◌then◌else◌, List, [], ◌∷◌, map, Option, Some, None, option_map}
-use Rattle.std.specs.List.{zip}
-use Rattle.std.specs.Option.{option_and}
+use Rattle.std.specs.Prelude.{ℕ, Bool, if◌then◌else◌, List, [], ◌∷◌, Option, Some, None, option_map}
+use Rattle.card_counters.specs.Counters.{shown_all}
 use Rattle.card_files.specs.Files.{opening_of}
-use Rattle.card_files.specs.Views.{AppData}
 use Rattle.card_state.specs.Decisions.{Decided}
-use Rattle.card_state.specs.Encoding.{flags_of}
 use Rattle.card_state.specs.Totals.{totals}
-use Rattle.card_state.specs.declared.state.AppState.{AppState}
-use Rattle.card_state.specs.declared.state.CardState.{CardState}
 use Rattle.host_link.specs.Dialect.{call_in, reply_in}
 use Rattle.kernel.specs.Ended.{EndData}
 use Rattle.report_text.specs.declared.line.EndParts.{EndParts}
@@ -17,26 +12,7 @@ use Rattle.report_text.specs.declared.line.Line.TheVariants.{Power, PowerCanned,
 use Rattle.report_text.specs.declared.line.Shown.{Shown}
 use Rattle.scenario.specs.Cards.{CardData}
 
--- the second sum, of an application that counts in a second currency
-abbrev pub second_sum : AppData → AppState → Option ℕ
-second_sum app s = option_and app.currency_two (Some s.sum_two)
-
--- an application's counters
-unfoldable pub shown_state : AppData → AppState → Shown
-shown_state app s = record {
-  counter = s.counter;
-  last_online = s.last_online;
-  count = s.count;
-  sum = s.sum;
-  tries = s.tries;
-  flags = flags_of s;
-  sum_two = second_sum app s;
-}
-
 -- the counters of a card that has taken these decisions
-abbrev pub shown_all : List AppData → CardState → List Shown
-shown_all apps state = map (λ pair. shown_state pair.0 pair.1) (zip apps state.apps.items)
-
 abbrev pub shown_after : CardData → List Decided → List Shown
 shown_after card ds = shown_all card.image.apps (totals (opening_of card.image) ds)
 

@@ -1,5 +1,6 @@
 //! The lines of a report, as they are made.
-ghost use Rattle.std.specs.Prelude.{◌≡◌, ◌+◌, ◌≤◌, ◌<◌, ◌++◌, ◌∷◌, [], length, map, option_map, IfSome};
+ghost use Rattle.std.specs.Prelude.{◌≡◌, ◌+◌, ◌≤◌, ◌<◌, ◌++◌, ◌∷◌, [], length, option_map, IfSome};
+ghost use Rattle.card_counters.specs.Counters.{shown_all};
 ghost use Rattle.kernel.specs.Ended.{EndData};
 ghost use Rattle.kernel.specs.Shown.{shown as shown_end};
 ghost use Rattle.report_text.specs.declared.line.Line.TheVariants.{Power, PowerTorn, AuditPower, AuditAsk, AuditAnswer};
@@ -7,38 +8,12 @@ ghost use Rattle.txn_replay.specs.Lines as spec;
 
 use arrayvec::ArrayVec;
 use ber_tlv::append;
-use card_files::{AppImage, Image};
-use card_state::{AppState, CardState, flags};
+use card_counters::shown_all;
+use card_files::Image;
+use card_state::CardState;
 use kernel::EndRecord;
+use report_text::EndParts;
 pub use report_text::Lines;
-use report_text::{EndParts, Shown};
-
-/// An application's counters.
-#[tactic(auto, unfolding(crate::specs::Lines::shown_state))]
-fn shown(app: &AppImage, state: &AppState) -> Shown
-    ensures { result ≡ spec.shown_state app.now state.now }
-{
-    Shown {
-        counter: state.counter,
-        last_online: state.last_online,
-        count: state.count,
-        sum: state.sum,
-        tries: state.tries,
-        flags: flags(state),
-        sum_two: app.currency_two.and(Some(state.sum_two)),
-    }
-}
-
-/// Those of each application of a card.
-pub(crate) fn shown_all(image: &Image, state: &CardState) -> ArrayVec<Shown, 4>
-    ensures { result.items ≡ spec.shown_all image.now.apps state.now }
-{
-    let mut all = ArrayVec::new();
-    for (app, counts) in image.apps().iter().zip(state.apps.as_slice()) {
-        all.push(shown(app, counts));
-    }
-    all
-}
 
 /// What the end line of a purchase tells.
 pub(crate) fn end_parts(ended: &EndRecord) -> EndParts
@@ -115,7 +90,7 @@ pub(crate) fn add_host(lane: u8, call: &[u8], reply: Option<&[u8]>, lines: &mut 
 pub(crate) fn add_power(lane: u8, name: &[u8], image: &Image, state: &CardState, lines: &mut Lines)
     requires room { length lines.old.items < 8 }
     requires name { length name.now ≤ 16 }
-    ensures { lines.new.items ≡ lines.old.items ++ Power lane (record { items = name.now }) (record { items = spec.shown_all image.now.apps state.now }) ∷ [] }
+    ensures { lines.new.items ≡ lines.old.items ++ Power lane (record { items = name.now }) (record { items = shown_all image.now.apps state.now }) ∷ [] }
 {
     lines.power(lane, name_of(name), shown_all(image, state));
 }
@@ -133,7 +108,7 @@ pub(crate) fn add_power_torn(lane: u8, name: &[u8], lines: &mut Lines)
 pub(crate) fn add_audit_power(name: &[u8], image: &Image, state: &CardState, lines: &mut Lines)
     requires room { length lines.old.items < 8 }
     requires name { length name.now ≤ 16 }
-    ensures { lines.new.items ≡ lines.old.items ++ AuditPower (record { items = name.now }) (record { items = spec.shown_all image.now.apps state.now }) ∷ [] }
+    ensures { lines.new.items ≡ lines.old.items ++ AuditPower (record { items = name.now }) (record { items = shown_all image.now.apps state.now }) ∷ [] }
 {
     lines.audit_power(name_of(name), shown_all(image, state));
 }

@@ -1,14 +1,14 @@
 -- What is told piece by piece.
 use Rattle.std.proofs.Common.{◌≡◌, ℕ, ◌+◌, ◌-◌, ◌<◌, ◌≤◌, Bool, true, false, ◌||◌, List, [], ◌∷◌, ◌++◌, cond, map, suc, refl, sym, ap, subst, ◌∙◌, arith}
 use Rattle.std.specs.List.{filter, range_with_len}
+use Rattle.std.proofs.lemmas.List.Sums.{fold-append}
 use Rattle.word_lines.specs.Lines.{WordsData}
 use Rattle.word_lines.specs.Bits.{has_bit, bits_from}
 use Rattle.word_lines.specs.Pieces.{Piece, Tells, put, with_piece, joined}
 
 -- pieces one behind the other
 pub put-append : (bytes : List ℕ) (first second : List Piece) → put bytes (first ++ second) ≡ put (put bytes first) second
-put-append bytes [] second = refl
-put-append bytes (p ∷ ps) second = put-append (with_piece bytes p) ps second
+put-append bytes first second = fold-append with_piece bytes first second
 
 -- and what was told of them
 pub tells_then : (old mid new : WordsData) (first second : List Piece) → Tells old mid first → Tells mid new second → Tells old new (first ++ second)
@@ -67,7 +67,8 @@ bits_next width between name bits told place n within =
     ∙ ap (joined told between) (map_cond (has_bit width bits place) name place others)
     ∙ joined_more (has_bit width bits place) told between (name place) (map name others)
 
-joined_none : (told : Bool) (between : List Piece) → joined told between [] ≡ []
+-- nothing stands between none
+pub joined_none : (told : Bool) (between : List Piece) → joined told between [] ≡ []
 joined_none true between = refl
 joined_none false between = refl
 

@@ -1,6 +1,6 @@
 -- What is told behind a line of a report, piece by piece.
 use Rattle.std.specs.Prelude.{ℕ, ◌≡◌, Bool, true, false, List, [], ◌∷◌, ◌++◌, map, decimal, Option, Some, None}
-use Rattle.std.specs.List.{flat_map}
+use Rattle.std.specs.List.{fold, flat_map}
 use Rattle.word_lines.specs.Hex.{pair_text}
 use Rattle.word_lines.specs.Lines.{WordsData, opened, begun, shown, closed}
 
@@ -16,8 +16,7 @@ with_piece bytes (Characters characters) = opened bytes ++ map shown characters
 
 -- the bytes with these pieces behind them
 abbrev pub put : List ℕ → List Piece → List ℕ
-put bytes [] = bytes
-put bytes (piece ∷ pieces) = put (with_piece bytes piece) pieces
+put bytes pieces = fold with_piece bytes pieces
 
 -- the lines that the pieces make
 abbrev pub lines_of : List Piece → List ℕ

@@ -1,5 +1,5 @@
 //! Lines of words that stand behind a line of a report: each begins with two blanks at least.
-#![tactic(auto, using(crate::proofs::Stages::stages))]
+#![tactic(auto)]
 
 pub mod lines;
 pub mod pieces;

@@ -45,6 +45,7 @@ impl Model for WordLines {
 
 impl WordLines {
     /// No lines.
+    #[tactic(auto, using(crate::proofs::Stages::stages))]
     pub fn new(alloc: Global) -> WordLines
         ensures empty { result.bytes ≡ [] }
         ensures whole { result.failed ≡ false }
@@ -57,6 +58,7 @@ impl WordLines {
     }
 
     /// Takes the lines away. A failure stays.
+    #[tactic(auto, using(crate::proofs::Stages::stages))]
     pub fn clear(&mut self)
         ensures empty { self.new.bytes ≡ [] }
         ensures failed { self.new.failed ≡ self.old.failed }
@@ -66,6 +68,7 @@ impl WordLines {
     }
 
     /// Ends the open line, where there is one.
+    #[tactic(auto, using(crate::proofs::Stages::stages))]
     fn end(&mut self)
         ensures ended { self.new.failed ≡ false → self.new.bytes ≡ closed self.old.bytes }
         ensures none { self.new.failed ≡ false → stage_of self.new.bytes ≡ 0 }
@@ -83,6 +86,7 @@ impl WordLines {
     }
 
     /// Begins a line where none is open.
+    #[tactic(auto, using(crate::proofs::Stages::stages))]
     fn begin(&mut self)
         ensures begun { self.new.failed ≡ false → self.new.bytes ≡ opened self.old.bytes }
         ensures one { self.new.failed ≡ false → stage_of self.new.bytes ≡ 2 }
@@ -100,6 +104,7 @@ impl WordLines {
     }
 
     /// Appends a byte to the open line. A byte that is no printable character of ASCII becomes `?`.
+    #[tactic(auto, using(crate::proofs::Stages::stages))]
     fn push(&mut self, byte: u8)
         requires { self.old.failed ≡ false → stage_of self.old.bytes ≡ 2 }
         ensures shown { self.new.failed ≡ false → self.new.bytes ≡ self.old.bytes ++ shown byte ∷ [] }

@@ -1,4 +1,4 @@
-use super::rows::{TORN, TORN_REPORT};
+use super::torn::{TORN, TORN_REPORT};
 use super::*;
 
 /// The first lines of a report, so many.

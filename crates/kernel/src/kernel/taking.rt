@@ -1,9 +1,7 @@
 //! A kernel takes the replies of the card and of the host.
-ghost use Rattle.std.specs.Prelude.{◌≡◌, ◌≤◌, ◌<◌, ◌∷◌, ◌++◌, [], List, Option, Some, None, false, option_map};
+ghost use Rattle.std.specs.Prelude.{◌≡◌, ◌≤◌, ◌<◌, ◌∷◌, ◌++◌, [], List, Option, Some, None, IsSome, false, option_map};
 ghost use Rattle.std.specs.List.{All, list_any};
-ghost use Rattle.emv_dict.specs.Settings.{most_amount};
-ghost use Rattle.emv_dict.specs.declared.ending.Ending.TheVariants.{Terminated};
-ghost use Rattle.emv_dict.specs.declared.ending.Step.TheVariants as steps;
+ghost use Rattle.emv_dict.specs.Settings.{IsAidRow, most_amount};
 ghost use Rattle.emv_dict.specs.declared.purchase.Logged.{Logged as LoggedRow};
 ghost use Rattle.kernel.specs.Course.{Standing};
 ghost use Rattle.kernel.specs.Dialogue.{dialogue, restrictions};
@@ -14,9 +12,8 @@ ghost use Rattle.kernel.specs.Rank.{rank_of, stage_rank, opening_rank, trading_r
 ghost use Rattle.kernel.specs.Reading.{IsBeforeReading};
 ghost use Rattle.kernel.specs.Reply.{Reply, CardSaid, CardGone, HostSaid, HostSilent, from_host};
 ghost use Rattle.kernel.specs.Stages.{OpeningStands};
+ghost use Rattle.kernel.specs.Trades.{trade_of};
 ghost use Rattle.kernel.specs.declared.kernel.Next.TheVariants as next;
-ghost use Rattle.kernel.specs.declared.stage.Opening.TheVariants as openings;
-ghost use Rattle.kernel.specs.declared.stage.Stage.TheVariants as stages;
 ghost use Rattle.object_lists.specs.CardRead.{ReadCard, card_of};
 ghost use Rattle.terminal_state.specs.Marks.{Mark};
 ghost use Rattle.terminal_state.specs.Table.{IsDeal, deal_of};
@@ -27,7 +24,7 @@ use crate::reading::on_read;
 use crate::stage::{AtTrading, Opening, Stage, Trading};
 use crate::transaction::Transaction;
 use crate::verification::begin_trading;
-use emv_dict::{AidRow, Cause, Ending, Logged, Step};
+use emv_dict::{AidRow, Ending, Logged, Step};
 use read_records::CourseStep;
 use std::mem;
 use terminal_state::{HeldCard, Table};
@@ -176,24 +173,36 @@ fn has_read<'s>(
     ensures fits { TradingFits table.new held.new (record { row = row.entry; trading = result }) }
 {
     held.keep(&table.objects);
+    let transaction = transaction_at(table, row, held, log);
+    begin_trading(table, &transaction)
+}
+
+/// The transaction at this table, in the application of this row, with the card that is held.
+fn transaction_at<'d, 's>(
+    table: &Table<'s>,
+    row: &'s AidRow,
+    held: &'d HeldCard,
+    log: &'d [Logged],
+) -> Transaction<'d, 's>
+    requires deal { IsDeal (deal_of table.now) }
+    requires row { IsAidRow row.now }
+    requires held { IsSome held.now }
+    requires log { All (λ logged. logged.amount ≤ most_amount) log.now }
+    ensures deal { (trade_of result).deal ≡ deal_of table.now }
+    ensures row { result.row.now ≡ row.entry.now }
+    ensures card { Some result.card.now ≡ held.entry.now }
+    ensures log { result.log.now ≡ log.entry.now }
+{
     let Some(card) = held.get() else {
         unreachable!();
     };
-    let transaction = Transaction {
+    Transaction {
         settings: table.settings,
         purchase: table.purchase,
         row,
         card,
         log,
-    };
-    begin_trading(table, &transaction)
-}
-
-/// Reading ended for this cause.
-fn end_reading(stage: &mut Stage<'_>, cause: Cause)
-    ensures { stage.new ≡ stages.Opening (openings.Over (Terminated steps.Read cause)) }
-{
-    *stage = Stage::Opening(Opening::Over(Ending::Terminated(Step::Read, cause)));
+    }
 }
 
 /// The card's answer at any stage.
@@ -223,7 +232,10 @@ fn stage_said<'s>(
                 let trading = has_read(table, held, row, log);
                 *stage = Stage::Trading(AtTrading { row, trading });
             }
-            CourseStep::Ended(cause) => end_reading(stage, cause),
+            CourseStep::Ended(cause) => {
+                let ending = Ending::Terminated(Step::Read, cause);
+                *stage = Stage::Opening(Opening::Over(ending));
+            }
         },
         Stage::Opening(opening) => opening_said(table, opening, reply),
         Stage::Trading(at) => trading_said(table, held, at, reply, log),
@@ -249,16 +261,7 @@ fn trading_said<'s>(
     ensures nearer { trading_rank table.new.reply.scripts at.new.trading < trading_rank table.old.reply.scripts at.old.trading }
     ensures fits { TradingFits table.new held.now at.new }
 {
-    let Some(card) = held.get() else {
-        unreachable!();
-    };
-    let transaction = Transaction {
-        settings: table.settings,
-        purchase: table.purchase,
-        row: at.row,
-        card,
-        log,
-    };
+    let transaction = transaction_at(table, at.row, held, log);
     let trading = mem::replace(&mut at.trading, Trading::Over(TAKEN_OUT));
     at.trading = on_card(table, &transaction, trading, reply);
 }
@@ -325,17 +328,8 @@ fn trading_heard<'s>(
     ensures nearer { trading_rank table.new.reply.scripts result.trading < trading_rank table.old.reply.scripts at.entry.trading }
     ensures fits { TradingFits table.new held.now result }
 {
-    let Some(card) = held.get() else {
-        unreachable!();
-    };
     let AtTrading { row, trading } = at;
-    let transaction = Transaction {
-        settings: table.settings,
-        purchase: table.purchase,
-        row,
-        card,
-        log: &[],
-    };
+    let transaction = transaction_at(table, row, held, &[]);
     let trading = on_host(table, &transaction, trading, reply);
     AtTrading { row, trading }
 }

@@ -21,7 +21,7 @@ use crate::issuer_scripts::{gone_behind, on_script_before, on_script_behind};
 use crate::online::{on_authenticate, on_reply, on_silence};
 use crate::risk::on_judge;
 use crate::second::on_second;
-use crate::selection::{on_directory, on_select, step_of};
+use crate::selection::{on_directory, on_select};
 use crate::stage::{Opening, Trading};
 use crate::transaction::Transaction;
 use crate::verification::on_verify;
@@ -59,8 +59,8 @@ pub(super) fn cut_off<'s>(state: Opening<'s>) -> Opening<'s>
     ensures ended { opening_next result ≡ next.Ended }
 {
     match state {
-        Opening::Directory(state) => Opening::Over(Ending::CutOff(step_of(state.begun))),
-        Opening::Select(state) => Opening::Over(Ending::CutOff(step_of(state.begun))),
+        Opening::Directory(state) => Opening::Over(Ending::CutOff(state.cut)),
+        Opening::Select(state) => Opening::Over(Ending::CutOff(state.cut)),
         Opening::Initiate(_) => Opening::Over(Ending::CutOff(Step::Initiate)),
         Opening::Read(_) => Opening::Over(Ending::CutOff(Step::Read)),
         Opening::Over(ending) => Opening::Over(ending),

@@ -1,7 +1,5 @@
 use Rattle.std.proofs.Common.{◌≡◌, ap, ◌∙◌, subst}
 use Rattle.ber_tlv.specs.Written.{written}
-use Rattle.auth_message.specs.declared.groups.Named.{Named}
-use Rattle.auth_message.specs.declared.groups.Paid.{Paid}
 use Rattle.auth_message.specs.Data.{PresentData}
 use Rattle.auth_message.specs.Spelling.{present_bytes, present_fields, spelled, named_fields, paid_fields}
 use Rattle.auth_message.specs.declared.message.Incoming.TheVariants.{Present}
@@ -13,16 +11,14 @@ pub returns-clause-exact : goal.returns-clause-exact
 unfolding present_bytes
 returns-clause-exact c =
     let i = c.fields.inside in
-    let named : Named = record { t9f1c = i.t9f1c; pan = i.pan; t5f34 = i.t5f34 } in
-    let paid : Paid = record { t9f02 = i.t9f02; t9f03 = i.t9f03; t9f1a = i.t9f1a; t95 = i.t95; t5f2a = i.t5f2a; t9a = i.t9a; t9c = i.t9c; t9f37 = i.t9f37; t82 = i.t82; t9f36 = i.t9f36; t9f26 = i.t9f26 } in
     let content : c.put-2.new.out.items ≡ spelled (present_fields c.args.fields.now) =
-    rw (c.put-2.ensures.field, c.put.ensures.field, c.put_paid.ensures.fields, c.put_named.ensures.fields, c.new-value.ensures, c.copy.ensures)
-    (present_joined (named_fields named) (paid_fields paid) i.t9f10.now i.t8a ∙ ap (λ d. spelled (present_fields d)) c.fields.view_is) in
+    rw (c.put-2.ensures.field, c.put.ensures.field, c.put_paid.ensures.fields, c.put_named.ensures.fields, c.new-value.ensures)
+    (present_joined (named_fields i.named) (paid_fields i.paid) i.t9f10.now i.t8a ∙ ap (λ d. spelled (present_fields d)) c.fields.view_is) in
     c.finish.ensures ∙ ap (written 0xE3) (c.deref.ensures.0 ∙ content)
 
 pub returns-clause-read_again : goal.returns-clause-read_again
 returns-clause-read_again c =
-    let pan : c.copy.result ≡ c.args.fields.now.pan = c.copy.ensures ∙ ap (λ (d : PresentData). d.pan) c.fields.view_is in
+    let pan = ap (λ (d : PresentData). d.named.pan) c.fields.view_is in
     present_again c.args.fields.now c.requires (rw pan at c.put_named.ensures.read_again) (subst PresentSizes c.fields.view_is c.fields.invariant)
 
 pub returns-clause-message : goal.returns-clause-message

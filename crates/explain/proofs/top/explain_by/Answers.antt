@@ -14,4 +14,4 @@ returns-in-Ok-clause-err g c =
     c.in-Ok.ensures.way c.explain.ensures.err
 
 pub returns-in-Err-clause-err : goal.returns-in-Err-clause-err
-returns-in-Err-clause-err g c = broken_start (way_of c.args.options.filter) (g.S.Source.left c.args.source.now) (g.K.Sink.held c.args.sink.now)
+returns-in-Err-clause-err g c = broken_start (way_of c.args.options) (g.S.Source.left c.args.source.now) (g.K.Sink.held c.args.sink.now)

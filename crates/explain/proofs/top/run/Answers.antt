@@ -4,13 +4,13 @@ use Rattle.explain.proofs.Reading.{broken_start}
 use Rattle.explain.proofs.top.run.Goals as goal
 
 pub returns-in-Ok-explain_by-clause-done : goal.returns-in-Ok-explain_by-clause-done
-returns-in-Ok-explain_by-clause-done g c = λ e. (way_of c.in-Ok.options.filter, c.in-Ok.ensures, c.in-Ok-explain_by.ensures.ok)
+returns-in-Ok-explain_by-clause-done g c = λ e. (way_of c.in-Ok.options, c.in-Ok.ensures, c.in-Ok-explain_by.ensures.ok)
 
 pub returns-in-Err-Source-clause-read_front : goal.returns-in-Err-Source-clause-read_front
-returns-in-Err-Source-clause-read_front g c = λ e. (way_of c.in-Ok.options.filter, c.in-Err-Source.ensures.err)
+returns-in-Err-Source-clause-read_front g c = λ e. (way_of c.in-Ok.options, c.in-Err-Source.ensures.err)
 
 pub returns-in-Err-Sink-clause-write_front : goal.returns-in-Err-Sink-clause-write_front
-returns-in-Err-Sink-clause-write_front g c = λ e. inr (way_of c.in-Ok.options.filter, c.in-Err-Sink.ensures.err)
+returns-in-Err-Sink-clause-write_front g c = λ e. inr (way_of c.in-Ok.options, c.in-Err-Sink.ensures.err)
 
 pub returns-in-Err-Words-clause-write_front : goal.returns-in-Err-Words-clause-write_front
 returns-in-Err-Words-clause-write_front g c = λ e. inl (c.answer_usage.ensures.front e)

@@ -3,7 +3,7 @@ use Rattle.emv_dict.specs.Digits.{AllDecimal}
 use Rattle.auth_message.specs.Data.{PresentData}
 use Rattle.auth_message.specs.Spelling.{optional, spelled}
 use Rattle.auth_message.proofs.Again.{PresentSizes}
-use Rattle.iso_message.specs.Items.{chip_items, present_chip, present_items}
+use Rattle.iso_message.specs.Items.{chip_items, chip_of, present_items}
 use Rattle.iso_message.specs.Layout.{bitmap, present_numbers}
 use Rattle.iso_message.specs.Spelling.{present_bytes, account_field, processing_field, amount_field, audit_field, reference_field, terminal_field, currency_field}
 use Rattle.iso_message.specs.Text.{counted}
@@ -14,27 +14,10 @@ use Rattle.iso_message.proofs.write.write_present.Goals as goal
 pub returns-clause-exact : goal.returns-clause-exact
 returns-clause-exact c =
     let i = c.fields.inside in
-    let f : PresentData = record {
-      t9f1c = i.t9f1c;
-      pan = i.pan;
-      t5f34 = i.t5f34;
-      t9f02 = i.t9f02;
-      t9f03 = i.t9f03;
-      t9f1a = i.t9f1a;
-      t95 = i.t95;
-      t5f2a = i.t5f2a;
-      t9a = i.t9a;
-      t9c = i.t9c;
-      t9f37 = i.t9f37;
-      t82 = i.t82;
-      t9f36 = i.t9f36;
-      t9f26 = i.t9f26;
-      t9f10 = i.t9f10.now;
-      t8a = i.t8a;
-    } in
+    let f : PresentData = record { named = i.named; paid = i.paid; t9f10 = i.t9f10.now; t8a = i.t8a } in
     let items : c.put.new.out.items ≡ spelled (present_items f) =
-    rw (c.put.ensures.field, c.put_chip.ensures.fields, c.put_if_there.ensures.fields, c.new-items.ensures)
-    (present_items_joined (optional 0x5F34 f.t5f34) (chip_items (present_chip f)) f.t9f10) in
+    rw (c.put.ensures.field, c.put_chip.ensures.fields, c.chip_data.ensures, c.put_if_there.ensures.fields, c.new-items.ensures)
+    (present_items_joined (optional 0x5F34 f.named.t5f34) (chip_items (chip_of f.paid)) f.t9f10) in
     let whole : c.put_counted.new.out.items ≡ codes "0220" ++ present_rest f =
     rw (
       c.put_counted.ensures,
@@ -49,17 +32,17 @@ returns-clause-exact c =
       c.present_bits.ensures,
       c.append.ensures.items,
       c.clear.ensures,
-    ) (nine_joined (codes "0220") (bitmap present_numbers) (account_field f.pan).1 (processing_field f.t9c).1 (amount_field f.t9f02).1 (audit_field f.t9f36).1 (reference_field f.t9f36).1 f.t8a (terminal_field f.t9f1c).1 (currency_field f.t5f2a).1 (counted 4 (spelled (present_items f)))) in
+    ) (nine_joined (codes "0220") (bitmap present_numbers) (account_field f.named.pan).1 (processing_field f.paid.t9c).1 (amount_field f.paid.t9f02).1 (audit_field f.paid.t9f36).1 (reference_field f.paid.t9f36).1 f.t8a (terminal_field f.named.t9f1c).1 (currency_field f.paid.t5f2a).1 (counted 4 (spelled (present_items f)))) in
     whole ∙ sym (present_split f) ∙ ap present_bytes c.fields.view_is
 
 pub returns-clause-read_again : goal.returns-clause-read_again
 returns-clause-read_again c =
     let i = c.fields.inside in
     let items : c.put.new.out.items ≡ spelled (present_items c.args.fields.now) =
-    rw (c.put.ensures.field, c.put_chip.ensures.fields, c.put_if_there.ensures.fields, c.new-items.ensures)
-    (present_items_joined (optional 0x5F34 i.t5f34) (chip_items (record { t9f03 = i.t9f03; t9f1a = i.t9f1a; t95 = i.t95; t9a = i.t9a; t9f37 = i.t9f37; t82 = i.t82; t9f36 = i.t9f36; t9f26 = i.t9f26 })) i.t9f10.now
+    rw (c.put.ensures.field, c.put_chip.ensures.fields, c.chip_data.ensures, c.put_if_there.ensures.fields, c.new-items.ensures)
+    (present_items_joined (optional 0x5F34 i.named.t5f34) (chip_items (chip_of i.paid)) i.t9f10.now
     ∙ ap (λ (d : PresentData). spelled (present_items d)) c.fields.view_is) in
-    let decimal : AllDecimal c.args.fields.now.pan = subst (λ (d : PresentData). AllDecimal d.pan) c.fields.view_is c.put_account.ensures.decimal in
+    let decimal : AllDecimal c.args.fields.now.named.pan = subst (λ (d : PresentData). AllDecimal d.named.pan) c.fields.view_is c.put_account.ensures.decimal in
     let small : length (spelled (present_items c.args.fields.now)) < 10000 =
     omega (arith, ap length items, ap length c.new-items.ensures, c.put_chip.ensures.short, c.put.ensures.short, c.put_if_there.ensures.short) in
     present_again c.args.fields.now c.requires.accepted c.requires.codes decimal (subst PresentSizes c.fields.view_is c.fields.invariant) small

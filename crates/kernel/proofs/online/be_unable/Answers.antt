@@ -9,5 +9,5 @@ pub returns-clause-stands : goal.returns-clause-stands
 returns-clause-stands c = λ marks log rest begins.
     let trade = trade_of c.args.transaction.now in
     let asked : c.kind_unable-asked.result ≡ kind_unable trade marks = c.kind_unable-asked.ensures ∙ rw begins.tied refl in
-    c.begin_second.ensures.stands (WasUnable c.args.sent c.kind_unable-asked.result ∷ marks) log rest
-    (unabled c.args.table.now _ trade marks log rest c.args.sent c.kind_unable-asked.result begins asked (c.was_unable.ensures.marks marks begins.tied))
+    c.begin_second.ensures.stands (WasUnable c.args.request c.kind_unable-asked.result ∷ marks) log rest
+    (unabled c.args.table.now _ trade marks log rest c.args.request c.kind_unable-asked.result begins asked (c.was_unable.ensures.marks marks begins.tied))

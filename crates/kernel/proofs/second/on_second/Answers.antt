@@ -1,4 +1,4 @@
-use Rattle.std.proofs.Common.{refl, ◌∷◌, true}
+use Rattle.std.proofs.Common.{refl, ◌∷◌}
 use Rattle.emv_dict.specs.declared.ending.Step.TheVariants as step
 use Rattle.kernel.proofs.Deciding.{ac_given, ac_refused}
 use Rattle.kernel.proofs.Following.{trading_stopped, begins_next}
@@ -6,25 +6,26 @@ use Rattle.kernel.proofs.Taking.{begins_taken}
 use Rattle.kernel.proofs.second.on_second.Goals as goal
 use Rattle.kernel.specs.Dialogue.{scripts_behind, decision}
 use Rattle.kernel.specs.Stages.{generating, behind_if}
+use Rattle.online_step.specs.declared.ac.GenerateAc.TheVariants as generate
 use Rattle.terminal_state.specs.Marks.{HasSecond}
 
 pub returns-in-Ok-clause-stands : goal.returns-in-Ok-clause-stands
 returns-in-Ok-clause-stands c = λ trade before now rest stands.
-    let course = generating c.args.table.now.command.items c.args.state.asked true in
+    let course = generating c.args.table.now.command.items c.args.state.asked generate.Second in
     c.finish.ensures.stands trade stands.marks now _
     (begins_next c.args.table.now c.args.table.now trade.card step.Second stands.marks stands.marks now (λ later. course (c.args.reply.now ∷ later))
-    (λ ac. scripts_behind (decision c.args.state.online ac.kind) (behind_if c.args.state.online c.args.table.now.reply.scripts) (HasSecond ac ∷ stands.marks)) c.in-Ok.ac _ stands.tied refl
+    (λ ac. scripts_behind (decision c.args.state.outcome ac.kind) (behind_if c.args.state.outcome c.args.table.now.reply.scripts) (HasSecond ac ∷ stands.marks)) c.in-Ok.ac _ stands.tied refl
     (begins_taken c.args.table.now trade.card step.Second stands.marks before now course
-    (λ ac. scripts_behind (decision c.args.state.online ac.kind) (behind_if c.args.state.online c.args.table.now.reply.scripts) (HasSecond ac ∷ stands.marks))
+    (λ ac. scripts_behind (decision c.args.state.outcome ac.kind) (behind_if c.args.state.outcome c.args.table.now.reply.scripts) (HasSecond ac ∷ stands.marks))
     c.args.table.now.command.items rest stands.passed stands.tied stands.read refl c.args.reply.now)
-    (λ later. ac_given c.args.reply.now c.args.state.asked true c.in-Ok.ac later c.in-Ok.ensures.exact))
+    (λ later. ac_given c.args.reply.now c.args.state.asked generate.Second c.in-Ok.ac later c.in-Ok.ensures.exact))
 
 pub returns-in-Err-clause-stands : goal.returns-in-Err-clause-stands
 returns-in-Err-clause-stands c = λ trade before now rest stands.
-    let course = generating c.args.table.now.command.items c.args.state.asked true in
+    let course = generating c.args.table.now.command.items c.args.state.asked generate.Second in
     trading_stopped c.args.table.now c.args.table.now trade step.Second stands.marks now (λ later. course (c.args.reply.now ∷ later))
-    (λ ac. scripts_behind (decision c.args.state.online ac.kind) (behind_if c.args.state.online c.args.table.now.reply.scripts) (HasSecond ac ∷ stands.marks)) c.in-Err.cause _ refl
+    (λ ac. scripts_behind (decision c.args.state.outcome ac.kind) (behind_if c.args.state.outcome c.args.table.now.reply.scripts) (HasSecond ac ∷ stands.marks)) c.in-Err.cause _ refl
     (begins_taken c.args.table.now trade.card step.Second stands.marks before now course
-    (λ ac. scripts_behind (decision c.args.state.online ac.kind) (behind_if c.args.state.online c.args.table.now.reply.scripts) (HasSecond ac ∷ stands.marks))
+    (λ ac. scripts_behind (decision c.args.state.outcome ac.kind) (behind_if c.args.state.outcome c.args.table.now.reply.scripts) (HasSecond ac ∷ stands.marks))
     c.args.table.now.command.items rest stands.passed stands.tied stands.read refl c.args.reply.now)
-    (λ later. ac_refused c.args.reply.now c.args.state.asked true c.in-Err.cause later c.in-Err.ensures.exact)
+    (λ later. ac_refused c.args.reply.now c.args.state.asked generate.Second c.in-Err.cause later c.in-Err.ensures.exact)

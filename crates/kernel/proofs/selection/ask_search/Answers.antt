@@ -1,4 +1,4 @@
-use Rattle.std.proofs.Common.{refl, [], if◌then◌else◌}
+use Rattle.std.proofs.Common.{refl, []}
 use Rattle.app_select.specs.Leading.{rest_with}
 use Rattle.emv_dict.specs.declared.ending.Step.TheVariants as step
 use Rattle.kernel.proofs.Opened.{asks_on}
@@ -9,7 +9,7 @@ use Rattle.terminal_state.specs.Table.{deal_of}
 pub returns-clause-stands : goal.returns-clause-stands
 returns-clause-stands c = λ log course rest passed equal.
     let candidates = c.args.table.now.candidates in record {
-      passed = asks_on (if c.args.begun then step.Select else step.Power) step.Select course (selected_then (deal_of c.args.table.now)) log rest passed (rest_with c.args.search candidates) equal;
+      passed = asks_on step.Select step.Select course (selected_then (deal_of c.args.table.now)) log rest passed (rest_with c.args.search candidates) equal;
       tied = c.requires.moment;
       shows = c.ask.ensures.wants candidates (rest_with c.args.search candidates) [] (λ later. refl);
     }

@@ -8,7 +8,7 @@ use Rattle.card_state.specs.declared.state.CardState.{CardState}
 use Rattle.report_text.specs.declared.line.Line.{Line}
 use Rattle.report_text.specs.declared.line.Line.TheVariants.{AuditPower}
 use Rattle.scenario.specs.Seen.{image_of, seen_card}
-use Rattle.txn_replay.specs.Lines.{shown_all}
+use Rattle.card_counters.specs.Counters.{shown_all}
 use Rattle.txn_replay.proofs.audit.power.Goals as goal
 
 pub returns-clause-powered : goal.returns-clause-powered

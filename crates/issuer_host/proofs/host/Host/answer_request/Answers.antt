@@ -24,7 +24,7 @@ returns-in-Some-clause-reply c =
     let there : option_map (λ k. kept_message c.request_key-key.result k.now) c.request.result ≡ kept_at (request_key f) s.books.requests =
     c.request.ensures ∙ ap (λ k. kept_at k i.records.books.requests) c.request_key-key.ensures ∙ ap (λ (h : HostData). kept_at (request_key f) h.books.requests) c.self.view_is in
     let kept_is = got_some c.request_key-key.result c.request.result c.in-Some.kept (kept_at (request_key f) s.books.requests) there c.in-Some.is in
-    c.again.ensures ∙ ap (λ r. again_or r c.args.message.now (said_bytes (request_reply s.keys (account_of f.pan s.accounts) s.books f))) (sym kept_is)
+    c.again.ensures ∙ ap (λ r. again_or r c.args.message.now (said_bytes (request_reply s.keys (account_of f.named.pan s.accounts) s.books f))) (sym kept_is)
 
 pub returns-in-Some-clause-books : goal.returns-in-Some-clause-books
 returns-in-Some-clause-books c =
@@ -43,7 +43,7 @@ pub keep_request-requires-clause-small : goal.keep_request-requires-clause-small
 keep_request-requires-clause-small c = rw c.in_ok-kept.ensures.amount c.amount.ensures.small
 
 pub amount-requires : goal.amount-requires
-amount-requires c = subst (λ (d : RequestData). AreDigits d.t9f02) (sym c.fields.view_is) c.requires
+amount-requires c = subst (λ (d : RequestData). AreDigits d.paid.t9f02) (sym c.fields.view_is) c.requires
 
 pub returns-then-answered-clause-reply : goal.returns-then-answered-clause-reply
 returns-then-answered-clause-reply c =
@@ -53,8 +53,8 @@ returns-then-answered-clause-reply c =
     let there : option_map (λ k. kept_message c.request_key-key.result k.now) c.request.result ≡ kept_at (request_key f) s.books.requests =
     c.request.ensures ∙ ap (λ k. kept_at k i.records.books.requests) c.request_key-key.ensures ∙ ap (λ (h : HostData). kept_at (request_key f) h.books.requests) c.self.view_is in
     let none_is = got_none c.request_key-key.result c.request.result (kept_at (request_key f) s.books.requests) there c.in_default.is in
-    c.reply_to_request-answered.ensures.bytes ∙ ap (λ (h : HostData). said_bytes (request_reply h.keys (account_of f.pan h.accounts) h.books f)) c.self.view_is
-    ∙ ap (λ r. again_or r c.args.message.now (said_bytes (request_reply s.keys (account_of f.pan s.accounts) s.books f))) (sym none_is)
+    c.reply_to_request-answered.ensures.bytes ∙ ap (λ (h : HostData). said_bytes (request_reply h.keys (account_of f.named.pan h.accounts) h.books f)) c.self.view_is
+    ∙ ap (λ r. again_or r c.args.message.now (said_bytes (request_reply s.keys (account_of f.named.pan s.accounts) s.books f))) (sym none_is)
 
 pub returns-then-answered-clause-books : goal.returns-then-answered-clause-books
 returns-then-answered-clause-books c =
@@ -64,9 +64,9 @@ returns-then-answered-clause-books c =
     let there : option_map (λ k. kept_message c.request_key-key.result k.now) c.request.result ≡ kept_at (request_key f) s.books.requests =
     c.request.ensures ∙ ap (λ k. kept_at k i.records.books.requests) c.request_key-key.ensures ∙ ap (λ (h : HostData). kept_at (request_key f) h.books.requests) c.self.view_is in
     let none_is = got_none c.request_key-key.result c.request.result (kept_at (request_key f) s.books.requests) there c.in_default.is in
-    let made : kept_message c.request_key-key.result c.in_ok-kept.kept ≡ kept_with (request_key f) (number_in f.t9f02) c.args.message.now (request_reply i.keys (account_of f.pan i.accounts.now) i.records.books f) =
-    kept_made c.request_key-key.result (request_key f) c.in_ok-kept.kept (number_in f.t9f02) c.args.message.now (request_reply i.keys (account_of f.pan i.accounts.now) i.records.books f) c.request_key-key.ensures
-    (c.in_ok-kept.ensures.amount ∙ c.amount.ensures.value ∙ ap (λ (d : RequestData). number_in d.t9f02) c.fields.view_is) c.in_ok-kept.ensures.message (c.in_ok-kept.ensures.code ∙ c.reply_to_request-answered.ensures.code) (c.in_ok-kept.ensures.online ∙ c.reply_to_request-answered.ensures.online)
+    let made : kept_message c.request_key-key.result c.in_ok-kept.kept ≡ kept_with (request_key f) (number_in f.paid.t9f02) c.args.message.now (request_reply i.keys (account_of f.named.pan i.accounts.now) i.records.books f) =
+    kept_made c.request_key-key.result (request_key f) c.in_ok-kept.kept (number_in f.paid.t9f02) c.args.message.now (request_reply i.keys (account_of f.named.pan i.accounts.now) i.records.books f) c.request_key-key.ensures
+    (c.in_ok-kept.ensures.amount ∙ c.amount.ensures.value ∙ ap (λ (d : RequestData). number_in d.paid.t9f02) c.fields.view_is) c.in_ok-kept.ensures.message (c.in_ok-kept.ensures.code ∙ c.reply_to_request-answered.ensures.code) (c.in_ok-kept.ensures.online ∙ c.reply_to_request-answered.ensures.online)
     (c.in_ok-kept.ensures.reply ∙ c.reply_to_request-answered.ensures.bytes) in
     ap (λ (x : RecordsData). x.books) c.in_ok-keep_request.ensures.ok ∙ ap (λ n. let b : Books = record { requests = i.records.books.requests ++ n ∷ []; presentments = i.records.books.presentments; reversals = i.records.books.reversals } in b) made
     ∙ ap (λ (h : HostData). let b : Books = record { requests = h.books.requests ++ (new_request h.keys h.accounts h.books c.args.message.now f) ∷ []; presentments = h.books.presentments; reversals = h.books.reversals } in b) c.self.view_is
@@ -80,8 +80,8 @@ returns-else-answered-clause-reply c =
     let there : option_map (λ k. kept_message c.request_key-key.result k.now) c.request.result ≡ kept_at (request_key f) s.books.requests =
     c.request.ensures ∙ ap (λ k. kept_at k i.records.books.requests) c.request_key-key.ensures ∙ ap (λ (h : HostData). kept_at (request_key f) h.books.requests) c.self.view_is in
     let none_is = got_none c.request_key-key.result c.request.result (kept_at (request_key f) s.books.requests) there c.in_default.is in
-    c.reply_to_request-answered.ensures.bytes ∙ ap (λ (h : HostData). said_bytes (request_reply h.keys (account_of f.pan h.accounts) h.books f)) c.self.view_is
-    ∙ ap (λ r. again_or r c.args.message.now (said_bytes (request_reply s.keys (account_of f.pan s.accounts) s.books f))) (sym none_is)
+    c.reply_to_request-answered.ensures.bytes ∙ ap (λ (h : HostData). said_bytes (request_reply h.keys (account_of f.named.pan h.accounts) h.books f)) c.self.view_is
+    ∙ ap (λ r. again_or r c.args.message.now (said_bytes (request_reply s.keys (account_of f.named.pan s.accounts) s.books f))) (sym none_is)
 
 pub returns-else-answered-clause-books : goal.returns-else-answered-clause-books
 returns-else-answered-clause-books c =
@@ -91,9 +91,9 @@ returns-else-answered-clause-books c =
     let there : option_map (λ k. kept_message c.request_key-key.result k.now) c.request.result ≡ kept_at (request_key f) s.books.requests =
     c.request.ensures ∙ ap (λ k. kept_at k i.records.books.requests) c.request_key-key.ensures ∙ ap (λ (h : HostData). kept_at (request_key f) h.books.requests) c.self.view_is in
     let none_is = got_none c.request_key-key.result c.request.result (kept_at (request_key f) s.books.requests) there c.in_default.is in
-    let made : kept_message c.request_key-key.result c.in_ok-kept.kept ≡ kept_with (request_key f) (number_in f.t9f02) c.args.message.now (request_reply i.keys (account_of f.pan i.accounts.now) i.records.books f) =
-    kept_made c.request_key-key.result (request_key f) c.in_ok-kept.kept (number_in f.t9f02) c.args.message.now (request_reply i.keys (account_of f.pan i.accounts.now) i.records.books f) c.request_key-key.ensures
-    (c.in_ok-kept.ensures.amount ∙ c.amount.ensures.value ∙ ap (λ (d : RequestData). number_in d.t9f02) c.fields.view_is) c.in_ok-kept.ensures.message (c.in_ok-kept.ensures.code ∙ c.reply_to_request-answered.ensures.code) (c.in_ok-kept.ensures.online ∙ c.reply_to_request-answered.ensures.online)
+    let made : kept_message c.request_key-key.result c.in_ok-kept.kept ≡ kept_with (request_key f) (number_in f.paid.t9f02) c.args.message.now (request_reply i.keys (account_of f.named.pan i.accounts.now) i.records.books f) =
+    kept_made c.request_key-key.result (request_key f) c.in_ok-kept.kept (number_in f.paid.t9f02) c.args.message.now (request_reply i.keys (account_of f.named.pan i.accounts.now) i.records.books f) c.request_key-key.ensures
+    (c.in_ok-kept.ensures.amount ∙ c.amount.ensures.value ∙ ap (λ (d : RequestData). number_in d.paid.t9f02) c.fields.view_is) c.in_ok-kept.ensures.message (c.in_ok-kept.ensures.code ∙ c.reply_to_request-answered.ensures.code) (c.in_ok-kept.ensures.online ∙ c.reply_to_request-answered.ensures.online)
     (c.in_ok-kept.ensures.reply ∙ c.reply_to_request-answered.ensures.bytes) in
     ap (λ (x : RecordsData). x.books) c.in_ok-keep_request.ensures.ok ∙ ap (λ n. let b : Books = record { requests = i.records.books.requests ++ n ∷ []; presentments = i.records.books.presentments; reversals = i.records.books.reversals } in b) made
     ∙ ap (λ (h : HostData). let b : Books = record { requests = h.books.requests ++ (new_request h.keys h.accounts h.books c.args.message.now f) ∷ []; presentments = h.books.presentments; reversals = h.books.reversals } in b) c.self.view_is
@@ -101,11 +101,11 @@ returns-else-answered-clause-books c =
 
 pub keep_request-requires-clause-held : goal.keep_request-requires-clause-held
 keep_request-requires-clause-held c = λ approved.
-    let amount : c.in_ok-kept.kept.amount ≡ number_in c.args.fields.now.t9f02 = c.in_ok-kept.ensures.amount ∙ c.amount.ensures.value ∙ ap (λ (d : RequestData). number_in d.t9f02) c.fields.view_is in
-    rw amount (c.reply_to_request-answered.ensures.held (ap is_approved (sym c.in_ok-kept.ensures.code) ∙ approved))
+    let amount : c.in_ok-kept.kept.amount ≡ number_in c.args.fields.now.paid.t9f02 = c.in_ok-kept.ensures.amount ∙ c.amount.ensures.value ∙ ap (λ (d : RequestData). number_in d.paid.t9f02) c.fields.view_is in
+    rw amount (rw c.request_key-key.ensures (c.reply_to_request-answered.ensures.held (ap is_approved (sym c.in_ok-kept.ensures.code) ∙ approved)))
 
-pub reply_to_request-answered-requires-clause-holds : goal.reply_to_request-answered-requires-clause-holds
-reply_to_request-answered-requires-clause-holds c = subst (Holds c.self.inside.accounts.now c.self.inside.records) (sym c.deref.ensures.value) c.self.invariant
+pub reply_to_request-answered-requires : goal.reply_to_request-answered-requires
+reply_to_request-answered-requires c = record { holds = subst (Holds c.self.inside.accounts.now c.self.inside.records) (sym c.deref.ensures.value) c.self.invariant }
 
 pub invariant_of-self : goal.invariant_of-self
 invariant_of-self c = subst (λ r. Holds c.self.inside.accounts.now r c.self.inside.served.items) (sym c.in_err-keep_request.ensures.err) c.self.invariant
@@ -122,7 +122,7 @@ invariant_of-self-then-answered c =
     let i = c.self.inside in
     let f = c.args.fields.now in
     let new : Kept = kept_message c.request_key-key.result c.in_ok-kept.kept in
-    let known = online_known i.keys (account_of f.pan i.accounts.now) i.records.books f (sym c.reply_to_request-answered.ensures.online ∙ c.if-answered.true) in
+    let known = online_known i.keys (account_of f.named.pan i.accounts.now) i.records.books f (sym c.reply_to_request-answered.ensures.online ∙ c.if-answered.true) in
     let account : account_of new.key.pan i.accounts.now ≡ Some known.0 = ap (λ (k : Key). account_of k.pan i.accounts.now) c.request_key-key.ensures ∙ known.1 in
     let flags : c.set_flag.new.flags.items ≡ with_flag i.served.items (place_in new.key.pan i.accounts.now) = c.set_flag.ensures ∙ ap (with_flag i.served.items) c.place_of-place.ensures in
     subst (Holds i.accounts.now c.keep_request.new.self) (sym flags)

@@ -17,7 +17,7 @@ returns-in-Done-clause-stands c = λ before rest goes.
 pub returns-in-Ended-clause-stands : goal.returns-in-Ended-clause-stands
 returns-in-Ended-clause-stands c = λ before rest goes.
     let is : c.args.stage.now ≡ stages.Opening (openings.Read c.in-Opening-Read.at) = (let one = c.in-Opening-Read.is in let two = c.in-Opening-Read.field-0-is in cc) in
-    rw c.end_reading.ensures (c.in-Ended.ensures.stands before c.args.log.now rest (rw is at goes))
+    c.in-Ended.ensures.stands before c.args.log.now rest (rw is at goes)
 
 pub returns-in-Opening-clause-stands : goal.returns-in-Opening-clause-stands
 returns-in-Opening-clause-stands c = λ before rest goes. c.opening_said.ensures.stands before c.args.log.now rest (rw c.in-Opening.is at goes)

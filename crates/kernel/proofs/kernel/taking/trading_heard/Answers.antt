@@ -1,17 +1,19 @@
-use Rattle.std.proofs.Common.{◌≡◌, Some, option_map, sym, ap, ◌∙◌, subst}
+use Rattle.std.proofs.Common.{◌≡◌, sym, ◌∙◌}
 use Rattle.std.proofs.lemmas.Option.{same_Some}
-use Rattle.object_lists.specs.CardRead.{ReadCard}
-use Rattle.kernel.specs.Stages.{TradingStands}
-use Rattle.terminal_state.specs.Table.{deal_of}
+use Rattle.kernel.proofs.Traded.{trade_with, trade_is, stands_in}
 use Rattle.kernel.proofs.kernel.taking.trading_heard.Goals as goal
+use Rattle.kernel.specs.Trades.{trade_of}
+use Rattle.terminal_state.specs.Table.{deal_of}
 
 pub returns-clause-stands : goal.returns-clause-stands
 returns-clause-stands c = λ log rest goes.
-    let held : c.args.held.now ≡ Some c.in-Some.card.now = sym c.get.ensures ∙ ap (option_map (λ card. card.now)) c.in-Some.is in
-    let same : goes.card ≡ c.in-Some.card.now = same_Some goes.card c.in-Some.card.now (sym goes.card_is ∙ held) in
-    let stands = subst (λ (card : ReadCard). TradingStands c.args.table.now (record { deal = deal_of c.args.table.now; row = c.args.at.row.now; card = card }) c.args.at.trading log rest) same goes.stands in
+    let t = c.transaction_at-transaction.result in
+    let facts = c.transaction_at-transaction.ensures in
+    let same = same_Some t.card.now goes.card (facts.card ∙ goes.card_is) in
+    let trade : trade_of t ≡ trade_with (deal_of c.args.table.now) c.args.at.row.now goes.card = trade_is t _ _ _ facts.deal facts.row same in
+    let next = c.on_host-trading.ensures.stands log rest (stands_in (sym trade) goes.stands) in
     record {
-      card = c.in-Some.card.now;
-      card_is = held;
-      stands = rw c.on_host-trading.ensures.same (c.on_host-trading.ensures.stands log rest stands);
+      card = goes.card;
+      card_is = goes.card_is;
+      stands = rw c.on_host-trading.ensures.same (stands_in trade next);
     }

@@ -1,26 +1,20 @@
-use Rattle.std.proofs.Common.{sym, ap, ◌∙◌, []}
 use Rattle.app_select.specs.Leading.{rest_with}
-use Rattle.emv_dict.specs.declared.ending.Ending.TheVariants.{CutOff}
-use Rattle.emv_dict.specs.declared.ending.Step.{Step}
 use Rattle.emv_dict.specs.declared.ending.Step.TheVariants as step
 use Rattle.kernel.proofs.Opened.{gone_on}
 use Rattle.kernel.proofs.kernel.turns.cut_off.Goals as goal
-use Rattle.kernel.specs.Course.{Standing, over}
 use Rattle.kernel.specs.Dialogue.{granted, candidates_left, restrictions, selected_then}
-use Rattle.kernel.specs.Stages.{OpeningStands, cut_of}
+use Rattle.kernel.specs.Stages.{OpeningStands}
 use Rattle.kernel.specs.declared.stage.Opening.TheVariants as stage
 use Rattle.pse_directory.specs.Left.{rest_of as directory_rest}
 use Rattle.read_records.specs.DataRead.{reading}
 use Rattle.read_records.specs.Options.{Opened, initiated}
-use Rattle.terminal_state.specs.Marks.{Mark}
 use Rattle.terminal_state.specs.Table.{deal_of}
 
 pub returns-in-Directory-clause-stands : goal.returns-in-Directory-clause-stands
 returns-in-Directory-clause-stands c = λ table before rest at_stage.
     let s = c.in-Directory.state in
     let stands : OpeningStands table (stage.Directory s) before rest = rw c.in-Directory.is at at_stage in record {
-      passed = λ later. gone_on (cut_of s.begun) step.Select (directory_rest s.listing) (selected_then (deal_of table)) before rest stands.passed table.command.items stands.shows later
-          ∙ ap (λ (at : Step). let gone : Standing Mark = over [] (CutOff at) before later in gone) (sym c.step_of.ensures);
+      passed = gone_on s.cut step.Select (directory_rest s.listing) (selected_then (deal_of table)) before rest stands.passed table.command.items stands.shows;
       tied = stands.tied;
       shows = tt;
     }
@@ -29,8 +23,7 @@ pub returns-in-Select-clause-stands : goal.returns-in-Select-clause-stands
 returns-in-Select-clause-stands c = λ table before rest at_stage.
     let s = c.in-Select.state in
     let stands : OpeningStands table (stage.Select s) before rest = rw c.in-Select.is at at_stage in record {
-      passed = λ later. gone_on (cut_of s.begun) step.Select (rest_with s.search table.candidates) (selected_then (deal_of table)) before rest stands.passed table.command.items stands.shows later
-          ∙ ap (λ (at : Step). let gone : Standing Mark = over [] (CutOff at) before later in gone) (sym c.step_of-in-Select.ensures);
+      passed = gone_on s.cut step.Select (rest_with s.search table.candidates) (selected_then (deal_of table)) before rest stands.passed table.command.items stands.shows;
       tied = stands.tied;
       shows = tt;
     }

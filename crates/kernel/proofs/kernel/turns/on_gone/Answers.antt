@@ -1,6 +1,7 @@
-use Rattle.std.proofs.Common.{refl, false, true, arith}
+use Rattle.std.proofs.Common.{refl, arith}
 use Rattle.cvm_list.specs.Waiting.{rest_of as verifying_rest}
 use Rattle.emv_dict.specs.declared.ending.Step.TheVariants as step
+use Rattle.online_step.specs.declared.ac.GenerateAc.TheVariants as generate
 use Rattle.risk_mgmt.specs.Asked.{rest_of as judging_rest}
 use Rattle.script_run.specs.Ran.{rest_of as running_rest}
 use Rattle.kernel.specs.Stages.{TradingStands, generating, authenticating}
@@ -21,7 +22,7 @@ returns-in-Risk-clause-stands c = λ trade log rest stands.
 pub returns-in-First-clause-stands : goal.returns-in-First-clause-stands
 returns-in-First-clause-stands c = λ trade log rest stands.
     let at : TradingStands c.args.table.now trade (stage.First c.in-First.field-0) log rest = rw c.in-First.is at stands in
-    trading_gone c.args.table.now trade step.First at.marks log (generating c.args.table.now.command.items c.in-First.field-0 false) _ c.args.table.now.command.items rest at.passed at.tied at.read refl
+    trading_gone c.args.table.now trade step.First at.marks log (generating c.args.table.now.command.items c.in-First.field-0 generate.First) _ c.args.table.now.command.items rest at.passed at.tied at.read refl
 
 pub returns-in-Authenticate-clause-stands : goal.returns-in-Authenticate-clause-stands
 returns-in-Authenticate-clause-stands c = λ trade log rest stands.
@@ -36,7 +37,7 @@ returns-in-ScriptBefore-clause-stands c = λ trade log rest stands.
 pub returns-in-Second-clause-stands : goal.returns-in-Second-clause-stands
 returns-in-Second-clause-stands c = λ trade log rest stands.
     let at : TradingStands c.args.table.now trade (stage.Second c.in-Second.field-0) log rest = rw c.in-Second.is at stands in
-    trading_gone c.args.table.now trade step.Second at.marks log (generating c.args.table.now.command.items c.in-Second.field-0.asked true) _ c.args.table.now.command.items rest at.passed at.tied at.read refl
+    trading_gone c.args.table.now trade step.Second at.marks log (generating c.args.table.now.command.items c.in-Second.field-0.asked generate.Second) _ c.args.table.now.command.items rest at.passed at.tied at.read refl
 
 pub returns-in-ScriptBehind-clause-stands : goal.returns-in-ScriptBehind-clause-stands
 returns-in-ScriptBehind-clause-stands c = λ trade log rest stands. c.gone_behind.ensures.stands trade log rest (rw c.in-ScriptBehind.is at stands)

@@ -1,5 +1,5 @@
 use Rattle.std.proofs.Common.{sym, ◌∙◌}
-use Rattle.read_records.proofs.FormLemmas.{formed}
+use Rattle.object_lists.proofs.FormLemmas.{formed}
 use Rattle.read_records.proofs.reading.Course.finish.Goals as goal
 
 pub returns-in-None-clause-forms : goal.returns-in-None-clause-forms

@@ -1,0 +1,5 @@
+pub mod Kinds
+pub mod Lanes
+pub mod Statuses
+pub mod Terminals
+pub mod Torn

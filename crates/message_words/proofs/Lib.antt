@@ -1,0 +1,4 @@
+pub mod Alike
+pub mod Bitmap
+pub mod Replies
+pub mod Samples

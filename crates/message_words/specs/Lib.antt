@@ -1,0 +1,4 @@
+pub mod Fields
+pub mod Iso
+pub mod Messages
+pub mod Objects

@@ -1,0 +1,10 @@
+//! Messages to the issuer and its replies in words, in both dialects.
+#![tactic(auto, using(word_lines::proofs::Telling::telling))]
+
+pub mod fields;
+pub mod host;
+pub mod iso;
+pub mod objects;
+pub mod phrases;
+
+pub use host::{Settled, code_in, settled_by, tell_call, tell_reply};

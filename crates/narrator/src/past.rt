@@ -1,0 +1,99 @@
+//! What the lines of a lane leave for those behind them.
+ghost use Rattle.std.specs.Prelude.{◌≡◌};
+ghost use Rattle.narrator.specs.State as state;
+ghost use Rattle.narrator.specs.Words as spec;
+ghost use Rattle.word_lines.specs.Pieces.{Tells};
+
+use exchange_words::{first_fields, tell_answer, tell_command};
+use lane_words::{LaneState, Terminal, row_for};
+use message_words::{Settled, code_in, settled_by, tell_call, tell_reply};
+use std::mem;
+use word_lines::WordLines;
+
+/// What the lines of a lane left.
+#[derive(Drop)]
+pub struct LanePast {
+    /// What commands and answers left since the lane's card was powered up.
+    pub talk: LaneState,
+    /// The last message of the settlement.
+    pub settled: Settled,
+    /// The number of the last purchase that ended.
+    pub last_end: u64,
+}
+
+impl LanePast {
+    /// Before any line.
+    pub fn new() -> LanePast
+        ensures { result ≡ state.untold }
+    {
+        LanePast {
+            talk: LaneState::new(),
+            settled: Settled::Nothing,
+            last_end: 0,
+        }
+    }
+
+    /// Forgets what the last card gave and was sent, as one is powered up.
+    pub fn begin(&mut self)
+        ensures { self.new ≡ state.begun self.old }
+    {
+        self.talk.begin();
+    }
+
+    /// Tells a command. `place` is the lane's place, by which the rows of its terminal are found.
+    pub fn tell_sent(
+        &mut self,
+        terminals: &[Terminal],
+        place: u8,
+        bytes: &[u8],
+        brief: bool,
+        out: &mut WordLines,
+    )
+        ensures words { Tells out.old out.new (spec.sent_words brief terminals.now place bytes.now self.old) }
+        ensures state { self.new ≡ state.asked terminals.now place bytes.now self.old }
+    {
+        let row = row_for(terminals, place, self.talk.name.as_slice());
+        tell_command(out, &mut self.talk, bytes, row, brief);
+    }
+
+    /// Tells an answer to the last command, which waits for none any longer.
+    pub fn tell_given(&mut self, bytes: &[u8], brief: bool, out: &mut WordLines)
+        ensures words { Tells out.old out.new (spec.given_words brief bytes.now self.old) }
+        ensures state { self.new ≡ state.answered bytes.now self.old }
+    {
+        let command = mem::take(&mut self.talk.command);
+        tell_answer(out, &mut self.talk, command.as_slice(), bytes, brief);
+    }
+
+    /// Tells a message to the issuer.
+    pub fn tell_to_host(&self, bytes: &[u8], brief: bool, out: &mut WordLines)
+        ensures { Tells out.old out.new (spec.to_host_words brief bytes.now self.now) }
+    {
+        tell_call(out, first_fields(&self.talk), bytes, brief);
+    }
+
+    /// Tells a reply of the issuer, and keeps its response code.
+    pub fn tell_from_host(&mut self, bytes: &[u8], brief: bool, out: &mut WordLines)
+        ensures words { Tells out.old out.new (spec.from_host_words brief bytes.now) }
+        ensures state { self.new ≡ state.replied bytes.now self.old }
+    {
+        self.talk.code = code_in(bytes);
+        tell_reply(out, Settled::Nothing, bytes, brief);
+    }
+
+    /// Tells a message of the settlement, and keeps which one it is.
+    pub fn tell_settling(&mut self, bytes: &[u8], brief: bool, out: &mut WordLines)
+        ensures words { Tells out.old out.new (spec.to_host_words brief bytes.now self.old) }
+        ensures state { self.new ≡ state.settling bytes.now self.old }
+    {
+        self.settled = settled_by(bytes);
+        self.tell_to_host(bytes, brief, out);
+    }
+
+    /// Tells a reply in the settlement.
+    pub fn tell_settled(&self, bytes: &[u8], brief: bool, out: &mut WordLines)
+        ensures { Tells out.old out.new (spec.settled_words brief bytes.now self.now) }
+    {
+        tell_reply(out, self.settled, bytes, brief);
+    }
+}

@@ -1,5 +1,0 @@
-use Rattle.read_records.proofs.FormLemmas.{formed, unformed}
-use Rattle.read_records.proofs.checked.forms_are_tried.Goals as goal
-
-pub returns : goal.returns
-returns c entries options = (formed entries options, unformed entries)

@@ -1,0 +1,77 @@
+//! The replies that a terminal takes from a trace's entries.
+ghost use Rattle.std.specs.Prelude.{◌≡◌, ◌<◌, [], true, false, List};
+ghost use Rattle.kernel.specs.Dialogue.{dialogue};
+ghost use Rattle.kernel.specs.Kernel.{KernelStands, deal_in, next_of};
+ghost use Rattle.kernel.specs.Rank.{rank_of};
+ghost use Rattle.kernel.specs.Reply.{Reply};
+ghost use Rattle.kernel.specs.declared.kernel.Next.TheVariants as next;
+ghost use Rattle.trace_check.specs.Dialogues as spec;
+ghost use Rattle.trace_check.specs.Dialogues.{reply_in};
+ghost use Rattle.trace_check.specs.Loop.{Taken};
+
+use crate::entry::Entry;
+use kernel::{Kernel, Next};
+
+/// Tells a terminal that awaits the card's reply an entry, where it is one.
+fn from_card(kernel: &mut Kernel<'_>, entry: &Entry) -> bool
+    requires waits { next_of kernel.old ≡ next.ToCard }
+    requires fresh { kernel.old.is_spent ≡ false }
+    ensures taken { (replies : List Reply) → KernelStands kernel.old replies
+        → Taken spec.of_card kernel.new replies (reply_in entry.now) result }
+    ensures deal { deal_in kernel.new ≡ deal_in kernel.old }
+    ensures nearer { result ≡ true → rank_of kernel.new < rank_of kernel.old }
+    ensures fresh { kernel.new.is_spent ≡ false }
+{
+    match entry {
+        Entry::CardSaid(answer) => {
+            kernel.take_card(answer.as_slice(), &[]);
+            true
+        }
+        Entry::CardGone => {
+            kernel.take_gone();
+            true
+        }
+        Entry::ToCard(_) | Entry::ToHost(_) | Entry::End(_) => false,
+        Entry::HostSaid(_) | Entry::HostSilent => false,
+    }
+}
+
+/// Tells a terminal that awaits the host's reply an entry, where it is one.
+fn from_host(kernel: &mut Kernel<'_>, entry: &Entry) -> bool
+    requires waits { next_of kernel.old ≡ next.ToHost }
+    requires fresh { kernel.old.is_spent ≡ false }
+    ensures taken { (replies : List Reply) → KernelStands kernel.old replies
+        → Taken spec.of_host kernel.new replies (reply_in entry.now) result }
+    ensures deal { deal_in kernel.new ≡ deal_in kernel.old }
+    ensures nearer { result ≡ true → rank_of kernel.new < rank_of kernel.old }
+    ensures fresh { kernel.new.is_spent ≡ false }
+{
+    match entry {
+        Entry::HostSaid(reply) => {
+            kernel.take_host(Some(reply.as_slice()));
+            true
+        }
+        Entry::HostSilent => {
+            kernel.take_host(None);
+            true
+        }
+        Entry::ToCard(_) | Entry::ToHost(_) | Entry::End(_) => false,
+        Entry::CardSaid(_) | Entry::CardGone => false,
+    }
+}
+
+/// Tells a terminal an entry, where it is a reply that it awaits.
+pub fn take(kernel: &mut Kernel<'_>, entry: &Entry) -> bool
+    requires { kernel.old.is_spent ≡ false }
+    ensures taken { (replies : List Reply) → KernelStands kernel.old replies
+        → Taken (spec.is_awaited (dialogue (deal_in kernel.old) replies).deed) kernel.new replies (reply_in entry.now) result }
+    ensures deal { deal_in kernel.new ≡ deal_in kernel.old }
+    ensures nearer { result ≡ true → rank_of kernel.new < rank_of kernel.old }
+    ensures fresh { kernel.new.is_spent ≡ false }
+{
+    match kernel.next() {
+        Next::ToCard => from_card(kernel, entry),
+        Next::ToHost => from_host(kernel, entry),
+        Next::Ended => false,
+    }
+}
