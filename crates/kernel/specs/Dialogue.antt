@@ -145,6 +145,7 @@ authentication trade reply marks = authentication_by trade reply marks (has_auth
 abbrev pub kind_unable : Trade → List Mark → Kind
 kind_unable trade marks = unable (moment marks).tvr (codes_of trade.card trade.row) trade.deal.settings.kind
 
+-- unable to go online, behind a request or without one: the second GENERATE AC is asked at once
 unfoldable pub unable_online : Trade → OnlineRequest → List Mark → Rest Mark
 unable_online trade request marks =
     second trade Unable (kind_unable trade marks) [] (mark.WasUnable request (kind_unable trade marks) ∷ marks)

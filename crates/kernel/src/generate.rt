@@ -13,7 +13,7 @@ use online_step::{fill_list, write_generate};
 use terminal_state::{Table, put_terminal};
 
 /// GENERATE AC is asked for a cryptogram of this kind, with the data of the card's object list of this tag.
-/// `false` comes exactly where the list wants too many.
+/// `false` comes exactly where the list wants more than 252 bytes.
 pub(crate) fn ask_generate<'s>(
     table: &mut Table<'s>,
     transaction: &Transaction<'_, 's>,
