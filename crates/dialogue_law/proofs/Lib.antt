@@ -1,0 +1,13 @@
+mod Giving
+mod Running
+mod Reading
+mod Verifying
+mod Asking
+mod Cutting
+mod Templates
+mod Keeping
+mod Leaving
+mod Walking
+mod Standing
+mod Codes
+mod Shadows
