@@ -1,2 +1,4 @@
 pub mod Coming
+pub mod Names
 pub mod Reading
+pub mod Taking
