@@ -12,7 +12,12 @@ pub of_no_words : options_of [] ≡ Some whole.manner
 unfolding options_of given_in
 of_no_words = refl
 
--- each option, in two orders
+-- the empty word, for which words stand that are no text
+pub of_empty_word : options_of ([] ∷ []) ≡ None
+unfolding options_of given_in alone with_argument
+of_empty_word = refl
+
+-- each filter, in two orders
 abbrev all_filters : Manner
 all_filters = record { filter = record { brief = true; ends = true; lane = Some 15; purchase = Some 7 }; terminals = [] }
 
