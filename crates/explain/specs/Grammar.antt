@@ -39,7 +39,7 @@ code_of text = do
   bytes ← bytes_of text
   if length bytes == 5 then Some (number_in bytes) else None
 
--- where a terminal of this kind may decide
+-- where a terminal of this kind may decide: the kinds of a merchant's are 21 to 26
 abbrev pub reach_in : List ℕ → Option Reach
 reach_in text = do
   kind ← number_of text
@@ -51,6 +51,7 @@ partial_in text = do
   number ← number_of text
   if nat_le number 1 then Some (number == 1) else None
 
+-- a kind and three codes
 abbrev pub row_by : List ℕ → List ℕ → List ℕ → List ℕ → Option Row
 row_by kind denial online other = do
   reach ← reach_in kind
@@ -66,6 +67,7 @@ row_in kind text =
     let online = split_comma denial.1 in
     row_by kind denial.0 online.0 online.1
 
+-- the parts of the argument below
 abbrev pub terminal_by : List ℕ → List ℕ → List ℕ → List ℕ → List ℕ → Option Terminal
 terminal_by lane kind name partial rest = do
   number ← lane_in lane
@@ -144,6 +146,7 @@ at_most_one (one ∷ other ∷ others) = None
 abbrev pub at_most_once : List Bool → Option Bool
 at_most_once given = option_map is_some (at_most_one given)
 
+-- what is asked for, where none but the terminals are more than one
 abbrev pub manner_by : List Bool → List Bool → List ℕ → List ℕ → List Terminal → Option Manner
 manner_by briefs ends lanes purchases terminals = do
   brief ← at_most_once briefs
