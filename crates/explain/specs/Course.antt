@@ -6,7 +6,7 @@ use Rattle.std.specs.Io.KnownBytes.{Appends}
 use Rattle.emv_ports.specs.Causes.{Rose}
 use Rattle.emv_ports.specs.Growth.{AppendsFront}
 use Rattle.narrator.specs.State.{StateData, start, manner_of, seen_state}
-use Rattle.explain.specs.Told.{Told, Way, way_of, Course, HasNoNewline, line_of, told_of, rest_of, most_told, Explains}
+use Rattle.explain.specs.Told.{Told, Way, Course, HasNoNewline, line_of, told_of, rest_of, most_told, Explains}
 use Rattle.explain.specs.declared.told.Stop.{Stop}
 use Rattle.explain.specs.declared.told.Stop.TheVariants.{Sink, OutOfMemory}
 use Rattle.explain.specs.declared.told.Teller.{Teller}

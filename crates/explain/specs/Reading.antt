@@ -1,10 +1,13 @@
 -- A source that is read to its end while its bytes are explained.
 use Rattle.std.specs.Prelude.{ℕ, ◌≡◌, ◌<◌, ◌++◌, List, codes, length, Result, Ok, Err}
 use Rattle.std.specs.declared.option.Option.{Option}
+use Rattle.std.specs.declared.option.Option.TheVariants.{Some}
 use Rattle.std.specs.Io.KnownBytes.{Consumes, IsAtEnd}
 use Rattle.emv_ports.specs.Causes.{Rose}
+use Rattle.narrator.specs.State.{Manner}
 use Rattle.explain.specs.Course.{Stand, SoFar, Stopped}
-use Rattle.explain.specs.Told.{Way, most_read}
+use Rattle.explain.specs.Grammar.{options_of}
+use Rattle.explain.specs.Told.{Way, BrokenOff, way_by, most_read}
 use Rattle.explain.specs.declared.top.Broken.{Broken}
 use Rattle.explain.specs.declared.top.Broken.TheVariants.{Source, Sink, OutOfMemory}
 
@@ -35,6 +38,11 @@ SinkCount before now (Ok value) = now ≡ before
 SinkCount before now (Err Source) = now ≡ before
 SinkCount before now (Err Sink) = Rose before now
 SinkCount before now (Err OutOfMemory) = now ≡ before
+
+-- some was read, and a front of what its first bytes are explained as, in the manner that the words ask for, was written
+abbrev pub BrokenOffAsAsked : List (List ℕ) → Option (List ℕ) → Option (List ℕ) → Option (List ℕ) → Option (List ℕ) → Type 0
+BrokenOffAsAsked words left left_after held held_after =
+    (manner : Manner) × (options_of words ≡ Some manner) × BrokenOff (way_by manner) left left_after held held_after
 
 -- the line that answers words which are not in the grammar
 abbrev pub usage_line : List ℕ

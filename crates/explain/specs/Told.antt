@@ -21,9 +21,16 @@ pub record Way : Type 0 where
   pub all : Bool
   pub manner : Manner
 
--- the way of these options
+-- the way of a manner
+abbrev pub way_by : Manner → Way
+way_by manner = record { all = shows_all manner.filter; manner = manner }
+
+-- the manner and the way of these options
+abbrev pub manner_in : Options → Manner
+manner_in options = record { filter = options.filter; terminals = options.terminals.items }
+
 abbrev pub way_of : Options → Way
-way_of options = record { all = shows_all options.filter; manner = record { filter = options.filter; terminals = options.terminals.items } }
+way_of options = way_by (manner_in options)
 
 -- every line with all its words
 abbrev pub unfiltered : Filter

@@ -1,10 +1,16 @@
 //! The words of the command line.
-ghost use Rattle.std.specs.Prelude.{◌≡◌, ◌<◌, ◌≤◌, [], length, true, IfSome, IfOk};
-ghost use Rattle.explain.specs.Told.{way_of, whole};
+ghost use Rattle.std.specs.Prelude.{◌≡◌, ◌<◌, ◌≤◌, ◌∷◌, length, map, string_bytes, true, false, Some, None, option_map, IfSome, IfOk, IfErr, OnOk};
+ghost use Rattle.hex.specs.Hex.{hex_digit_value};
+ghost use Rattle.report_lines.specs.Reading.{lane_in};
+ghost use Rattle.explain.specs.Grammar.{bytes_of, name_of, code_of, reach_in, partial_in, row_in, terminal_of, alone, with_argument, options_of, Refuses};
+ghost use Rattle.explain.specs.Taking as spec;
+ghost use Rattle.explain.specs.Taking.{options_behind, taken};
+ghost use Rattle.explain.specs.Told.{manner_in};
 
-use action_words::{Row, reach_of};
+use action_words::{Reach, Row, reach_of};
 use arrayvec::ArrayVec;
 use lane_words::Terminal;
+use list_words::number_in;
 use narrator::Filter;
 use report_lines::{number_of, split_at_comma};
 use std::alloc::Global;
@@ -14,6 +20,21 @@ use std::alloc::Global;
 pub struct Options {
     pub filter: Filter,
     pub terminals: Vec<Terminal>,
+}
+
+/// One option of the command line.
+#[derive(Drop)]
+pub enum Given {
+    /// `--brief`
+    Brief,
+    /// `--ends`
+    Ends,
+    /// `--lane N`
+    Lane(u8),
+    /// `--purchase N`
+    Purchase(u64),
+    /// `--terminal T`
+    OneTerminal(Terminal),
 }
 
 /// Why there are no options.
@@ -27,7 +48,8 @@ pub enum NoOptions {
 
 /// The value of a hexadecimal digit of either case.
 fn digit_of(byte: u8) -> Option<u8>
-    ensures { IfSome result (λ digit. digit < 16) }
+    ensures exact { result ≡ hex_digit_value byte }
+    ensures small { IfSome result (λ digit. digit < 16) }
 {
     if b'0' <= byte && byte <= b'9' {
         Some(byte - b'0')
@@ -40,49 +62,74 @@ fn digit_of(byte: u8) -> Option<u8>
     }
 }
 
-/// The name of an application: 5 to 16 bytes.
-fn read_name(text: &[u8]) -> Option<ArrayVec<u8, 16>> {
-    let mut name = ArrayVec::new();
+/// The byte of two hexadecimal digits.
+fn byte_of(high: u8, low: u8) -> Option<u8>
+    ensures { result ≡ spec.byte_of high low }
+{
+    let high = digit_of(high)?;
+    let low = digit_of(low)?;
+    Some(high * 16 + low)
+}
+
+/// Up to 16 bytes in hexadecimal.
+fn read_bytes(text: &[u8]) -> Option<ArrayVec<u8, 16>>
+    ensures some { IfSome result (λ bytes. bytes_of text.now ≡ Some bytes.items) }
+    ensures few { IfSome result (λ bytes. length bytes.items ≤ 16) }
+    ensures none { result ≡ None → IfSome (bytes_of text.now) (λ bytes. 16 < length bytes) }
+{
+    let mut bytes = ArrayVec::new();
     let mut left = text;
     while let [high, low, rest @ ..] = left {
-        if name
-            .try_push(digit_of(*high)? * 16 + digit_of(*low)?)
-            .is_err()
-        {
+        let byte = byte_of(*high, *low)?;
+        if bytes.len() == 16 {
             return None;
         }
+        bytes.push(byte);
         left = rest;
     }
-    if left.is_empty() && name.len() >= 5 {
-        Some(name)
+    if left.is_empty() { Some(bytes) } else { None }
+}
+
+/// The name of an application: 5 to 16 bytes.
+fn read_name(text: &[u8]) -> Option<ArrayVec<u8, 16>>
+    ensures { option_map (λ name. name.items) result ≡ name_of text.now }
+{
+    let name = read_bytes(text)?;
+    if name.len() >= 5 { Some(name) } else { None }
+}
+
+/// An action code: five bytes as one number.
+fn read_code(text: &[u8]) -> Option<u64>
+    ensures { result ≡ code_of text.now }
+{
+    let bytes = read_bytes(text)?;
+    if bytes.len() == 5 {
+        Some(number_in(bytes.as_slice()))
     } else {
         None
     }
 }
 
-/// An action code: five bytes as one number.
-fn read_code(text: &[u8]) -> Option<u64> {
-    if text.len() != 10 {
-        return None;
-    }
-    let mut code: u64 = 0;
-    for byte in text {
-        code = code
-            .saturating_mul(16)
-            .saturating_add(u64::from(digit_of(*byte)?));
-    }
-    Some(code)
-}
-
-/// What a terminal has for an application: `KIND`, and `DENIAL,ONLINE,DEFAULT`.
-fn read_row(kind: u64, codes: &[u8]) -> Option<Row> {
+/// Where a terminal of this kind may decide.
+fn read_reach(text: &[u8]) -> Option<Reach>
+    ensures { result ≡ reach_in text.now }
+{
+    let kind = number_of(text)?;
     if kind > 99 {
         return None;
     }
+    reach_of(kind as u8)
+}
+
+/// What a terminal has for an application: its kind, and `DENIAL,ONLINE,DEFAULT`.
+#[tactic(auto, unfolding(crate::specs::Grammar::row_in))]
+fn read_row(kind: &[u8], codes: &[u8]) -> Option<Row>
+    ensures { result ≡ row_in kind.now codes.now }
+{
     let (denial, rest) = split_at_comma(codes);
     let (online, default) = split_at_comma(rest);
     Some(Row {
-        reach: reach_of(kind as u8)?,
+        reach: read_reach(kind)?,
         denial: read_code(denial)?,
         online: read_code(online)?,
         default: read_code(default)?,
@@ -91,7 +138,7 @@ fn read_row(kind: u64, codes: &[u8]) -> Option<Row> {
 
 /// The number of a lane, from 0 to 15.
 fn read_lane(text: &[u8]) -> Option<u8>
-    ensures { IfSome result (λ lane. lane < 16) }
+    ensures { result ≡ lane_in text.now }
 {
     let number = number_of(text)?;
     if number < 16 {
@@ -101,81 +148,119 @@ fn read_lane(text: &[u8]) -> Option<u8>
     }
 }
 
+/// Whether longer names are meant too, by `1` or `0`.
+fn read_partial(text: &[u8]) -> Option<bool>
+    ensures { result ≡ partial_in text.now }
+{
+    let number = number_of(text)?;
+    if number <= 1 { Some(number == 1) } else { None }
+}
+
 /// What a lane's terminal has for an application: `LANE,KIND,AID,PARTIAL,DENIAL,ONLINE,DEFAULT`.
-fn read_terminal(text: &[u8]) -> Option<Terminal> {
+#[tactic(auto, unfolding(crate::specs::Grammar::terminal_of))]
+fn read_terminal(text: &[u8]) -> Option<Terminal>
+    ensures { result ≡ terminal_of text.now }
+{
     let (lane, rest) = split_at_comma(text);
     let (kind, rest) = split_at_comma(rest);
     let (name, rest) = split_at_comma(rest);
     let (partial, codes) = split_at_comma(rest);
-    let partial = number_of(partial)?;
-    if partial > 1 {
-        return None;
-    }
     Some(Terminal {
         lane: read_lane(lane)?,
         name: read_name(name)?,
-        partial: partial == 1,
-        row: read_row(number_of(kind)?, codes)?,
+        partial: read_partial(partial)?,
+        row: read_row(kind, codes)?,
     })
 }
 
-/// Takes a word that stands alone, once; whether it is one.
-fn take_flag(filter: &mut Filter, word: &[u8]) -> bool {
-    match word {
-        b"--brief" => {
-            let first = !filter.brief;
-            filter.brief = true;
-            first
-        }
-        b"--ends" => {
-            let first = !filter.ends;
-            filter.ends = true;
-            first
-        }
-        _ => false,
+/// The option of a word that stands alone.
+#[tactic(auto, unfolding(crate::specs::Grammar::alone))]
+fn read_alone(word: &String) -> Option<Given>
+    ensures { result ≡ alone (string_bytes word.now) }
+{
+    match word.as_str() {
+        "--brief" => Some(Given::Brief),
+        "--ends" => Some(Given::Ends),
+        _ => None,
     }
 }
 
-/// Takes the number of a filter, once; whether it is one.
-fn take_number(filter: &mut Filter, word: &[u8], argument: &[u8]) -> bool {
-    match word {
-        b"--lane" => {
-            let first = filter.lane.is_none();
-            filter.lane = read_lane(argument);
-            first && filter.lane.is_some()
-        }
-        b"--purchase" => {
-            let first = filter.purchase.is_none();
-            filter.purchase = number_of(argument);
-            first && filter.purchase.is_some()
-        }
-        _ => false,
+/// The option of a word and its argument.
+#[tactic(auto, unfolding(crate::specs::Grammar::with_argument))]
+fn read_with(word: &String, argument: &[u8]) -> Option<Given>
+    ensures { result ≡ with_argument (string_bytes word.now) argument.now }
+{
+    match word.as_str() {
+        "--lane" => Some(Given::Lane(read_lane(argument)?)),
+        "--purchase" => Some(Given::Purchase(number_of(argument)?)),
+        "--terminal" => Some(Given::OneTerminal(read_terminal(argument)?)),
+        _ => None,
     }
 }
 
-/// Whether a word stands alone.
-fn stands_alone(word: &[u8]) -> bool {
-    match word {
-        b"--brief" | b"--ends" => true,
-        _ => false,
+/// Takes a filter that stands alone, once.
+fn take_flag(flag: &mut bool) -> Result<(), NoOptions>
+    ensures ok { OnOk result ((flag.old ≡ false) × (flag.new ≡ true)) }
+    ensures err { IfErr result (λ no. (no ≡ NoOptions.Words) × (flag.old ≡ true)) }
+{
+    if *flag {
+        return Err(NoOptions::Words);
     }
+    *flag = true;
+    Ok(())
 }
 
-/// Takes a word and its argument.
-fn take_argument(options: &mut Options, word: &[u8], argument: &[u8]) -> Result<(), NoOptions> {
-    if word != b"--terminal".as_slice() {
-        return if take_number(&mut options.filter, word, argument) {
+/// Takes one option more: each but `--terminal` once.
+fn take(options: &mut Options, given: Given) -> Result<(), NoOptions>
+    ensures ok { OnOk result (taken (manner_in options.old) given ≡ Some (manner_in options.new)) }
+    ensures err { IfErr result (λ no. Refuses no (taken (manner_in options.old) given)) }
+{
+    match given {
+        Given::Brief => take_flag(&mut options.filter.brief),
+        Given::Ends => take_flag(&mut options.filter.ends),
+        Given::Lane(lane) => {
+            if options.filter.lane.is_some() {
+                return Err(NoOptions::Words);
+            }
+            options.filter.lane = Some(lane);
             Ok(())
-        } else {
-            Err(NoOptions::Words)
-        };
-    }
-    match read_terminal(argument) {
-        Some(terminal) => match options.terminals.push(terminal) {
+        }
+        Given::Purchase(purchase) => {
+            if options.filter.purchase.is_some() {
+                return Err(NoOptions::Words);
+            }
+            options.filter.purchase = Some(purchase);
+            Ok(())
+        }
+        Given::OneTerminal(terminal) => match options.terminals.push(terminal) {
             Ok(()) => Ok(()),
             Err(_) => Err(NoOptions::OutOfMemory),
         },
-        None => Err(NoOptions::Words),
+    }
+}
+
+/// Takes the first of these words and its argument, and gives the words behind.
+fn take_with<'a>(
+    options: &mut Options,
+    word: &String,
+    rest: &'a [String],
+) -> Result<&'a [String], NoOptions>
+    ensures ok { alone (string_bytes word.now) ≡ None
+        → IfOk result (λ behind. options_behind (manner_in options.old) (string_bytes word.now ∷ map string_bytes rest.now)
+        ≡ options_behind (manner_in options.new) (map string_bytes behind.now)) }
+    ensures err { alone (string_bytes word.now) ≡ None
+        → IfErr result (λ no. Refuses no (options_behind (manner_in options.old) (string_bytes word.now ∷ map string_bytes rest.now))) }
+    ensures fewer { IfOk result (λ behind. length behind.now ≤ length rest.now) }
+{
+    match rest {
+        [argument, behind @ ..] => match read_with(word, argument.as_bytes()) {
+            Some(given) => match take(options, given) {
+                Ok(()) => Ok(behind),
+                Err(no) => Err(no),
+            },
+            None => Err(NoOptions::Words),
+        },
+        [] => Err(NoOptions::Words),
     }
 }
 
@@ -185,26 +270,25 @@ fn take_option<'a>(
     word: &String,
     rest: &'a [String],
 ) -> Result<&'a [String], NoOptions>
-    ensures { IfOk result (λ behind. length behind.now ≤ length rest.now) }
+    ensures ok { IfOk result (λ behind. options_behind (manner_in options.old) (string_bytes word.now ∷ map string_bytes rest.now)
+        ≡ options_behind (manner_in options.new) (map string_bytes behind.now)) }
+    ensures err { IfErr result (λ no. Refuses no (options_behind (manner_in options.old) (string_bytes word.now ∷ map string_bytes rest.now))) }
+    ensures fewer { IfOk result (λ behind. length behind.now ≤ length rest.now) }
 {
-    if stands_alone(word.as_bytes()) {
-        return if take_flag(&mut options.filter, word.as_bytes()) {
-            Ok(rest)
-        } else {
-            Err(NoOptions::Words)
-        };
-    }
-    match rest {
-        [argument, behind @ ..] => {
-            take_argument(options, word.as_bytes(), argument.as_bytes())?;
-            Ok(behind)
-        }
-        [] => Err(NoOptions::Words),
+    match read_alone(word) {
+        Some(given) => match take(options, given) {
+            Ok(()) => Ok(rest),
+            Err(no) => Err(no),
+        },
+        None => take_with(options, word, rest),
     }
 }
 
 /// Takes all words.
-fn take_options(options: Options, words: &[String]) -> Result<Options, NoOptions> {
+fn take_options(options: Options, words: &[String]) -> Result<Options, NoOptions>
+    ensures ok { IfOk result (λ all. options_behind (manner_in options) (map string_bytes words.now) ≡ Some (manner_in all)) }
+    ensures err { IfErr result (λ no. Refuses no (options_behind (manner_in options) (map string_bytes words.now))) }
+{
     let mut options = options;
     let mut left = words;
     while let [word, rest @ ..] = left {
@@ -214,9 +298,12 @@ fn take_options(options: Options, words: &[String]) -> Result<Options, NoOptions
 }
 
 /// Reads `[--brief] [--ends] [--lane N] [--purchase N] [--terminal T]...`, in any order.
+#[tactic(auto, unfolding(crate::specs::Grammar::options_of, crate::specs::Taking::options_behind))]
 pub fn read_options(alloc: Global, words: &[String]) -> Result<Options, NoOptions>
-    // Without words every line is left, with all its words.
-    ensures { words.now ≡ [] → IfOk result (λ options. way_of options ≡ whole) }
+    // They are what the words ask for.
+    ensures ok { IfOk result (λ options. options_of (map string_bytes words.now) ≡ Some (manner_in options)) }
+    // The words are not in the grammar, or there was no memory.
+    ensures err { IfErr result (λ no. Refuses no (options_of (map string_bytes words.now))) }
 {
     let options = Options {
         filter: Filter {
@@ -227,8 +314,5 @@ pub fn read_options(alloc: Global, words: &[String]) -> Result<Options, NoOption
         },
         terminals: Vec::new(alloc),
     };
-    match words {
-        [] => Ok(options),
-        [_, ..] => take_options(options, words),
-    }
+    take_options(options, words)
 }

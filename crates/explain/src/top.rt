@@ -1,13 +1,14 @@
 //! The top call.
-ghost use Rattle.std.specs.Prelude.{◌≡◌, ◌≢◌, ◌≤◌, ◌⊎◌, ℕ, List, [], false, OnOk, OnErr, IfOk};
+ghost use Rattle.std.specs.Prelude.{◌≡◌, ◌≢◌, ◌≤◌, ◌⊎◌, ℕ, List, [], false, None, Some, OnOk, OnErr, IfOk, map, string_bytes};
 ghost use Rattle.std.specs.declared.option.Option.{Option};
 ghost use Rattle.std.specs.Io.KnownBytes.{Appends};
 ghost use Rattle.emv_ports.specs.Causes.{Rose};
 ghost use Rattle.emv_ports.specs.Growth.{AppendsFront};
 ghost use Rattle.explain.specs.Course.{SoFar, way_in, stand_of};
-ghost use Rattle.explain.specs.Reading.{ReadAll, ReadSome, SourceCount, SinkCount, usage_line};
-ghost use Rattle.explain.specs.Told.{Explained, BrokenOff, Way, way_of, whole};
-ghost use Rattle.narrator.specs.State.{seen_state, start};
+ghost use Rattle.explain.specs.Grammar.{options_of};
+ghost use Rattle.explain.specs.Reading.{ReadAll, ReadSome, SourceCount, SinkCount, BrokenOffAsAsked, usage_line};
+ghost use Rattle.explain.specs.Told.{Explained, BrokenOff, Way, way_by, way_of, whole};
+ghost use Rattle.narrator.specs.State.{Manner, seen_state, start};
 
 use crate::options::{NoOptions, Options, read_options};
 use crate::told::{Stop, Teller, end, take_bytes};
@@ -148,22 +149,26 @@ fn answer_usage<K: Sink>(sink: &mut K) -> u8
 /// another form than a report's, and what stands behind the last newline have no words.
 pub fn run<S: Source, K: Sink>(alloc: Global, words: &[String], source: &mut S, sink: &mut K) -> u8
     // 0: all that the source had left was read, and the sink got its lines in order and unchanged, each with
-    // none or some lines of words that begin with two blanks, or left out by a filter. Without words none is
-    // left out.
-    ensures done { result ≡ 0 → (way : Way) × (words.now ≡ [] → way ≡ whole)
-        × Explained way (S.left source.old) (S.left source.new) (K.held sink.old) (K.held sink.new) }
+    // none or some lines of words that begin with two blanks, or left out by a filter, in the manner that the
+    // words ask for. Without words none is left out.
+    ensures done { result ≡ 0 → (manner : Manner) × (options_of (map string_bytes words.now) ≡ Some manner) × (words.now ≡ [] → way_by manner ≡ whole)
+        × Explained (way_by manner) (S.left source.old) (S.left source.new) (K.held sink.old) (K.held sink.new) }
     // 2: the words are not in the grammar; the sink got the usage line, and nothing was read.
+    ensures outside { result ≡ 2 → options_of (map string_bytes words.now) ≡ None }
     ensures usage { result ≡ 2 → Appends (K.held sink.old) (K.held sink.new) usage_line }
     ensures unread { result ≡ 2 → source.new ≡ source.old }
     // 3: the source failed, 4: the sink failed, 5: there was no memory. What the first bytes that were read
-    // are explained as was written, or a front of it; where the sink failed, it may be a front of the usage
-    // line.
+    // are explained as, in the manner that the words ask for, was written, or a front of it. Where the sink
+    // failed, the words may not be in the grammar instead: then nothing was read, and a front of the usage
+    // line was written. Where there was no memory for what the words ask for, nothing was read or written.
     ensures read_fault { result ≡ 3 → Rose (S.faults source.old) (S.faults source.new) }
-    ensures read_front { result ≡ 3 → (way : Way) × BrokenOff way (S.left source.old) (S.left source.new) (K.held sink.old) (K.held sink.new) }
+    ensures read_front { result ≡ 3 → BrokenOffAsAsked (map string_bytes words.now) (S.left source.old) (S.left source.new) (K.held sink.old) (K.held sink.new) }
     ensures write_fault { result ≡ 4 → Rose (K.faults sink.old) (K.faults sink.new) }
-    ensures write_front { result ≡ 4 → AppendsFront (K.held sink.old) (K.held sink.new) usage_line
-        ⊎ ((way : Way) × BrokenOff way (S.left source.old) (S.left source.new) (K.held sink.old) (K.held sink.new)) }
-    ensures memory { result ≡ 5 → (way : Way) × BrokenOff way (S.left source.old) (S.left source.new) (K.held sink.old) (K.held sink.new) }
+    ensures write_front { result ≡ 4
+        → ((options_of (map string_bytes words.now) ≡ None) × (source.new ≡ source.old) × AppendsFront (K.held sink.old) (K.held sink.new) usage_line)
+        ⊎ BrokenOffAsAsked (map string_bytes words.now) (S.left source.old) (S.left source.new) (K.held sink.old) (K.held sink.new) }
+    ensures memory { result ≡ 5 → ((source.new ≡ source.old) × (sink.new ≡ sink.old))
+        ⊎ BrokenOffAsAsked (map string_bytes words.now) (S.left source.old) (S.left source.new) (K.held sink.old) (K.held sink.new) }
     // The source's count stays but for 3, the sink's but for 4.
     ensures source_calm { result ≢ 3 → S.faults source.new ≡ S.faults source.old }
     ensures sink_calm { result ≢ 4 → K.faults sink.new ≡ K.faults sink.old }

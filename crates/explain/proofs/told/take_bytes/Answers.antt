@@ -1,4 +1,4 @@
-use Rattle.std.proofs.Common.{ℕ, List, ◌++◌, ◌+◌, take, refl, sym, subst, ◌∙◌}
+use Rattle.std.proofs.Common.{ℕ, List, ◌++◌, take, refl, sym, subst, ◌∙◌}
 use Rattle.std.proofs.lemmas.List.{append-nil, take_all}
 use Rattle.explain.specs.Course.{SoFar, Stopped, way_in, stand_of}
 use Rattle.explain.specs.Told.{Way}

@@ -1,19 +1,21 @@
-use Rattle.std.proofs.Common.{inl, inr}
-use Rattle.explain.specs.Told.{way_of, whole}
-use Rattle.explain.proofs.Reading.{broken_start}
+use Rattle.std.proofs.Common.{map, string_bytes, refl, inr}
+use Rattle.explain.specs.Told.{manner_in}
+use Rattle.explain.proofs.Taking.{asks_whole}
 use Rattle.explain.proofs.top.run.Goals as goal
 
 pub returns-in-Ok-explain_by-clause-done : goal.returns-in-Ok-explain_by-clause-done
-returns-in-Ok-explain_by-clause-done g c = λ e. (way_of c.in-Ok.options, c.in-Ok.ensures, c.in-Ok-explain_by.ensures.ok)
+returns-in-Ok-explain_by-clause-done g c = λ e. (
+  manner_in c.in-Ok.options,
+  c.in-Ok.ensures.ok,
+  λ none. asks_whole (map string_bytes c.args.words.now) (manner_in c.in-Ok.options) (rw none refl) c.in-Ok.ensures.ok,
+  c.in-Ok-explain_by.ensures.ok,
+)
 
 pub returns-in-Err-Source-clause-read_front : goal.returns-in-Err-Source-clause-read_front
-returns-in-Err-Source-clause-read_front g c = λ e. (way_of c.in-Ok.options, c.in-Err-Source.ensures.err)
+returns-in-Err-Source-clause-read_front g c = λ e. (manner_in c.in-Ok.options, c.in-Ok.ensures.ok, c.in-Err-Source.ensures.err)
 
 pub returns-in-Err-Sink-clause-write_front : goal.returns-in-Err-Sink-clause-write_front
-returns-in-Err-Sink-clause-write_front g c = λ e. inr (way_of c.in-Ok.options, c.in-Err-Sink.ensures.err)
+returns-in-Err-Sink-clause-write_front g c = λ e. inr (manner_in c.in-Ok.options, c.in-Ok.ensures.ok, c.in-Err-Sink.ensures.err)
 
-pub returns-in-Err-Words-clause-write_front : goal.returns-in-Err-Words-clause-write_front
-returns-in-Err-Words-clause-write_front g c = λ e. inl (c.answer_usage.ensures.front e)
-
-pub returns-in-Err-OutOfMemory-clause-memory : goal.returns-in-Err-OutOfMemory-clause-memory
-returns-in-Err-OutOfMemory-clause-memory g c = λ e. (whole, broken_start whole (g.S.Source.left c.args.source.now) (g.K.Sink.held c.args.sink.now))
+pub returns-in-Err-OutOfMemory-explain_by-clause-memory : goal.returns-in-Err-OutOfMemory-explain_by-clause-memory
+returns-in-Err-OutOfMemory-explain_by-clause-memory g c = λ e. inr (manner_in c.in-Ok.options, c.in-Ok.ensures.ok, c.in-Err-OutOfMemory-explain_by.ensures.err)

@@ -1,0 +1,143 @@
+-- What one option more makes of what the words ask for.
+use Rattle.std.proofs.Common.{◌≡◌, ℕ, ◌≤◌, ◌<◌, Bool, true, false, List, [], ◌∷◌, ◌++◌, length, map, drop, get_or, Option, Some, None, refl, sym, ap, ◌∙◌, subst, append_assoc, append-nil, arith}
+use Rattle.std.specs.List.{flat_map}
+use Rattle.std.proofs.lemmas.Option.{same_Some}
+use Rattle.lane_words.specs.declared.terminal.Terminal.{Terminal}
+use Rattle.narrator.specs.State.{Manner}
+use Rattle.explain.specs.Grammar.{◌>>=◌, brief_in, ends_in, lane_given, purchase_given, terminal_given, at_most_one, at_most_once, manner_by, alone, with_argument, given_in, options_of, Refuses}
+use Rattle.explain.specs.Taking.{flag, number, asked_behind, options_behind, taken}
+use Rattle.explain.specs.Told.{way_by, whole}
+use Rattle.explain.specs.declared.options.Given.{Given}
+use Rattle.explain.specs.declared.options.Given.TheVariants.{Brief, Ends, Lane, Purchase, OneTerminal}
+use Rattle.explain.specs.declared.options.NoOptions.{NoOptions}
+use Rattle.explain.specs.declared.options.NoOptions.TheVariants.{Words, OutOfMemory}
+
+-- where one part is given too often, nothing is asked for, whatever stands in front of it
+none_behind : {A : Type 0} (one : Option A) → ◌≡◌ {A = Option Manner} (one >>= (λ a. None)) None
+none_behind None = refl
+none_behind (Some a) = refl
+
+none_behind_two : {A B : Type 0} (one : Option A) (two : Option B) → ◌≡◌ {A = Option Manner} (one >>= (λ a. two >>= (λ b. None))) None
+none_behind_two None two = refl
+none_behind_two (Some a) two = none_behind two
+
+none_behind_three : {A B C : Type 0} (one : Option A) (two : Option B) (three : Option C)
+    → ◌≡◌ {A = Option Manner} (one >>= (λ a. two >>= (λ b. three >>= (λ c. None)))) None
+none_behind_three None two three = refl
+none_behind_three (Some a) two three = none_behind_two two three
+
+-- ---- one option more
+
+abbrev made : Bool → Bool → Option ℕ → Option ℕ → List Terminal → Manner
+made brief ends lane purchase terminals =
+    record { filter = record { brief = brief; ends = ends; lane = lane; purchase = purchase }; terminals = terminals }
+
+abbrev More : Manner → Given → List Given → Type 0
+More manner given others = asked_behind manner (given ∷ others) ≡ (taken manner given >>= (λ next. asked_behind next others))
+
+more_brief : (brief ends : Bool) (lane purchase : Option ℕ) (terminals : List Terminal) (others : List Given)
+    → More (made brief ends lane purchase terminals) Brief others
+more_brief false ends lane purchase terminals others = refl
+more_brief true ends lane purchase terminals others = refl
+
+more_ends : (brief ends : Bool) (lane purchase : Option ℕ) (terminals : List Terminal) (others : List Given)
+    → More (made brief ends lane purchase terminals) Ends others
+more_ends brief false lane purchase terminals others = refl
+more_ends brief true lane purchase terminals others = none_behind (at_most_once (flag brief ++ flat_map brief_in others))
+
+more_lane : (brief ends : Bool) (lane purchase : Option ℕ) (terminals : List Terminal) (n : ℕ) (others : List Given)
+    → More (made brief ends lane purchase terminals) (Lane n) others
+more_lane brief ends None purchase terminals n others = refl
+more_lane brief ends (Some lane) purchase terminals n others =
+    none_behind_two (at_most_once (flag brief ++ flat_map brief_in others)) (at_most_once (flag ends ++ flat_map ends_in others))
+
+more_purchase : (brief ends : Bool) (lane purchase : Option ℕ) (terminals : List Terminal) (n : ℕ) (others : List Given)
+    → More (made brief ends lane purchase terminals) (Purchase n) others
+more_purchase brief ends lane None terminals n others = refl
+more_purchase brief ends lane (Some purchase) terminals n others =
+    none_behind_three (at_most_once (flag brief ++ flat_map brief_in others)) (at_most_once (flag ends ++ flat_map ends_in others))
+    (at_most_one (number lane ++ flat_map lane_given others))
+
+more_terminal : (brief ends : Bool) (lane purchase : Option ℕ) (terminals : List Terminal) (t : Terminal) (others : List Given)
+    → More (made brief ends lane purchase terminals) (OneTerminal t) others
+more_terminal brief ends lane purchase terminals t others =
+    ap (manner_by (flag brief ++ flat_map brief_in others) (flag ends ++ flat_map ends_in others)
+    (number lane ++ flat_map lane_given others) (number purchase ++ flat_map purchase_given others))
+    (sym (append_assoc terminals (t ∷ []) (flat_map terminal_given others)))
+
+asked_more : (m : Manner) (given : Given) (others : List Given) → More m given others
+asked_more m Brief others = more_brief m.filter.brief m.filter.ends m.filter.lane m.filter.purchase m.terminals others
+asked_more m Ends others = more_ends m.filter.brief m.filter.ends m.filter.lane m.filter.purchase m.terminals others
+asked_more m (Lane n) others = more_lane m.filter.brief m.filter.ends m.filter.lane m.filter.purchase m.terminals n others
+asked_more m (Purchase n) others = more_purchase m.filter.brief m.filter.ends m.filter.lane m.filter.purchase m.terminals n others
+asked_more m (OneTerminal t) others = more_terminal m.filter.brief m.filter.ends m.filter.lane m.filter.purchase m.terminals t others
+
+-- ---- no option more
+
+once_flag : (given : Bool) → at_most_once (flag given ++ []) ≡ Some given
+once_flag true = refl
+once_flag false = refl
+
+once_number : (given : Option ℕ) → at_most_one (number given ++ []) ≡ Some given
+once_number None = refl
+once_number (Some n) = refl
+
+asked_now : (m : Manner) → asked_behind m [] ≡ Some m
+asked_now m = rw (once_flag m.filter.brief, once_flag m.filter.ends, once_number m.filter.lane, once_number m.filter.purchase, append-nil m.terminals) refl
+
+-- ---- words
+
+given_first : (m : Manner) (given : Given) (found : Option (List Given))
+    → ((found >>= (λ behind. Some (given ∷ behind))) >>= (λ all. asked_behind m all)) ≡ (taken m given >>= (λ next. found >>= (λ all. asked_behind next all)))
+given_first m given None = sym (none_behind (taken m given))
+given_first m given (Some others) = asked_more m given others
+
+pub behind_alone : (m : Manner) (word : List ℕ) (words : List (List ℕ)) (given : Given) → alone word ≡ Some given
+    → options_behind m (word ∷ words) ≡ (taken m given >>= (λ next. options_behind next words))
+unfolding options_behind given_in
+behind_alone m word [] given is = rw is (asked_more m given [])
+behind_alone m word (argument ∷ words) given is = rw is (given_first m given (given_in (argument ∷ words)))
+
+pub behind_with : (m : Manner) (word argument : List ℕ) (words : List (List ℕ)) (given : Given) → alone word ≡ None
+    → with_argument word argument ≡ Some given → options_behind m (word ∷ argument ∷ words) ≡ (taken m given >>= (λ next. options_behind next words))
+unfolding options_behind given_in
+behind_with m word argument words given longer is = rw (longer, is) (given_first m given (given_in words))
+
+pub behind_unread : (m : Manner) (word argument : List ℕ) (words : List (List ℕ)) → alone word ≡ None
+    → with_argument word argument ≡ None → options_behind m (word ∷ argument ∷ words) ≡ None
+unfolding options_behind given_in
+behind_unread m word argument words longer none = rw (longer, none) refl
+
+pub behind_last : (m : Manner) (word : List ℕ) → alone word ≡ None → options_behind m (word ∷ []) ≡ None
+unfolding options_behind given_in
+behind_last m word longer = rw longer refl
+
+pub behind_end : (m : Manner) (words : List (List ℕ)) → words ≡ [] → options_behind m words ≡ Some m
+unfolding options_behind given_in
+behind_end m words none = rw none (asked_now m)
+
+-- ---- what a refusal tells
+
+pub refuses_behind : (fault : NoOptions) (found : Option Manner) (next : Manner → Option Manner) → Refuses fault found → Refuses fault (found >>= next)
+refuses_behind Words found next none = rw none refl
+refuses_behind OutOfMemory found next none = tt
+
+pub refuses_as : (fault : NoOptions) (found same : Option Manner) → same ≡ found → Refuses fault found → Refuses fault same
+refuses_as fault found same is refuses = subst (λ (o : Option Manner). Refuses fault o) (sym is) refuses
+
+-- ---- lists of words
+
+pub words_at : {X : Type 0} (f : X → List ℕ) (xs behind : List X) (x : X) → 1 ≤ length xs → x ≡ get_or xs 0 x → behind ≡ drop 1 xs
+    → map f xs ≡ f x ∷ map f behind
+words_at f [] behind x many first is = absurd (omega arith)
+words_at f (y ∷ ys) behind x many first is = rw (first, is) refl
+
+pub no_words : {X : Type 0} (f : X → List ℕ) (xs : List X) → length xs < 1 → map f xs ≡ []
+no_words f [] few = refl
+no_words f (x ∷ xs) few = absurd (omega arith)
+
+-- ---- without words
+
+pub asks_whole : (words : List (List ℕ)) (m : Manner) → words ≡ [] → options_of words ≡ Some m → way_by m ≡ whole
+unfolding options_of given_in
+asks_whole words m none asked = ap way_by (same_Some m whole.manner (sym asked ∙ rw none refl))

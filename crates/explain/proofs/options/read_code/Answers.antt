@@ -1,0 +1,18 @@
+use Rattle.std.proofs.Common.{◌≡◌, ◌==◌, ℕ, List, Some, false, length, refl, sym, ap, ◌∙◌, arith}
+use Rattle.std.proofs.lemmas.Bool.Decides.{nat_tests}
+use Rattle.list_words.specs.Plain.{number_in}
+use Rattle.explain.proofs.Names.{code_read, code_other, no_code}
+use Rattle.explain.proofs.options.read_code.Goals as goal
+
+pub returns-in_err-bytes : goal.returns-in_err-bytes
+returns-in_err-bytes c = rw c.from_residual.ensures (sym (no_code c.args.text.now (c.in_err-bytes.ensures.none refl)))
+
+pub returns-then-len-eq5 : goal.returns-then-len-eq5
+returns-then-len-eq5 c =
+    ap (λ (n : ℕ). Some n) (c.number_in.ensures ∙ ap (λ (bytes : List ℕ). number_in bytes) c.as_slice.ensures.value)
+    ∙ sym (code_read c.args.text.now c.in_ok-bytes.bytes.items c.in_ok-bytes.ensures.some (omega arith))
+
+pub returns-else-len-eq5 : goal.returns-else-len-eq5
+returns-else-len-eq5 c =
+    let other : (length c.in_ok-bytes.bytes.items == 5) ≡ false = grind (arith, nat_tests) in
+    sym (code_other c.args.text.now c.in_ok-bytes.bytes.items c.in_ok-bytes.ensures.some other)

@@ -1,0 +1,171 @@
+-- What the words of the command line ask for.
+use Rattle.std.specs.Prelude.{ℕ, ◌≡◌, nat_le, ◌==◌, Bool, true, ◌&&◌, if◌then◌else◌, List, [], ◌∷◌, length, codes, Option, Some, None, option_map, is_some}
+use Rattle.std.specs.List.{flat_map}
+use Rattle.std.specs.Str.{bytes_eq}
+use Rattle.hex.specs.Hex.{decode_of}
+use Rattle.action_words.specs.Codes.{reach_of}
+use Rattle.action_words.specs.declared.asking.Reach.{Reach}
+use Rattle.action_words.specs.declared.asking.Row.{Row}
+use Rattle.lane_words.specs.declared.terminal.Terminal.{Terminal}
+use Rattle.list_words.specs.Plain.{number_in}
+use Rattle.narrator.specs.State.{Manner}
+use Rattle.report_lines.specs.Bytes.{decoded}
+use Rattle.report_lines.specs.Pieces.{split_comma, number_of}
+use Rattle.report_lines.specs.Reading.{lane_in}
+use Rattle.explain.specs.declared.options.Given.{Given}
+use Rattle.explain.specs.declared.options.Given.TheVariants.{Brief, Ends, Lane, Purchase, OneTerminal}
+use Rattle.explain.specs.declared.options.NoOptions.{NoOptions}
+use Rattle.explain.specs.declared.options.NoOptions.TheVariants.{Words, OutOfMemory}
+
+-- what is made of a value, where there is one
+infixl 10 ◌>>=◌
+abbrev pub ◌>>=◌ : {A B : Type 0} → Option A → (A → Option B) → Option B
+None >>= f = None
+(Some x) >>= f = f x
+
+-- bytes in hexadecimal, two digits of either case a byte
+abbrev pub bytes_of : List ℕ → Option (List ℕ)
+bytes_of text = decoded (decode_of text)
+
+-- the name of an application: 5 to 16 bytes
+unfoldable pub name_of : List ℕ → Option (List ℕ)
+name_of text = do
+  name ← bytes_of text
+  if nat_le 5 (length name) && nat_le (length name) 16 then Some name else None
+
+-- an action code: five bytes, as one number
+unfoldable pub code_of : List ℕ → Option ℕ
+code_of text = do
+  bytes ← bytes_of text
+  if length bytes == 5 then Some (number_in bytes) else None
+
+-- where a terminal of this kind may decide: the kinds of a merchant's are 21 to 26
+abbrev pub reach_in : List ℕ → Option Reach
+reach_in text = do
+  kind ← number_of text
+  reach_of kind
+
+-- `1` where a longer name that begins so is meant too, else `0`
+abbrev pub partial_in : List ℕ → Option Bool
+partial_in text = do
+  number ← number_of text
+  if nat_le number 1 then Some (number == 1) else None
+
+-- a kind and three codes
+abbrev pub row_by : List ℕ → List ℕ → List ℕ → List ℕ → Option Row
+row_by kind denial online other = do
+  reach ← reach_in kind
+  denied ← code_of denial
+  sent ← code_of online
+  unsent ← code_of other
+  Some (record { reach = reach; denial = denied; online = sent; default = unsent })
+
+-- a kind, and `DENIAL,ONLINE,DEFAULT`
+unfoldable pub row_in : List ℕ → List ℕ → Option Row
+row_in kind text =
+    let denial = split_comma text in
+    let online = split_comma denial.1 in
+    row_by kind denial.0 online.0 online.1
+
+-- the parts of the argument below
+abbrev pub terminal_by : List ℕ → List ℕ → List ℕ → List ℕ → List ℕ → Option Terminal
+terminal_by lane kind name partial rest = do
+  number ← lane_in lane
+  bytes ← name_of name
+  longer ← partial_in partial
+  row ← row_in kind rest
+  Some (record { lane = number; name = record { items = bytes }; partial = longer; row = row })
+
+-- what a lane's terminal has for an application: `LANE,KIND,AID,PARTIAL,DENIAL,ONLINE,DEFAULT`
+unfoldable pub terminal_of : List ℕ → Option Terminal
+terminal_of text =
+    let lane = split_comma text in
+    let kind = split_comma lane.1 in
+    let name = split_comma kind.1 in
+    let partial = split_comma name.1 in
+    terminal_by lane.0 kind.0 name.0 partial.0 partial.1
+
+-- the option of a word that stands alone
+unfoldable pub alone : List ℕ → Option Given
+alone word =
+    if bytes_eq word (codes "--brief") then Some Brief
+    else if bytes_eq word (codes "--ends") then Some Ends
+    else None
+
+-- the option of a word and its argument
+unfoldable pub with_argument : List ℕ → List ℕ → Option Given
+with_argument word argument =
+    if bytes_eq word (codes "--lane") then option_map Lane (lane_in argument)
+    else if bytes_eq word (codes "--purchase") then option_map Purchase (number_of argument)
+    else if bytes_eq word (codes "--terminal") then option_map OneTerminal (terminal_of argument)
+    else None
+
+-- an option in front of others
+abbrev pub before : Option Given → Option (List Given) → Option (List Given)
+before first others = do
+  given ← first
+  behind ← others
+  Some (given ∷ behind)
+
+-- the options that the words give, in their order
+unfoldable pub given_in : List (List ℕ) → Option (List Given)
+given_in [] = Some []
+given_in (word ∷ []) = before (alone word) (Some [])
+given_in (word ∷ argument ∷ words) =
+    if is_some (alone word) then before (alone word) (given_in (argument ∷ words))
+    else before (with_argument word argument) (given_in words)
+
+-- of each option what it gives of one kind
+abbrev pub brief_in : Given → List Bool
+brief_in Brief = true ∷ []
+brief_in _ = []
+
+abbrev pub ends_in : Given → List Bool
+ends_in Ends = true ∷ []
+ends_in _ = []
+
+abbrev pub lane_given : Given → List ℕ
+lane_given (Lane number) = number ∷ []
+lane_given _ = []
+
+abbrev pub purchase_given : Given → List ℕ
+purchase_given (Purchase number) = number ∷ []
+purchase_given _ = []
+
+abbrev pub terminal_given : Given → List Terminal
+terminal_given (OneTerminal terminal) = terminal ∷ []
+terminal_given _ = []
+
+-- the one that is given, or that none is; `None` where more are
+abbrev pub at_most_one : {A : Type 0} → List A → Option (Option A)
+at_most_one [] = Some None
+at_most_one (one ∷ []) = Some (Some one)
+at_most_one (one ∷ other ∷ others) = None
+
+-- whether it is given
+abbrev pub at_most_once : List Bool → Option Bool
+at_most_once given = option_map is_some (at_most_one given)
+
+-- what is asked for, where none but the terminals are more than one
+abbrev pub manner_by : List Bool → List Bool → List ℕ → List ℕ → List Terminal → Option Manner
+manner_by briefs ends lanes purchases terminals = do
+  brief ← at_most_once briefs
+  only_ends ← at_most_once ends
+  lane ← at_most_one lanes
+  purchase ← at_most_one purchases
+  Some (record { filter = record { brief = brief; ends = only_ends; lane = lane; purchase = purchase }; terminals = terminals })
+
+-- what is asked for, in any order: each option but `--terminal` at most once
+abbrev pub asked_by : List Given → Option Manner
+asked_by given = manner_by (flat_map brief_in given) (flat_map ends_in given) (flat_map lane_given given) (flat_map purchase_given given) (flat_map terminal_given given)
+
+-- what the words ask for: `[--brief] [--ends] [--lane N] [--purchase N] [--terminal T]...`
+unfoldable pub options_of : List (List ℕ) → Option Manner
+options_of words = do
+  given ← given_in words
+  asked_by given
+
+-- why there are no options: the words are not in the grammar; a want of memory says nothing of them
+abbrev pub Refuses : NoOptions → Option Manner → Type 0
+Refuses Words asked = asked ≡ None
+Refuses OutOfMemory asked = Unit {0}
