@@ -81,7 +81,7 @@ fn tell_no_response(out: &mut WordLines, answer: &[u8])
 }
 
 /// Tells an answer to this command, and keeps what it leaves.
-#[tactic(auto, using(word_lines::proofs::Telling::telling), unfolding(crate::specs::Answers::words_of_answer, crate::specs::Answers::left_by_answer))]
+#[tactic(auto, unfolding(crate::specs::Answers::words_of_answer, crate::specs::Answers::left_by_answer))]
 pub fn tell_answer(
     out: &mut WordLines,
     lane: &mut LaneState,

@@ -200,7 +200,7 @@ fn tell_common(out: &mut WordLines, command: &Command<'_>, brief: bool)
 }
 
 /// Tells a command by its class and instruction.
-#[tactic(auto, using(word_lines::proofs::Telling::telling), unfolding(crate::specs::Commands::words_of_command))]
+#[tactic(auto, unfolding(crate::specs::Commands::words_of_command))]
 fn tell_known(
     out: &mut WordLines,
     lane: &mut LaneState,

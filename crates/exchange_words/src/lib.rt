@@ -1,6 +1,6 @@
 //! What a terminal and a card say to each other, in words: commands and answers, and what they leave for
 //! the lines behind them.
-#![tactic(auto, using(word_lines::proofs::Telling::telling))]
+#![tactic(auto)]
 
 pub mod answer;
 pub mod body;

@@ -1,5 +1,5 @@
 //! A message and its reply as they stand on the wire, and back.
-ghost use Rattle.std.specs.Prelude.{◌≡◌, ◌≤◌, ℕ, List, length, true, IsOk};
+ghost use Rattle.std.specs.Prelude.{◌≡◌, ◌≤◌, ℕ, List, [], length, true, IsOk};
 ghost use Rattle.auth_message.specs.Whole.{IsMessage, IsReply};
 ghost use Rattle.host_link.specs.Carried.{CarriesCall, CarriesReply};
 ghost use Rattle.iso_message.specs.Dialect.{call_in, reply_in, kind_of as kind_of_call};
@@ -21,7 +21,10 @@ pub struct Wire {
 
 impl Wire {
     /// A wire on which nothing stood.
-    pub fn new() -> Wire {
+    pub fn new() -> Wire
+        ensures call { result.call.items ≡ [] }
+        ensures reply { result.reply.items ≡ [] }
+    {
         Wire {
             call: Message::new(),
             reply: Message::new(),

@@ -1,7 +1,7 @@
 //! What is kept of a lane while its exchange with a card is told, and what is told of it that is no data
 //! object: statuses, kinds of cryptogram, a command without an answer. And what is known of a lane's
 //! terminal beside the report.
-#![tactic(auto, using(word_lines::proofs::Telling::telling))]
+#![tactic(auto)]
 
 pub mod kind;
 pub mod lane;

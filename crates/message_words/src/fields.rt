@@ -107,7 +107,7 @@ fn fixed_length(number: u32) -> Option<u32>
 
 /// The content of a field, and what stands behind it; `None` for a field that is not known, or that is cut
 /// off.
-#[tactic(auto, using(word_lines::proofs::Telling::telling), unfolding(crate::specs::Fields::cut_field))]
+#[tactic(auto, unfolding(crate::specs::Fields::cut_field))]
 pub(crate) fn cut_field(number: u32, bytes: &[u8]) -> Option<(&[u8], &[u8])>
     ensures { option_map (λ parts. (parts.0.now, parts.1.now)) result ≡ spec.cut_field number bytes.now }
 {

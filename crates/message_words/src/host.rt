@@ -92,7 +92,7 @@ fn tell_typed_call(out: &mut WordLines, first: Fields<'_>, message: &Message<'_>
 
 /// Tells a message to the issuer. `first` are the list and the data of the first GENERATE AC: objects of a
 /// request that it had as well are told by their tags alone.
-#[tactic(auto, using(word_lines::proofs::Telling::telling), unfolding(crate::specs::Messages::call_words))]
+#[tactic(auto, unfolding(crate::specs::Messages::call_words))]
 pub fn tell_call(out: &mut WordLines, first: Fields<'_>, message: &[u8], brief: bool)
     ensures { Tells out.old out.new (spec.call_words (fields_of first.entry.list.now first.entry.data.now) message.now brief) }
 {
@@ -125,7 +125,7 @@ fn settled_by_tag(message: &[u8]) -> Settled
 }
 
 /// Which message of the settlement this is.
-#[tactic(auto, using(word_lines::proofs::Telling::telling), unfolding(crate::specs::Messages::settled_by))]
+#[tactic(auto, unfolding(crate::specs::Messages::settled_by))]
 pub fn settled_by(message: &[u8]) -> Settled
     ensures { result ≡ spec.settled_by message.now }
 {
@@ -168,7 +168,7 @@ fn tell_objects_reply(out: &mut WordLines, reply: &[u8], style: &Style, brief: b
 }
 
 /// Tells a reply of the issuer, behind this message of the settlement.
-#[tactic(auto, using(word_lines::proofs::Telling::telling), unfolding(crate::specs::Messages::reply_words))]
+#[tactic(auto, unfolding(crate::specs::Messages::reply_words))]
 pub fn tell_reply(out: &mut WordLines, settled: Settled, reply: &[u8], brief: bool)
     ensures { Tells out.old out.new (spec.reply_words settled reply.now brief) }
 {
@@ -200,7 +200,7 @@ fn code_of_objects(reply: &[u8]) -> Option<[u8; 2]>
 }
 
 /// The response code of a reply, where it has one.
-#[tactic(auto, using(word_lines::proofs::Telling::telling), unfolding(crate::specs::Messages::code_in))]
+#[tactic(auto, unfolding(crate::specs::Messages::code_in))]
 pub fn code_in(reply: &[u8]) -> Option<[u8; 2]>
     ensures { result ≡ spec.code_in reply.now }
 {

@@ -54,7 +54,7 @@ fn known_type(digits: &[u8]) -> Option<u32>
 }
 
 /// The type of a message, and what stands behind it; `None` where it has none that is known.
-#[tactic(auto, using(word_lines::proofs::Telling::telling), unfolding(crate::specs::Iso::message_of))]
+#[tactic(auto, unfolding(crate::specs::Iso::message_of))]
 pub(crate) fn read_message(message: &[u8]) -> Option<Message<'_>>
     ensures { option_map spec.seen_message result ≡ spec.message_of message.now }
 {

@@ -1,5 +1,5 @@
 //! Messages to the issuer and its replies in words, in both dialects.
-#![tactic(auto, using(word_lines::proofs::Telling::telling))]
+#![tactic(auto)]
 
 pub mod fields;
 pub mod host;
