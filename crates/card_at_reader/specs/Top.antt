@@ -1,6 +1,7 @@
 -- What the program answers.
 use Rattle.std.specs.Prelude.{◌≡◌, ◌⊎◌, ℕ, List, [], ◌∷◌, ◌++◌, length, codes, Option, Some, None, Ok, Err}
 use Rattle.std.specs.Io.KnownBytes.{Appends, Consumes}
+use Rattle.emv_ports.specs.Growth.{AppendsFront}
 use Rattle.card_files.specs.Views.{ImageData}
 use Rattle.reader_lines.specs.Coming.{OfFirstLine}
 use Rattle.reader_lines.specs.Given.{IsDocument, NoDocument, length_in}
@@ -65,3 +66,9 @@ pub data IsOdd (name : Option (List ℕ)) (first before held : Option (List ℕ)
 -- the talk was broken off: nothing was written, or a front of a card's answers to some lines
 abbrev pub IsBroken : Option (List ℕ) → Option (List ℕ) → Type 0
 IsBroken before held = (held ≡ before) ⊎ ((image : ImageData) × IsCut image new_card before held)
+
+-- the sink failed: in the talk, in the line of a fault, or in the line that answers what is none of the talk
+pub data IsCutShort (before held : Option (List ℕ)) : Type 0 where
+  InTalk : IsBroken before held → IsCutShort before held
+  InRefusal : (fault : ScenarioFault) (line : List ℕ) → refused_line fault ≡ Some line → AppendsFront before held line → IsCutShort before held
+  InAnswer : (between : Option (List ℕ)) → IsBroken before between → AppendsFront between held (codes "?" ++ 10 ∷ []) → IsCutShort before held

@@ -2,6 +2,7 @@
 ghost use Rattle.std.specs.Prelude.{◌≡◌, ◌≢◌, ◌≤◌, ◌⊎◌, ◌++◌, ◌∷◌, [], List, ℕ, codes, map, string_bytes, true, false, None, Some, Ok, Err, option_map};
 ghost use Rattle.std.specs.Io.KnownBytes.{Appends};
 ghost use Rattle.emv_ports.specs.Causes.{Rose};
+ghost use Rattle.emv_ports.specs.Growth.{AppendsFront};
 ghost use Rattle.scenario.specs.declared.plan.NamedCard.{NamedCard as CardRow};
 ghost use Rattle.scenario_fields.specs.Line.{refused_line};
 ghost use Rattle.card_files.specs.Views.{ImageData};
@@ -9,7 +10,7 @@ ghost use Rattle.card_at_reader.specs.Desk.{new_card};
 ghost use Rattle.card_at_reader.specs.Document.{image_in, IsReading};
 ghost use Rattle.card_at_reader.specs.Talk.{IsAnswered};
 ghost use Rattle.card_at_reader.specs.Top as spec;
-ghost use Rattle.card_at_reader.specs.Top.{IsBroken, IsFault, IsHeld, IsOdd, IsOverfull, IsRefused, IsUnserved};
+ghost use Rattle.card_at_reader.specs.Top.{IsBroken, IsCutShort, IsFault, IsHeld, IsOdd, IsOverfull, IsRefused, IsUnserved};
 
 use crate::desk::put_in;
 use crate::document::{image_of, read_cards};
@@ -23,7 +24,9 @@ use std::alloc::Global;
 /// Answers a line that is none of the talk.
 fn answer_other<K: Sink>(sink: &mut K) -> u8
     ensures told { result ≡ 2 → Appends (K.held sink.old) (K.held sink.new) (codes "?" ++ 10 ∷ []) }
+    ensures front { result ≡ 4 → AppendsFront (K.held sink.old) (K.held sink.new) (codes "?" ++ 10 ∷ []) }
     ensures fault { result ≡ 4 → Rose (K.faults sink.old) (K.faults sink.new) }
+    ensures calm { result ≢ 4 → K.faults sink.new ≡ K.faults sink.old }
     ensures known { (result ≡ 2) ⊎ (result ≡ 4) }
 {
     match write_all(sink, b"?\n") {
@@ -36,7 +39,9 @@ fn answer_other<K: Sink>(sink: &mut K) -> u8
 fn refuse<K: Sink>(alloc: Global, fault: &ScenarioFault, sink: &mut K) -> u8
     ensures told { result ≡ 1 → (line : List ℕ) × (refused_line fault.now ≡ Some line) × Appends (K.held sink.old) (K.held sink.new) line }
     ensures unwritten { result ≡ 5 → K.held sink.new ≡ K.held sink.old }
+    ensures front { result ≡ 4 → (line : List ℕ) × (refused_line fault.now ≡ Some line) × AppendsFront (K.held sink.old) (K.held sink.new) line }
     ensures fault { result ≡ 4 → Rose (K.faults sink.old) (K.faults sink.new) }
+    ensures calm { result ≢ 4 → K.faults sink.new ≡ K.faults sink.old }
     ensures known { (result ≡ 1) ⊎ ((result ≡ 4) ⊎ (result ≡ 5)) }
 {
     match fault.line(alloc) {
@@ -61,8 +66,11 @@ fn hold<P: Pages, S: Source, K: Sink>(
     ensures done { result ≡ 0 → IsAnswered image.now new_card (S.left source.old) (S.left source.new) (K.held sink.old) (K.held sink.new) }
     ensures odd { result ≡ 2 → IsOverfull image.now (S.left source.old) (K.held sink.old) (K.held sink.new) }
     ensures broken { (result ≡ 3) ⊎ (result ≡ 5) → IsBroken (K.held sink.old) (K.held sink.new) }
+    ensures short { result ≡ 4 → IsCutShort (K.held sink.old) (K.held sink.new) }
     ensures source { result ≡ 3 → Rose (S.faults source.old) (S.faults source.new) }
     ensures sink { result ≡ 4 → Rose (K.faults sink.old) (K.faults sink.new) }
+    ensures source_calm { result ≢ 3 → S.faults source.new ≡ S.faults source.old }
+    ensures sink_calm { result ≢ 4 → K.faults sink.new ≡ K.faults sink.old }
     ensures known { (result ≤ 5) × (result ≢ 1) }
 {
     let mut desk = put_in(image, pages);
@@ -94,8 +102,11 @@ fn hold_document<P: Pages, S: Source, K: Sink>(
     ensures odd { result ≡ 2 → (cards : List CardRow) × IsReading bytes.now (Ok cards)
         × IsUnserved (option_map (λ name. name.now) name.entry) cards (S.left source.old) (K.held sink.old) (K.held sink.new) }
     ensures broken { (result ≡ 3) ⊎ (result ≡ 5) → IsBroken (K.held sink.old) (K.held sink.new) }
+    ensures short { result ≡ 4 → IsCutShort (K.held sink.old) (K.held sink.new) }
     ensures source { result ≡ 3 → Rose (S.faults source.old) (S.faults source.new) }
     ensures sink { result ≡ 4 → Rose (K.faults sink.old) (K.faults sink.new) }
+    ensures source_calm { result ≢ 3 → S.faults source.new ≡ S.faults source.old }
+    ensures sink_calm { result ≢ 4 → K.faults sink.new ≡ K.faults sink.old }
     ensures known { result ≤ 5 }
 {
     match read_cards(alloc, bytes) {
@@ -138,10 +149,15 @@ pub fn run<P: Pages, S: Source, K: Sink>(
     // to the lines before it, if any, and the line that answers that.
     ensures odd { result ≡ 2 → IsOdd (spec.name_in (map string_bytes words.now)) (S.left source.old) (K.held sink.old) (K.held sink.new) }
     // 3: the source failed, 4: the sink failed, 5: there was no memory. But for 4 the sink got a front of a card's
-    // answers, or nothing.
+    // answers, or nothing; with 4 behind it maybe a front of the line that answers what came, or a front of a fault's line
+    // alone.
     ensures broken { (result ≡ 3) ⊎ (result ≡ 5) → IsBroken (K.held sink.old) (K.held sink.new) }
+    ensures write_front { result ≡ 4 → IsCutShort (K.held sink.old) (K.held sink.new) }
     ensures read_fault { result ≡ 3 → Rose (S.faults source.old) (S.faults source.new) }
     ensures write_fault { result ≡ 4 → Rose (K.faults sink.old) (K.faults sink.new) }
+    // The source's count stays but for 3, the sink's but for 4.
+    ensures source_calm { result ≢ 3 → S.faults source.new ≡ S.faults source.old }
+    ensures sink_calm { result ≢ 4 → K.faults sink.new ≡ K.faults sink.old }
     ensures known { result ≤ 5 }
 {
     match read_given(alloc, source) {

@@ -2,11 +2,12 @@
 ghost use Rattle.std.specs.Prelude.{◌≡◌, ◌≢◌, ◌≤◌, ◌⊎◌, ◌++◌, ◌∷◌, [], List, ℕ, codes, length, Some, Ok, Err};
 ghost use Rattle.std.specs.Io.KnownBytes.{Appends};
 ghost use Rattle.emv_ports.specs.Causes.{Rose};
+ghost use Rattle.emv_ports.specs.Growth.{AppendsFront};
 ghost use Rattle.scenario_lanes.specs.Plan.{IsLane, LaneData};
 ghost use Rattle.scenario_fields.specs.Line.{refused_line};
 ghost use Rattle.scenario_fields.specs.declared.fault.ScenarioFault.{ScenarioFault as FaultRow};
 ghost use Rattle.terminal_at_reader.specs.Document.{IsReading};
-ghost use Rattle.terminal_at_reader.specs.Top.{IsBroken, IsHeld, IsOdd, IsRefused, IsTraced, IsUnheard};
+ghost use Rattle.terminal_at_reader.specs.Top.{IsBroken, IsCutShort, IsHeld, IsOdd, IsRefused, IsTraced, IsUnheard};
 
 use crate::document::read_terminal;
 use crate::talk::{Stop, converse};
@@ -20,7 +21,8 @@ use std::alloc::Global;
 /// Answers a line that is none of the talk.
 fn answer_other<K: Sink>(sink: &mut K) -> u8
     ensures told { result ≡ 2 → Appends (K.held sink.old) (K.held sink.new) (codes "?" ++ 10 ∷ []) }
-    ensures calm { result ≡ 2 → K.faults sink.new ≡ K.faults sink.old }
+    ensures calm { result ≢ 4 → K.faults sink.new ≡ K.faults sink.old }
+    ensures front { result ≡ 4 → AppendsFront (K.held sink.old) (K.held sink.new) (codes "?" ++ 10 ∷ []) }
     ensures fault { result ≡ 4 → Rose (K.faults sink.old) (K.faults sink.new) }
     ensures known { (result ≡ 2) ⊎ (result ≡ 4) }
 {
@@ -34,6 +36,7 @@ fn answer_other<K: Sink>(sink: &mut K) -> u8
 fn refuse<K: Sink>(alloc: Global, fault: &ScenarioFault, sink: &mut K) -> u8
     ensures told { result ≡ 1 → (line : List ℕ) × (refused_line fault.now ≡ Some line) × Appends (K.held sink.old) (K.held sink.new) line }
     ensures unwritten { result ≡ 5 → K.held sink.new ≡ K.held sink.old }
+    ensures front { result ≡ 4 → (line : List ℕ) × (refused_line fault.now ≡ Some line) × AppendsFront (K.held sink.old) (K.held sink.new) line }
     ensures fault { result ≡ 4 → Rose (K.faults sink.old) (K.faults sink.new) }
     ensures calm { result ≢ 4 → K.faults sink.new ≡ K.faults sink.old }
     ensures known { (result ≡ 1) ⊎ ((result ≡ 4) ⊎ (result ≡ 5)) }
@@ -54,8 +57,11 @@ fn hold<S: Source, K: Sink>(alloc: Global, lane: &Lane, source: &mut S, sink: &m
     ensures done { result ≡ 0 → IsTraced lane.now (S.left source.old) (S.left source.new) (K.held sink.old) (K.held sink.new) }
     ensures odd { result ≡ 2 → IsUnheard lane.now (S.left source.old) (K.held sink.old) (K.held sink.new) }
     ensures broken { (result ≡ 3) ⊎ (result ≡ 5) → IsBroken (K.held sink.old) (K.held sink.new) }
+    ensures short { result ≡ 4 → IsCutShort (K.held sink.old) (K.held sink.new) }
     ensures source { result ≡ 3 → Rose (S.faults source.old) (S.faults source.new) }
     ensures sink { result ≡ 4 → Rose (K.faults sink.old) (K.faults sink.new) }
+    ensures source_calm { result ≢ 3 → S.faults source.new ≡ S.faults source.old }
+    ensures sink_calm { result ≢ 4 → K.faults sink.new ≡ K.faults sink.old }
     ensures known { (result ≤ 5) × (result ≢ 1) }
 {
     let planned = &lane.purchases[0];
@@ -84,8 +90,11 @@ fn hold_document<S: Source, K: Sink>(
     ensures odd { result ≡ 2 → (lane : LaneData) × IsReading bytes.now (Ok lane)
         × IsUnheard lane (S.left source.old) (K.held sink.old) (K.held sink.new) }
     ensures broken { (result ≡ 3) ⊎ (result ≡ 5) → IsBroken (K.held sink.old) (K.held sink.new) }
+    ensures short { result ≡ 4 → IsCutShort (K.held sink.old) (K.held sink.new) }
     ensures source { result ≡ 3 → Rose (S.faults source.old) (S.faults source.new) }
     ensures sink { result ≡ 4 → Rose (K.faults sink.old) (K.faults sink.new) }
+    ensures source_calm { result ≢ 3 → S.faults source.new ≡ S.faults source.old }
+    ensures sink_calm { result ≢ 4 → K.faults sink.new ≡ K.faults sink.old }
     ensures known { result ≤ 5 }
 {
     match read_terminal(alloc, bytes) {
@@ -105,10 +114,15 @@ pub fn run<S: Source, K: Sink>(alloc: Global, source: &mut S, sink: &mut K) -> u
     // what was asked, if anything, and the line that answers what came.
     ensures odd { result ≡ 2 → IsOdd (S.left source.old) (K.held sink.old) (K.held sink.new) }
     // 3: the source failed, 4: the sink failed, 5: there was no memory. But for 4 the sink got a front of what is written
-    // in a whole dialogue, or nothing.
+    // in a whole dialogue, or nothing; with 4 behind it maybe a front of the line that answers what came, or a front of a
+    // fault's line alone.
     ensures broken { (result ≡ 3) ⊎ (result ≡ 5) → IsBroken (K.held sink.old) (K.held sink.new) }
+    ensures write_front { result ≡ 4 → IsCutShort (K.held sink.old) (K.held sink.new) }
     ensures read_fault { result ≡ 3 → Rose (S.faults source.old) (S.faults source.new) }
     ensures write_fault { result ≡ 4 → Rose (K.faults sink.old) (K.faults sink.new) }
+    // The source's count stays but for 3, the sink's but for 4.
+    ensures source_calm { result ≢ 3 → S.faults source.new ≡ S.faults source.old }
+    ensures sink_calm { result ≢ 4 → K.faults sink.new ≡ K.faults sink.old }
     ensures known { result ≤ 5 }
 {
     match read_given(alloc, source) {

@@ -1,9 +1,9 @@
-use Rattle.std.proofs.Common.{◌≡◌, Err, [], ◌∷◌, length, ap, sym, subst}
+use Rattle.std.proofs.Common.{◌≡◌, inr, Err, [], ◌∷◌, length, ap, sym, subst}
 use Rattle.kernel.specs.Kernel.{deal_in}
 use Rattle.scenario_lanes.specs.Plan.{LaneData}
 use Rattle.terminal_at_reader.proofs.Stuck.{unheard}
 use Rattle.terminal_at_reader.proofs.Talking.{one_of, traced}
-use Rattle.terminal_at_reader.specs.Top.{IsTraced, IsUnheard}
+use Rattle.terminal_at_reader.specs.Top.{InAnswer, IsTraced, IsUnheard}
 use Rattle.terminal_at_reader.specs.declared.talk.Stop.{Stop}
 use Rattle.terminal_at_reader.proofs.top.hold.Goals as goal
 
@@ -28,3 +28,7 @@ returns-in-Err-Other-clause-odd g c = λ two.
     (unheard seen (deal_in c.begin-kernel.result) c.index-planned.result.now (g.S.Source.left c.args.source.now) (g.K.Sink.held c.args.sink.now)
     (g.K.Sink.held c.converse.new.sink) (g.K.Sink.held c.answer_other.new.sink) one c.begin-kernel.ensures.deal_is
     (c.in-Err-Other.ensures.odd (ap (λ (stop : Stop). Err stop) c.in-Err-Other.field-0-is)) (c.answer_other.ensures.told two))
+
+pub returns-in-Err-Other-clause-short : goal.returns-in-Err-Other-clause-short
+returns-in-Err-Other-clause-short g c = λ four.
+    InAnswer (g.K.Sink.held c.converse.new.sink) (inr (deal_in c.begin-kernel.result, c.in-Err-Other.ensures.cut)) (c.answer_other.ensures.front four)

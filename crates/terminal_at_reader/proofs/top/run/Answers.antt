@@ -1,4 +1,5 @@
-use Rattle.terminal_at_reader.specs.Top.{Unheard}
+use Rattle.std.proofs.Common.{inl, refl}
+use Rattle.terminal_at_reader.specs.Top.{InAnswer, Unheard}
 use Rattle.terminal_at_reader.proofs.top.run.Goals as goal
 
 pub returns-in-Ok-Document-clause-odd : goal.returns-in-Ok-Document-clause-odd
@@ -6,3 +7,6 @@ returns-in-Ok-Document-clause-odd g c = λ two.
     let found = c.hold_document.ensures.odd two in
     Unheard c.as_slice.result.now (g.S.Source.left c.read_given.new.source)
     (rw c.as_slice.ensures.value (rw c.in-Ok-Document.field-0-is at c.in-Ok-Document.ensures.given)) found.0 found.1 found.2
+
+pub returns-in-Ok-Other-clause-write_front : goal.returns-in-Ok-Other-clause-write_front
+returns-in-Ok-Other-clause-write_front g c = λ four. InAnswer (g.K.Sink.held c.args.sink.now) (inl refl) (c.answer_other.ensures.front four)
