@@ -90,6 +90,25 @@ fn the_first_fault_is_told(rt: HostRuntime) {
     assert!(rt; fault(&REVERSAL).is_none());
 }
 
+/// The last half byte of each field of digits in the request, and the field's tag.
+const OF_DIGITS: [(usize, u32); 6] = [
+    (26, 0x5F34),
+    (32, 0x5F24),
+    (41, 0x9F02),
+    (50, 0x9F03),
+    (67, 0x5F2A),
+    (72, 0x9A),
+];
+
+#[test]
+fn half_bytes_that_are_no_digits_are_faults_of_their_fields(rt: HostRuntime) {
+    for (place, tag) in OF_DIGITS {
+        let mut bytes = REQUEST;
+        bytes[place] = 0x0A;
+        assert!(rt; fault(&bytes) == Some(MessageFault::Value(Tag(tag))));
+    }
+}
+
 #[test]
 fn the_least_place_of_a_fault_is_told(rt: HostRuntime) {
     // The last field ends in the message, and not in the outer item; a byte is left behind that one.
