@@ -151,6 +151,7 @@ fn kinds_and_amounts_are_bytes(rt: HostRuntime) {
     }
     assert_eq!(rt; amount_of([0, 0, 0, 0, 0, 0xFF]), 165);
     assert!(rt; is_code([0x08, 0x40]) && !is_code([0x18, 0x40]) && !is_code([0x08, 0x4A]));
+    assert!(rt; is_code([0x09, 0x99]) && !is_code([0x0A, 0x40]));
 }
 
 #[test]
