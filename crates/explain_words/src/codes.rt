@@ -142,14 +142,14 @@ pub const REFUSALS: [(u32, &[u8]); 6] = [
     (6, b"a card or a lane that is not there"),
 ];
 
-/// Message types of ISO 8583:1987.
+/// Message types of ISO 8583:1987, each as the number of its four digits.
 pub const MESSAGE_TYPES: [(u32, &[u8]); 6] = [
-    (0x0100, b"request"),
-    (0x0110, b"reply to a request"),
-    (0x0220, b"presentment"),
-    (0x0230, b"reply to a presentment"),
-    (0x0400, b"reversal"),
-    (0x0410, b"reply to a reversal"),
+    (100, b"request"),
+    (110, b"reply to a request"),
+    (220, b"presentment"),
+    (230, b"reply to a presentment"),
+    (400, b"reversal"),
+    (410, b"reply to a reversal"),
 ];
 
 /// Fields of ISO 8583:1987 messages.

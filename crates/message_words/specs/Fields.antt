@@ -11,25 +11,15 @@ is_digit byte = nat_le 48 byte && nat_le byte 57
 abbrev pub two_digits : ℕ → ℕ → Option ℕ
 two_digits high low = (if is_digit high && is_digit low then Some ((high - 48) * 10 + (low - 48)) else None)
 
-abbrev pub joined_by : ℕ → Option ℕ → Option ℕ → Option ℕ
-joined_by factor None low = None
-joined_by factor (Some high) None = None
-joined_by factor (Some high) (Some low) = Some (high * factor + low)
+abbrev pub joined : Option ℕ → Option ℕ → Option ℕ
+joined None low = None
+joined (Some high) None = None
+joined (Some high) (Some low) = Some (high * 100 + low)
 
 abbrev pub four_digits : List ℕ → Option ℕ
 four_digits digits =
     if length digits == 4
-    then joined_by 100 (two_digits (slice_index digits 0) (slice_index digits 1)) (two_digits (slice_index digits 2) (slice_index digits 3))
-    else None
-
--- the same as hexadecimal digits
-abbrev pub two_halves : ℕ → ℕ → Option ℕ
-two_halves high low = (if is_digit high && is_digit low then Some ((high - 48) * 16 + (low - 48)) else None)
-
-abbrev pub four_halves : List ℕ → Option ℕ
-four_halves digits =
-    if length digits == 4
-    then joined_by 256 (two_halves (slice_index digits 0) (slice_index digits 1)) (two_halves (slice_index digits 2) (slice_index digits 3))
+    then joined (two_digits (slice_index digits 0) (slice_index digits 1)) (two_digits (slice_index digits 2) (slice_index digits 3))
     else None
 
 -- so many bytes, and those behind them

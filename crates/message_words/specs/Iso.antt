@@ -8,7 +8,7 @@ use Rattle.list_words.specs.Plain.{hex_words}
 use Rattle.object_words.specs.Objects.{objects_words, value_words}
 use Rattle.object_words.specs.declared.style.Style.{Style}
 use Rattle.word_lines.specs.Pieces.{Piece, line, text, number}
-use Rattle.message_words.specs.Fields.{four_halves, cut_field, named_from, contents, begins_with_code}
+use Rattle.message_words.specs.Fields.{four_digits, cut_field, named_from, contents, begins_with_code}
 use Rattle.message_words.specs.Objects.{beside_words}
 use Rattle.message_words.specs.declared.iso.Message.{Message}
 
@@ -34,7 +34,7 @@ if_known None = None
 if_known (Some kind) = (if is_some (type_word kind) then Some kind else None)
 
 abbrev pub known_type : List ℕ → Option ℕ
-known_type digits = if_known (four_halves digits)
+known_type digits = if_known (four_digits digits)
 
 -- the message that these bytes are; none where they begin with no type that is known
 unfoldable pub message_of : List ℕ → Option MessageData

@@ -40,7 +40,7 @@ objects_call first message brief = request_or first (sole_value 0xE1 (items_of m
 
 -- one with a type
 abbrev pub repeats : List (ℕ × List ℕ) → ℕ → Option (List (ℕ × List ℕ))
-repeats first kind = (if kind == 0x0100 then Some first else None)
+repeats first kind = (if kind == 100 then Some first else None)
 
 abbrev pub typed_call : List (ℕ × List ℕ) → MessageData → Bool → List Piece
 typed_call first message brief = message_words (message_style 2 None) (repeats first message.kind) message brief
@@ -55,7 +55,7 @@ call_words first bytes brief = call_by first (message_of bytes) bytes brief
 
 -- which message of the settlement it is
 abbrev pub settled_by_type : ℕ → Settled
-settled_by_type kind = (if kind == 0x0220 then Presentment else if kind == 0x0400 then Reversal else Nothing)
+settled_by_type kind = (if kind == 220 then Presentment else if kind == 400 then Reversal else Nothing)
 
 abbrev pub settled_by_tag : List ℕ → Settled
 settled_by_tag bytes = (if slice_index bytes 0 == 0xE3 then Presentment else if slice_index bytes 0 == 0xE4 then Reversal else Nothing)

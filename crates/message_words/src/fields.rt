@@ -22,7 +22,7 @@ fn two_digits(high: u8, low: u8) -> Option<u32>
 }
 
 /// The number of four decimal digits.
-fn four_digits(digits: &[u8]) -> Option<u32>
+pub(crate) fn four_digits(digits: &[u8]) -> Option<u32>
     ensures { result ≡ spec.four_digits digits.now }
 {
     match digits {
@@ -30,32 +30,6 @@ fn four_digits(digits: &[u8]) -> Option<u32>
             let high = two_digits(*a, *b)?;
             let low = two_digits(*c, *d)?;
             Some(high * 100 + low)
-        }
-        _ => None,
-    }
-}
-
-/// The number of two decimal digits, read as hexadecimal ones.
-fn two_halves(high: u8, low: u8) -> Option<u32>
-    ensures exact { result ≡ spec.two_halves high low }
-    ensures most { IfSome result (λ number. number ≤ 255) }
-{
-    if is_digit(high) && is_digit(low) {
-        Some(u32::from(high - 48) * 16 + u32::from(low - 48))
-    } else {
-        None
-    }
-}
-
-/// The number of four decimal digits, read as hexadecimal ones.
-pub(crate) fn four_halves(digits: &[u8]) -> Option<u32>
-    ensures { result ≡ spec.four_halves digits.now }
-{
-    match digits {
-        [a, b, c, d] => {
-            let high = two_halves(*a, *b)?;
-            let low = two_halves(*c, *d)?;
-            Some(high * 256 + low)
         }
         _ => None,
     }

@@ -15,7 +15,7 @@ use object_words::{Style, tell_objects};
 use word_lines::WordLines;
 
 /// The message type of a request (ISO 8583:1987).
-const REQUEST: u32 = 0x0100;
+const REQUEST: u32 = 100;
 
 /// The last message of a lane's settlement.
 #[derive(Clone, Copy, PartialEq, Eq, Debug)]
@@ -107,8 +107,8 @@ fn settled_by_type(kind: u32) -> Settled
     ensures { result ≡ spec.settled_by_type kind }
 {
     match kind {
-        0x0220 => Settled::Presentment,
-        0x0400 => Settled::Reversal,
+        220 => Settled::Presentment,
+        400 => Settled::Reversal,
         _ => Settled::Nothing,
     }
 }

@@ -6,7 +6,7 @@ ghost use Rattle.message_words.specs.Fields.{cut_field};
 ghost use Rattle.message_words.specs.Iso as spec;
 ghost use Rattle.message_words.specs.Objects.{sent_before};
 
-use crate::fields::{begins_with_code, cut_field, four_halves, is_named};
+use crate::fields::{begins_with_code, cut_field, four_digits, is_named};
 use crate::objects::tell_objects_beside;
 use explain_words::{FIELDS, Form, MESSAGE_TYPES, word_of};
 use list_words::{Fields, tell_hex};
@@ -21,7 +21,7 @@ pub(crate) const DEPTH: u8 = 8;
 pub(crate) struct Message<'a> {
     /// The four digits of its type.
     pub digits: &'a [u8],
-    /// Its type, the digits as those of a hexadecimal number.
+    /// Its type, as the number of these digits.
     pub kind: u32,
     /// What stands behind the type.
     pub rest: &'a [u8],
@@ -45,7 +45,7 @@ fn field_word(number: u32) -> Option<&'static [u8]>
 fn known_type(digits: &[u8]) -> Option<u32>
     ensures { result ≡ spec.known_type digits.now }
 {
-    let kind = four_halves(digits)?;
+    let kind = four_digits(digits)?;
     if type_word(kind).is_some() {
         Some(kind)
     } else {
