@@ -1,20 +1,10 @@
 -- What the words before leave, and what is made of it by those behind.
-use Rattle.std.specs.Prelude.{ℕ, ◌+◌, ◌*◌, Bool, true, false, if◌then◌else◌, List, [], ◌∷◌, ◌++◌, Option, Some, None, is_some}
+use Rattle.std.specs.Prelude.{ℕ, Bool, true, false, if◌then◌else◌, List, [], ◌∷◌, ◌++◌, Option, Some, None, is_some}
 use Rattle.std.specs.List.{flat_map}
-use Rattle.hex.specs.Hex.{hex_digit_value}
 use Rattle.narrator.specs.State.{Manner}
 use Rattle.explain.specs.Grammar.{◌>>=◌, brief_in, ends_in, lane_given, purchase_given, terminal_given, manner_by, given_in}
 use Rattle.explain.specs.declared.options.Given.{Given}
 use Rattle.explain.specs.declared.options.Given.TheVariants.{Brief, Ends, Lane, Purchase, OneTerminal}
-
--- the byte of two hexadecimal digits
-abbrev pub byte_by : Option ℕ → Option ℕ → Option ℕ
-byte_by None low = None
-byte_by (Some high) None = None
-byte_by (Some high) (Some low) = Some (high * 16 + low)
-
-abbrev pub byte_of : ℕ → ℕ → Option ℕ
-byte_of high low = byte_by (hex_digit_value high) (hex_digit_value low)
 
 -- what was given stands in front of what is given
 abbrev pub flag : Bool → List Bool

@@ -1,6 +1,5 @@
 //! The words of the command line.
 ghost use Rattle.std.specs.Prelude.{◌≡◌, ◌<◌, ◌≤◌, ◌∷◌, length, map, string_bytes, true, false, Some, None, option_map, IfSome, IfOk, IfErr, OnOk};
-ghost use Rattle.hex.specs.Hex.{hex_digit_value};
 ghost use Rattle.report_lines.specs.Reading.{lane_in};
 ghost use Rattle.explain.specs.Grammar.{bytes_of, name_of, code_of, reach_in, partial_in, row_in, terminal_of, alone, with_argument, options_of, Refuses};
 ghost use Rattle.explain.specs.Taking as spec;
@@ -46,48 +45,18 @@ pub enum NoOptions {
     OutOfMemory,
 }
 
-/// The value of a hexadecimal digit of either case.
-fn digit_of(byte: u8) -> Option<u8>
-    ensures exact { result ≡ hex_digit_value byte }
-    ensures small { IfSome result (λ digit. digit < 16) }
-{
-    if b'0' <= byte && byte <= b'9' {
-        Some(byte - b'0')
-    } else if b'a' <= byte && byte <= b'f' {
-        Some(byte - b'a' + 10)
-    } else if b'A' <= byte && byte <= b'F' {
-        Some(byte - b'A' + 10)
-    } else {
-        None
-    }
-}
-
-/// The byte of two hexadecimal digits.
-fn byte_of(high: u8, low: u8) -> Option<u8>
-    ensures { result ≡ spec.byte_of high low }
-{
-    let high = digit_of(high)?;
-    let low = digit_of(low)?;
-    Some(high * 16 + low)
-}
-
 /// Up to 16 bytes in hexadecimal.
 fn read_bytes(text: &[u8]) -> Option<ArrayVec<u8, 16>>
     ensures some { IfSome result (λ bytes. bytes_of text.now ≡ Some bytes.items) }
     ensures few { IfSome result (λ bytes. length bytes.items ≤ 16) }
     ensures none { result ≡ None → IfSome (bytes_of text.now) (λ bytes. 16 < length bytes) }
 {
-    let mut bytes = ArrayVec::new();
-    let mut left = text;
-    while let [high, low, rest @ ..] = left {
-        let byte = byte_of(*high, *low)?;
-        if bytes.len() == 16 {
-            return None;
-        }
-        bytes.push(byte);
-        left = rest;
+    let mut bytes = ArrayVec::from([0u8; 16]);
+    bytes.truncate(text.len() / 2);
+    match hex::decode_to_slice(text, bytes.as_mut_slice()) {
+        Ok(()) => Some(bytes),
+        Err(_) => None,
     }
-    if left.is_empty() { Some(bytes) } else { None }
 }
 
 /// The name of an application: 5 to 16 bytes.
