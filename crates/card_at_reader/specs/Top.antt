@@ -17,15 +17,19 @@ abbrev pub name_in : List (List ℕ) → Option (List ℕ)
 name_in [] = None
 name_in (name ∷ words) = Some name
 
+-- a document's card of this name, with these applications
+pub record IsServed (name : Option (List ℕ)) (bytes : List ℕ) (image : ImageData) : Type 0 where
+  pub cards : List NamedCard
+  pub reading : IsReading bytes (Ok cards)
+  pub image_is : image_in name cards ≡ Some image
+
 -- a document was read, and a card in it of this name, which answered each line from the day that it was made
 pub record IsHeld (name : Option (List ℕ)) (first left before held : Option (List ℕ)) : Type 0 where
   pub line : List ℕ
   pub bytes : List ℕ
   pub says : length_in line ≡ Some (length bytes)
-  pub cards : List NamedCard
-  pub reading : IsReading bytes (Ok cards)
   pub image : ImageData
-  pub image_is : image_in name cards ≡ Some image
+  pub served : IsServed name bytes image
   pub between : Option (List ℕ)
   pub document : Consumes first between ((line ++ 10 ∷ []) ++ bytes)
   pub talk : IsAnswered image new_card between left before held
@@ -63,12 +67,33 @@ pub data IsOdd (name : Option (List ℕ)) (first before held : Option (List ℕ)
   Unserved : (bytes : List ℕ) (between : Option (List ℕ)) → IsDocument first between bytes → (cards : List NamedCard) → IsReading bytes (Ok cards)
       → IsUnserved name cards between before held → IsOdd name first before held
 
--- the talk was broken off: nothing was written, or a front of a card's answers to some lines
-abbrev pub IsBroken : Option (List ℕ) → Option (List ℕ) → Type 0
-IsBroken before held = (held ≡ before) ⊎ ((image : ImageData) × IsCut image new_card before held)
+-- nothing was written; or a document was read, and the talk of its card was broken off
+abbrev pub IsBrokenIn : Option (List ℕ) → List ℕ → Option (List ℕ) → Option (List ℕ) → Type 0
+IsBrokenIn name bytes before held = (held ≡ before) ⊎ ((image : ImageData) × IsServed name bytes image × IsCut image new_card before held)
 
--- the sink failed: in the talk, in the line of a fault, or in the line that answers what is none of the talk
-pub data IsCutShort (before held : Option (List ℕ)) : Type 0 where
-  InTalk : IsBroken before held → IsCutShort before held
-  InRefusal : (fault : ScenarioFault) (line : List ℕ) → refused_line fault ≡ Some line → AppendsFront before held line → IsCutShort before held
-  InAnswer : (between : Option (List ℕ)) → IsBroken before between → AppendsFront between held (codes "?" ++ 10 ∷ []) → IsCutShort before held
+pub data IsBroken (name : Option (List ℕ)) (first before held : Option (List ℕ)) : Type 0 where
+  Silent : held ≡ before → IsBroken name first before held
+  InTalk : (bytes : List ℕ) (between : Option (List ℕ)) → IsDocument first between bytes → IsBrokenIn name bytes before held
+      → IsBroken name first before held
+
+-- a new card answered lines, and of the line that answers what is no line of a talk a front was written
+pub record IsHalfAnswered (image : ImageData) (first before held : Option (List ℕ)) : Type 0 where
+  pub between : Option (List ℕ)
+  pub full : IsFull image new_card first before between
+  pub front : AppendsFront between held (codes "?" ++ 10 ∷ [])
+
+-- the sink failed behind a document: in the line of its fault, in the one that answers that there is no such card, in the
+-- talk of its card, or in the line that answers what is no line of a talk
+pub data IsCutIn (name : Option (List ℕ)) (bytes : List ℕ) (left before held : Option (List ℕ)) : Type 0 where
+  InRefusal : (fault : ScenarioFault) (line : List ℕ) → IsReading bytes (Err fault) → refused_line fault ≡ Some line → AppendsFront before held line
+      → IsCutIn name bytes left before held
+  NoCard : (cards : List NamedCard) → IsReading bytes (Ok cards) → image_in name cards ≡ None → AppendsFront before held (codes "?" ++ 10 ∷ [])
+      → IsCutIn name bytes left before held
+  InAnswers : (image : ImageData) → IsServed name bytes image → IsCut image new_card before held → IsCutIn name bytes left before held
+  InAnswer : (image : ImageData) → IsServed name bytes image → IsHalfAnswered image left before held → IsCutIn name bytes left before held
+
+-- the sink failed in the line that answers what is no document, or behind one
+pub data IsCutShort (name : Option (List ℕ)) (first before held : Option (List ℕ)) : Type 0 where
+  AtFirst : OfFirstLine NoDocument first → AppendsFront before held (codes "?" ++ 10 ∷ []) → IsCutShort name first before held
+  Behind : (bytes : List ℕ) (between : Option (List ℕ)) → IsDocument first between bytes → IsCutIn name bytes between before held
+      → IsCutShort name first before held

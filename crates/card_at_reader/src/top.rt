@@ -8,9 +8,9 @@ ghost use Rattle.scenario_fields.specs.Line.{refused_line};
 ghost use Rattle.card_files.specs.Views.{ImageData};
 ghost use Rattle.card_at_reader.specs.Desk.{new_card};
 ghost use Rattle.card_at_reader.specs.Document.{image_in, IsReading};
-ghost use Rattle.card_at_reader.specs.Talk.{IsAnswered};
+ghost use Rattle.card_at_reader.specs.Talk.{IsAnswered, IsCut};
 ghost use Rattle.card_at_reader.specs.Top as spec;
-ghost use Rattle.card_at_reader.specs.Top.{IsBroken, IsCutShort, IsFault, IsHeld, IsOdd, IsOverfull, IsRefused, IsUnserved};
+ghost use Rattle.card_at_reader.specs.Top.{IsBroken, IsBrokenIn, IsCutIn, IsCutShort, IsFault, IsHalfAnswered, IsHeld, IsOdd, IsOverfull, IsRefused, IsServed, IsUnserved};
 
 use crate::desk::put_in;
 use crate::document::{image_of, read_cards};
@@ -65,8 +65,9 @@ fn hold<P: Pages, S: Source, K: Sink>(
     requires plan { (P.memory pages).plan ≡ None }
     ensures done { result ≡ 0 → IsAnswered image.now new_card (S.left source.old) (S.left source.new) (K.held sink.old) (K.held sink.new) }
     ensures odd { result ≡ 2 → IsOverfull image.now (S.left source.old) (K.held sink.old) (K.held sink.new) }
-    ensures broken { (result ≡ 3) ⊎ (result ≡ 5) → IsBroken (K.held sink.old) (K.held sink.new) }
-    ensures short { result ≡ 4 → IsCutShort (K.held sink.old) (K.held sink.new) }
+    ensures broken { (result ≡ 3) ⊎ (result ≡ 5) → IsCut image.now new_card (K.held sink.old) (K.held sink.new) }
+    ensures short { result ≡ 4 → IsCut image.now new_card (K.held sink.old) (K.held sink.new)
+        ⊎ IsHalfAnswered image.now (S.left source.old) (K.held sink.old) (K.held sink.new) }
     ensures source { result ≡ 3 → Rose (S.faults source.old) (S.faults source.new) }
     ensures sink { result ≡ 4 → Rose (K.faults sink.old) (K.faults sink.new) }
     ensures source_calm { result ≢ 3 → S.faults source.new ≡ S.faults source.old }
@@ -94,15 +95,14 @@ fn hold_document<P: Pages, S: Source, K: Sink>(
 ) -> u8
     requires off { (P.memory pages).on ≡ false }
     requires plan { (P.memory pages).plan ≡ None }
-    ensures done { result ≡ 0 → (cards : List CardRow) × IsReading bytes.now (Ok cards)
-        × (image : ImageData) × (image_in (option_map (λ name. name.now) name.entry) cards ≡ Some image)
+    ensures done { result ≡ 0 → (image : ImageData) × IsServed (option_map (λ name. name.now) name.entry) bytes.now image
         × IsAnswered image new_card (S.left source.old) (S.left source.new) (K.held sink.old) (K.held sink.new) }
     ensures refused { result ≡ 1 → IsFault bytes.now (K.held sink.old) (K.held sink.new) }
     ensures unread { result ≡ 1 → source.new ≡ source.old }
     ensures odd { result ≡ 2 → (cards : List CardRow) × IsReading bytes.now (Ok cards)
         × IsUnserved (option_map (λ name. name.now) name.entry) cards (S.left source.old) (K.held sink.old) (K.held sink.new) }
-    ensures broken { (result ≡ 3) ⊎ (result ≡ 5) → IsBroken (K.held sink.old) (K.held sink.new) }
-    ensures short { result ≡ 4 → IsCutShort (K.held sink.old) (K.held sink.new) }
+    ensures broken { (result ≡ 3) ⊎ (result ≡ 5) → IsBrokenIn (option_map (λ name. name.now) name.entry) bytes.now (K.held sink.old) (K.held sink.new) }
+    ensures short { result ≡ 4 → IsCutIn (option_map (λ name. name.now) name.entry) bytes.now (S.left source.old) (K.held sink.old) (K.held sink.new) }
     ensures source { result ≡ 3 → Rose (S.faults source.old) (S.faults source.new) }
     ensures sink { result ≡ 4 → Rose (K.faults sink.old) (K.faults sink.new) }
     ensures source_calm { result ≢ 3 → S.faults source.new ≡ S.faults source.old }
@@ -148,11 +148,11 @@ pub fn run<P: Pages, S: Source, K: Sink>(
     // 2: no document stands first, it has no such card with applications, or a line is too long. The sink got the answers
     // to the lines before it, if any, and the line that answers that.
     ensures odd { result ≡ 2 → IsOdd (spec.name_in (map string_bytes words.now)) (S.left source.old) (K.held sink.old) (K.held sink.new) }
-    // 3: the source failed, 4: the sink failed, 5: there was no memory. But for 4 the sink got a front of a card's
-    // answers, or nothing; with 4 behind it maybe a front of the line that answers what came, or a front of a fault's line
-    // alone.
-    ensures broken { (result ≡ 3) ⊎ (result ≡ 5) → IsBroken (K.held sink.old) (K.held sink.new) }
-    ensures write_front { result ≡ 4 → IsCutShort (K.held sink.old) (K.held sink.new) }
+    // 3: the source failed, 4: the sink failed, 5: there was no memory. But for 4 the sink got nothing, or a front of the
+    // answers of the document's card; with 4 maybe all of them so far, and a front of the line that answers what came, or a
+    // front of that line or of the line of the document's own fault alone.
+    ensures broken { (result ≡ 3) ⊎ (result ≡ 5) → IsBroken (spec.name_in (map string_bytes words.now)) (S.left source.old) (K.held sink.old) (K.held sink.new) }
+    ensures write_front { result ≡ 4 → IsCutShort (spec.name_in (map string_bytes words.now)) (S.left source.old) (K.held sink.old) (K.held sink.new) }
     ensures read_fault { result ≡ 3 → Rose (S.faults source.old) (S.faults source.new) }
     ensures write_fault { result ≡ 4 → Rose (K.faults sink.old) (K.faults sink.new) }
     // The source's count stays but for 3, the sink's but for 4.

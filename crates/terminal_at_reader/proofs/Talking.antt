@@ -27,7 +27,7 @@ use Rattle.trace_check.specs.declared.entry.Entry.TheVariants.{ToCard, ToHost, E
 use Rattle.scenario_lanes.specs.Plan.{LaneData}
 use Rattle.scenario_lanes.specs.declared.plan.Planned.{Planned}
 use Rattle.trace_check.specs.Verdicts.{verdict_on}
-use Rattle.terminal_at_reader.specs.Top.{IsTraced}
+use Rattle.terminal_at_reader.specs.Top.{IsCutOff, IsTraced}
 use Rattle.terminal_at_reader.specs.Talk.{line_of, written_by, heard_by, written, heard, Talked, begins, goes, SoFar, Heard, IsWhole, IsCut}
 
 -- what a dialogue does next is written
@@ -222,8 +222,18 @@ traced lane deal planned first left before held one same whole = record {
   told = whole.told;
 }
 
+-- the talk of the lane's terminal is broken off
+pub cut_off : (lane : LaneData) (deal : Deal) (planned : Planned) (before held : Option (List ℕ)) → lane.purchases ≡ planned ∷ []
+    → deal ≡ record { settings = lane.settings; purchase = planned.purchase } → IsCut deal before held → IsCutOff lane before held
+cut_off lane deal planned before held one same cut =
+    record { planned = planned; one = one; cut = subst (λ (d : Deal). IsCut d before held) same cut }
+
 -- the only purchase is the first
-pub one_of : (planned : List Planned) (first : Planned) → length planned ≡ 1 → first ≡ slice_index_or planned 0 first → planned ≡ first ∷ []
+one_of : (planned : List Planned) (first : Planned) → length planned ≡ 1 → first ≡ slice_index_or planned 0 first → planned ≡ first ∷ []
 one_of [] first one is = absurd (omega arith)
 one_of (a ∷ []) first one is = ap (λ (p : Planned). p ∷ []) (sym is)
 one_of (a ∷ b ∷ more) first one is = absurd (omega arith)
+
+pub only_planned : (seen lane : LaneData) (first : Planned) → seen ≡ lane → length lane.purchases ≡ 1 → first ≡ slice_index_or seen.purchases 0 first
+    → seen.purchases ≡ first ∷ []
+only_planned seen lane first same one is = one_of seen.purchases first (subst (λ (l : LaneData). length l.purchases ≡ 1) (sym same) one) is

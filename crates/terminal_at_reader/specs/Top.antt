@@ -8,7 +8,6 @@ use Rattle.scenario_fields.specs.Line.{refused_line}
 use Rattle.scenario_fields.specs.declared.fault.ScenarioFault.{ScenarioFault}
 use Rattle.scenario_lanes.specs.Plan.{LaneData}
 use Rattle.scenario_lanes.specs.declared.plan.Planned.{Planned}
-use Rattle.terminal_state.specs.Terminal.{Deal}
 use Rattle.trace_check.specs.Verdicts.{verdict_of}
 use Rattle.trace_check.specs.declared.compare.Verdict.TheVariants.{Same}
 use Rattle.trace_check.specs.declared.entry.Entry.{Entry}
@@ -59,12 +58,38 @@ pub data IsOdd (first before held : Option (List ℕ)) : Type 0 where
   Unheard : (bytes : List ℕ) (between : Option (List ℕ)) → IsDocument first between bytes → (lane : LaneData) → IsReading bytes (Ok lane)
       → IsUnheard lane between before held → IsOdd first before held
 
--- the talk was broken off: nothing was written, or a front of what is written in some whole dialogue
-abbrev pub IsBroken : Option (List ℕ) → Option (List ℕ) → Type 0
-IsBroken before held = (held ≡ before) ⊎ ((deal : Deal) × IsCut deal before held)
+-- the talk of a lane's terminal was broken off
+pub record IsCutOff (lane : LaneData) (before held : Option (List ℕ)) : Type 0 where
+  pub planned : Planned
+  pub one : lane.purchases ≡ planned ∷ []
+  pub cut : IsCut (record { settings = lane.settings; purchase = planned.purchase }) before held
 
--- the sink failed: in the talk, in the line of a fault, or in the line that answers what is none of the talk
-pub data IsCutShort (before held : Option (List ℕ)) : Type 0 where
-  InTalk : IsBroken before held → IsCutShort before held
-  InRefusal : (fault : ScenarioFault) (line : List ℕ) → refused_line fault ≡ Some line → AppendsFront before held line → IsCutShort before held
-  InAnswer : (between : Option (List ℕ)) → IsBroken before between → AppendsFront between held (codes "?" ++ 10 ∷ []) → IsCutShort before held
+-- of the line that answers what it does not await a front was written
+pub record IsHalfAnswered (lane : LaneData) (first before held : Option (List ℕ)) : Type 0 where
+  pub planned : Planned
+  pub one : lane.purchases ≡ planned ∷ []
+  pub between : Option (List ℕ)
+  pub stuck : IsStuck (record { settings = lane.settings; purchase = planned.purchase }) first before between
+  pub front : AppendsFront between held (codes "?" ++ 10 ∷ [])
+
+-- nothing was written; or a document was read, and the talk of its terminal was broken off
+abbrev pub IsBrokenIn : List ℕ → Option (List ℕ) → Option (List ℕ) → Type 0
+IsBrokenIn bytes before held = (held ≡ before) ⊎ ((lane : LaneData) × IsReading bytes (Ok lane) × IsCutOff lane before held)
+
+pub data IsBroken (first before held : Option (List ℕ)) : Type 0 where
+  Silent : held ≡ before → IsBroken first before held
+  InTalk : (bytes : List ℕ) (between : Option (List ℕ)) → IsDocument first between bytes → IsBrokenIn bytes before held → IsBroken first before held
+
+-- the sink failed behind a document: in the line of its fault, in the talk of its terminal, or in the line that answers
+-- what that does not await
+pub data IsCutIn (bytes : List ℕ) (left before held : Option (List ℕ)) : Type 0 where
+  InRefusal : (fault : ScenarioFault) (line : List ℕ) → IsReading bytes (Err fault) → refused_line fault ≡ Some line → AppendsFront before held line
+      → IsCutIn bytes left before held
+  InDialogue : (lane : LaneData) → IsReading bytes (Ok lane) → IsCutOff lane before held → IsCutIn bytes left before held
+  InAnswer : (lane : LaneData) → IsReading bytes (Ok lane) → IsHalfAnswered lane left before held → IsCutIn bytes left before held
+
+-- the sink failed in the line that answers what is no document, or behind one
+pub data IsCutShort (first before held : Option (List ℕ)) : Type 0 where
+  AtFirst : OfFirstLine NoDocument first → AppendsFront before held (codes "?" ++ 10 ∷ []) → IsCutShort first before held
+  Behind : (bytes : List ℕ) (between : Option (List ℕ)) → IsDocument first between bytes → IsCutIn bytes between before held
+      → IsCutShort first before held

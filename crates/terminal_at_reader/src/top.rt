@@ -7,7 +7,7 @@ ghost use Rattle.scenario_lanes.specs.Plan.{IsLane, LaneData};
 ghost use Rattle.scenario_fields.specs.Line.{refused_line};
 ghost use Rattle.scenario_fields.specs.declared.fault.ScenarioFault.{ScenarioFault as FaultRow};
 ghost use Rattle.terminal_at_reader.specs.Document.{IsReading};
-ghost use Rattle.terminal_at_reader.specs.Top.{IsBroken, IsCutShort, IsHeld, IsOdd, IsRefused, IsTraced, IsUnheard};
+ghost use Rattle.terminal_at_reader.specs.Top.{IsBroken, IsBrokenIn, IsCutIn, IsCutOff, IsCutShort, IsHalfAnswered, IsHeld, IsOdd, IsRefused, IsTraced, IsUnheard};
 
 use crate::document::read_terminal;
 use crate::talk::{Stop, converse};
@@ -56,8 +56,9 @@ fn hold<S: Source, K: Sink>(alloc: Global, lane: &Lane, source: &mut S, sink: &m
     requires rules { IsLane lane.now }
     ensures done { result ≡ 0 → IsTraced lane.now (S.left source.old) (S.left source.new) (K.held sink.old) (K.held sink.new) }
     ensures odd { result ≡ 2 → IsUnheard lane.now (S.left source.old) (K.held sink.old) (K.held sink.new) }
-    ensures broken { (result ≡ 3) ⊎ (result ≡ 5) → IsBroken (K.held sink.old) (K.held sink.new) }
-    ensures short { result ≡ 4 → IsCutShort (K.held sink.old) (K.held sink.new) }
+    ensures broken { (result ≡ 3) ⊎ (result ≡ 5) → IsCutOff lane.now (K.held sink.old) (K.held sink.new) }
+    ensures short { result ≡ 4 → IsCutOff lane.now (K.held sink.old) (K.held sink.new)
+        ⊎ IsHalfAnswered lane.now (S.left source.old) (K.held sink.old) (K.held sink.new) }
     ensures source { result ≡ 3 → Rose (S.faults source.old) (S.faults source.new) }
     ensures sink { result ≡ 4 → Rose (K.faults sink.old) (K.faults sink.new) }
     ensures source_calm { result ≢ 3 → S.faults source.new ≡ S.faults source.old }
@@ -89,8 +90,8 @@ fn hold_document<S: Source, K: Sink>(
     ensures unread { result ≡ 1 → source.new ≡ source.old }
     ensures odd { result ≡ 2 → (lane : LaneData) × IsReading bytes.now (Ok lane)
         × IsUnheard lane (S.left source.old) (K.held sink.old) (K.held sink.new) }
-    ensures broken { (result ≡ 3) ⊎ (result ≡ 5) → IsBroken (K.held sink.old) (K.held sink.new) }
-    ensures short { result ≡ 4 → IsCutShort (K.held sink.old) (K.held sink.new) }
+    ensures broken { (result ≡ 3) ⊎ (result ≡ 5) → IsBrokenIn bytes.now (K.held sink.old) (K.held sink.new) }
+    ensures short { result ≡ 4 → IsCutIn bytes.now (S.left source.old) (K.held sink.old) (K.held sink.new) }
     ensures source { result ≡ 3 → Rose (S.faults source.old) (S.faults source.new) }
     ensures sink { result ≡ 4 → Rose (K.faults sink.old) (K.faults sink.new) }
     ensures source_calm { result ≢ 3 → S.faults source.new ≡ S.faults source.old }
@@ -113,11 +114,11 @@ pub fn run<S: Source, K: Sink>(alloc: Global, source: &mut S, sink: &mut K) -> u
     // 2: no document stands first; or what the terminal asked last is followed by no reply that it awaits. The sink got
     // what was asked, if anything, and the line that answers what came.
     ensures odd { result ≡ 2 → IsOdd (S.left source.old) (K.held sink.old) (K.held sink.new) }
-    // 3: the source failed, 4: the sink failed, 5: there was no memory. But for 4 the sink got a front of what is written
-    // in a whole dialogue, or nothing; with 4 behind it maybe a front of the line that answers what came, or a front of a
-    // fault's line alone.
-    ensures broken { (result ≡ 3) ⊎ (result ≡ 5) → IsBroken (K.held sink.old) (K.held sink.new) }
-    ensures write_front { result ≡ 4 → IsCutShort (K.held sink.old) (K.held sink.new) }
+    // 3: the source failed, 4: the sink failed, 5: there was no memory. But for 4 the sink got nothing, or a front of what
+    // is written in a whole dialogue of the document's terminal; with 4 maybe all of it so far, and a front of the line that
+    // answers what came, or a front of that line or of the line of the document's own fault alone.
+    ensures broken { (result ≡ 3) ⊎ (result ≡ 5) → IsBroken (S.left source.old) (K.held sink.old) (K.held sink.new) }
+    ensures write_front { result ≡ 4 → IsCutShort (S.left source.old) (K.held sink.old) (K.held sink.new) }
     ensures read_fault { result ≡ 3 → Rose (S.faults source.old) (S.faults source.new) }
     ensures write_fault { result ≡ 4 → Rose (K.faults sink.old) (K.faults sink.new) }
     // The source's count stays but for 3, the sink's but for 4.

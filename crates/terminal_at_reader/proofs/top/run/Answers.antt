@@ -1,5 +1,4 @@
-use Rattle.std.proofs.Common.{inl, refl}
-use Rattle.terminal_at_reader.specs.Top.{InAnswer, Unheard}
+use Rattle.terminal_at_reader.specs.Top.{AtFirst, Behind, InTalk, Unheard}
 use Rattle.terminal_at_reader.proofs.top.run.Goals as goal
 
 pub returns-in-Ok-Document-clause-odd : goal.returns-in-Ok-Document-clause-odd
@@ -8,5 +7,16 @@ returns-in-Ok-Document-clause-odd g c = λ two.
     Unheard c.as_slice.result.now (g.S.Source.left c.read_given.new.source)
     (rw c.as_slice.ensures.value (rw c.in-Ok-Document.field-0-is at c.in-Ok-Document.ensures.given)) found.0 found.1 found.2
 
+pub returns-in-Ok-Document-clause-broken : goal.returns-in-Ok-Document-clause-broken
+returns-in-Ok-Document-clause-broken g c = λ why.
+    InTalk c.as_slice.result.now (g.S.Source.left c.read_given.new.source)
+    (rw c.as_slice.ensures.value (rw c.in-Ok-Document.field-0-is at c.in-Ok-Document.ensures.given)) (c.hold_document.ensures.broken why)
+
+pub returns-in-Ok-Document-clause-write_front : goal.returns-in-Ok-Document-clause-write_front
+returns-in-Ok-Document-clause-write_front g c = λ four.
+    Behind c.as_slice.result.now (g.S.Source.left c.read_given.new.source)
+    (rw c.as_slice.ensures.value (rw c.in-Ok-Document.field-0-is at c.in-Ok-Document.ensures.given)) (c.hold_document.ensures.short four)
+
 pub returns-in-Ok-Other-clause-write_front : goal.returns-in-Ok-Other-clause-write_front
-returns-in-Ok-Other-clause-write_front g c = λ four. InAnswer (g.K.Sink.held c.args.sink.now) (inl refl) (c.answer_other.ensures.front four)
+returns-in-Ok-Other-clause-write_front g c = λ four.
+    AtFirst (rw c.in-Ok-Other.field-0-is at c.in-Ok-Other.ensures.given) (c.answer_other.ensures.front four)
