@@ -273,6 +273,7 @@ STATUS_OF = {
     ('20', '9000'): 'the PIN is right',
     ('82', '9000'): 'the response cryptogram is right',
     ('82', '6300'): 'the response cryptogram is wrong',
+    ('ae', '6700'): 'the data are not as long as the card wants',
 }
 
 # Script commands by class, instruction, P1 and P2.
