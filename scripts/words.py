@@ -229,6 +229,14 @@ AC = {
     192: 'reserved',
 }
 
+# Card status update (Book 2 section 8.2.2), but its first bit.
+UPDATE = {
+    28: 'reset the totals',
+    27: 'block the application',
+    26: 'block the card',
+    25: 'PIN tries to their limit',
+}
+
 # Authorisation response codes (Book 4 Annex A6).
 ARC = {
     'Y1': 'offline approved',
