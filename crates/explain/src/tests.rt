@@ -162,13 +162,18 @@ fn the_terminals_codes_come_as_words(rt: HostRuntime) -> Result<(), Fail> {
 
 #[test]
 fn other_words_give_the_usage_line(rt: HostRuntime) -> Result<(), Fail> {
-    let rows: [&[&str]; 8] = [
+    let rows: [&[&str]; 10] = [
         &["x"],
         &["--lane"],
         &["--lane", "16"],
         &["--lane", "1", "--lane", "1"],
         &["--purchase", "one"],
         &["--brief", "--brief"],
+        &["--purchase", "1", "--purchase", "1"],
+        &[
+            "--terminal",
+            "0,22,A000000003,2,0000000000,0000000000,0000000000",
+        ],
         &[
             "--terminal",
             "0,27,A000000003,0,0000000000,0000000000,0000000000",
