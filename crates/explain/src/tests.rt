@@ -162,7 +162,7 @@ fn the_terminals_codes_come_as_words(rt: HostRuntime) -> Result<(), Fail> {
 
 #[test]
 fn other_words_give_the_usage_line(rt: HostRuntime) -> Result<(), Fail> {
-    let rows: [&[&str]; 10] = [
+    let rows: [&[&str]; 11] = [
         &["x"],
         &["--lane"],
         &["--lane", "16"],
@@ -173,6 +173,10 @@ fn other_words_give_the_usage_line(rt: HostRuntime) -> Result<(), Fail> {
         &[
             "--terminal",
             "0,22,A000000003,2,0000000000,0000000000,0000000000",
+        ],
+        &[
+            "--terminal",
+            "0,22,A000000003,0,00000000,0000000000,0000000000",
         ],
         &[
             "--terminal",
