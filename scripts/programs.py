@@ -161,12 +161,12 @@ def minutes(start):
 def keep_program(folder, ended):
     """The toolchain removes a trial's program when it has ended: a second name for it keeps it."""
     while not ended.is_set():
-        for program in folder.glob("**/program"):
-            try:
+        try:
+            for program in folder.glob("**/program"):
                 os.link(program, folder / "kept")
                 return
-            except OSError:
-                pass
+        except OSError:
+            pass  # it, or a folder that was looked through, went meanwhile
         time.sleep(0.001)
 
 

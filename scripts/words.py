@@ -229,6 +229,14 @@ AC = {
     192: 'reserved',
 }
 
+# Card status update (Book 2 section 8.2.2), but its first bit.
+UPDATE = {
+    28: 'reset the totals',
+    27: 'block the application',
+    26: 'block the card',
+    25: 'PIN tries to their limit',
+}
+
 # Authorisation response codes (Book 4 Annex A6).
 ARC = {
     'Y1': 'offline approved',
@@ -273,6 +281,7 @@ STATUS_OF = {
     ('20', '9000'): 'the PIN is right',
     ('82', '9000'): 'the response cryptogram is right',
     ('82', '6300'): 'the response cryptogram is wrong',
+    ('ae', '6700'): 'the data are not as long as the card wants',
 }
 
 # Script commands by class, instruction, P1 and P2.

@@ -9,10 +9,14 @@ L0 power c1 10,9,0,0,3,0
 L1 power c2 1,0,0,0,3,0
 L0 > 80ca9f1700
 L0 < 9f1701039000
-L0 end 1 cut read tvr=0000000000 tsi=0000 cvm=000000 arc=-- atc=---- ac=---------------- scripts=-
+L0 end 1 cut read tvr=8000000000 tsi=0000 cvm=000000 arc=-- atc=---- ac=---------------- scripts=-
 L0 power c1 torn
+L0 end 2 lost
+L0 power x canned
 S1 > e4098a025a339f3602000b
+A c1 power torn
 done 2
+of another form
 no newline";
 
 /// The exit status, and what the sink holds. The calls of source and sink with these numbers fail.
@@ -42,13 +46,21 @@ L1 power c2 1,0,0,0,3,0
 L0 > 80ca9f1700
   GET DATA 9F17 Personal Identification Number (PIN) Try Counter
 L0 < 9f1701039000
-L0 end 1 cut read tvr=0000000000 tsi=0000 cvm=000000 arc=-- atc=---- ac=---------------- scripts=-
+L0 end 1 cut read tvr=8000000000 tsi=0000 cvm=000000 arc=-- atc=---- ac=---------------- scripts=-
   the card was pulled out: reading the records
+  CVM not reached
 L0 power c1 torn
   the card was pulled out while it was powered up
+L0 end 2 lost
+  the terminal lost power while it wrote to its own memory: whether the purchase is kept shows at its settlement
+L0 power x canned
+  a card of canned answers: it has no counters
 S1 > e4098a025a339f3602000b
   reversal
+A c1 power torn
+  the card was pulled out while it was powered up
 done 2
+of another form
 no newline";
 
 /// The lines of lane 1.
@@ -65,20 +77,26 @@ S1 > e4098a025a339f3602000b
 const OF_PURCHASE: &str = "\
 L0 power c1 torn
   the card was pulled out while it was powered up
+L0 end 2 lost
+  the terminal lost power while it wrote to its own memory: whether the purchase is kept shows at its settlement
 ";
 
 /// Where lane 0's first purchase begins and ends.
 const ENDS: &str = "\
 L0 power c1 10,9,0,0,3,0
   transaction counter 10, last online 9, offline approvals 0, sum 0, PIN tries 3
-L0 end 1 cut read tvr=0000000000 tsi=0000 cvm=000000 arc=-- atc=---- ac=---------------- scripts=-
+L0 end 1 cut read tvr=8000000000 tsi=0000 cvm=000000 arc=-- atc=---- ac=---------------- scripts=-
   the card was pulled out: reading the records
+  TVR 1.8 offline data authentication was not performed
+  TSI no bit
+  CVM not reached
 ";
 
 #[test]
 fn filters_leave_lines_and_brief_leaves_out_words(rt: HostRuntime) -> Result<(), Fail> {
-    let rows: [(&[&str], &str); 5] = [
+    let rows: [(&[&str], &str); 6] = [
         (&["--brief"], BRIEF),
+        (&["--ends", "--purchase", "2"], OF_PURCHASE),
         (&["--lane", "1"], OF_LANE),
         (&["--purchase", "2"], OF_PURCHASE),
         (&["--ends", "--lane", "0", "--purchase", "1"], ENDS),
@@ -144,13 +162,22 @@ fn the_terminals_codes_come_as_words(rt: HostRuntime) -> Result<(), Fail> {
 
 #[test]
 fn other_words_give_the_usage_line(rt: HostRuntime) -> Result<(), Fail> {
-    let rows: [&[&str]; 8] = [
+    let rows: [&[&str]; 11] = [
         &["x"],
         &["--lane"],
         &["--lane", "16"],
         &["--lane", "1", "--lane", "1"],
         &["--purchase", "one"],
         &["--brief", "--brief"],
+        &["--purchase", "1", "--purchase", "1"],
+        &[
+            "--terminal",
+            "0,22,A000000003,2,0000000000,0000000000,0000000000",
+        ],
+        &[
+            "--terminal",
+            "0,22,A000000003,0,00000000,0000000000,0000000000",
+        ],
         &[
             "--terminal",
             "0,27,A000000003,0,0000000000,0000000000,0000000000",
