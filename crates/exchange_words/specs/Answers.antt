@@ -1,5 +1,5 @@
 -- Answers in words (EMV 4.3 Book 3 section 6.5).
-use Rattle.std.specs.Prelude.{ℕ, ◌+◌, ◌-◌, ◌*◌, ◌==◌, Bool, false, not, ◌&&◌, ◌||◌, nat_lt, nat_le, if◌then◌else◌, List, [], ◌++◌, length, take, drop, slice_index, codes, Option, Some, None, is_some}
+use Rattle.std.specs.Prelude.{ℕ, ◌+◌, ◌-◌, ◌*◌, ◌/◌, ◌==◌, Bool, false, not, ◌&&◌, ◌||◌, nat_lt, nat_le, if◌then◌else◌, List, [], ◌++◌, length, take, drop, slice_index, codes, Option, Some, None, is_some}
 use Rattle.std.specs.Str.{bytes_eq}
 use Rattle.apdu_core.specs.Response.{ResponseData, response_of}
 use Rattle.apdu_core.specs.Status.{no_error}
@@ -102,17 +102,22 @@ counter_words lane body brief = (if brief then [] else since_words lane (counter
 abbrev pub is_same : LaneState → List ℕ → List ℕ → Bool
 is_same lane command answer = instruction_of command == 0xA4 && bytes_eq answer lane.selected.items
 
--- what a body leaves: that of SELECT, READ RECORD and GET DATA
-abbrev pub left_by_new : LaneState → ℕ → List ℕ → List ℕ → LaneState
-left_by_new lane instruction answer body =
-    if instruction == 0xA4 then with_selected lane answer body
-    else if instruction == 0xB2 then with_record lane body
-    else if instruction == 0xCA then with_counter lane body
+-- the file of READ RECORD, in the high five bits of P2
+abbrev pub file_of : List ℕ → ℕ
+file_of command = slice_index command 3 / 8
+
+-- what a body leaves: that of SELECT, of READ RECORD in the files 1 to 10, whose objects a terminal takes (EMV 4.3 Book 3
+-- section 10.2), and of GET DATA
+abbrev pub left_by_new : LaneState → List ℕ → List ℕ → List ℕ → LaneState
+left_by_new lane command answer body =
+    if instruction_of command == 0xA4 then with_selected lane answer body
+    else if instruction_of command == 0xB2 then (if nat_le (file_of command) 10 then with_record lane body else lane)
+    else if instruction_of command == 0xCA then with_counter lane body
     else lane
 
 abbrev pub left_by_body : LaneState → List ℕ → List ℕ → List ℕ → LaneState
 left_by_body lane command answer body =
-    if is_same lane command answer then lane else left_by_new lane (instruction_of command) answer body
+    if is_same lane command answer then lane else left_by_new lane command answer body
 
 -- the words of a body, with what is known behind it
 abbrev pub new_body : LaneState → List ℕ → List ℕ → Bool → List Piece
@@ -123,7 +128,7 @@ new_body lane command body brief =
 abbrev pub words_of_body : LaneState → List ℕ → List ℕ → List ℕ → Bool → List Piece
 words_of_body lane command answer body brief =
     if is_same lane command answer then line 1 ++ text (codes "the same answer as before")
-    else new_body (left_by_new lane (instruction_of command) answer body) command body brief
+    else new_body (left_by_new lane command answer body) command body brief
 
 -- a status is told where it is not 9000, and where no body stands before it
 abbrev pub status_told : ℕ → ResponseData → List Piece

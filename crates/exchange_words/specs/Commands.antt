@@ -1,5 +1,5 @@
 -- Commands in words (EMV 4.3 Book 3 section 6.5).
-use Rattle.std.specs.Prelude.{ℕ, ◌+◌, ◌*◌, ◌/◌, ◌%◌, ◌==◌, Bool, false, ◌&&◌, nat_lt, if◌then◌else◌, List, [], ◌∷◌, ◌++◌, length, map, codes, Option, Some, None, option_map, is_some, unwrap_or}
+use Rattle.std.specs.Prelude.{ℕ, ◌+◌, ◌*◌, ◌/◌, ◌%◌, ◌==◌, Bool, false, ◌&&◌, nat_lt, nat_le, if◌then◌else◌, List, [], ◌∷◌, ◌++◌, length, map, codes, Option, Some, None, option_map, is_some, unwrap_or}
 use Rattle.std.specs.Option.{option_or}
 use Rattle.std.specs.Str.{bytes_eq}
 use Rattle.action_words.specs.Reasons.{reason_of}
@@ -62,13 +62,18 @@ get_data_words command =
     let tag = command.p1 * 256 + command.p2 in
     line 1 ++ text (codes "GET DATA ") ++ hex (tag_bytes tag) ++ name_words (name_of tag)
 
--- a plaintext PIN block: its digits, and their number in the low half byte before them (EMV 4.3 Book 3 section 6.5.12)
+-- a plaintext PIN block: its four to twelve digits, and their number in the low half byte before them (EMV 4.3 Book 3
+-- section 6.5.12)
 abbrev pub has_digits : Option ℕ → ℕ → Bool
 has_digits None count = false
 has_digits (Some digits) count = digits == count
 
+abbrev pub is_pin_length : ℕ → Bool
+is_pin_length count = nat_le 4 count && nat_le count 12
+
 abbrev pub is_pin_block : ℕ → List ℕ → Bool
-is_pin_block control digits = control / 16 == 2 && (length digits == 7 && has_digits (digits_in digits) (control % 16))
+is_pin_block control digits =
+    control / 16 == 2 && (is_pin_length (control % 16) && (length digits == 7 && has_digits (digits_in digits) (control % 16)))
 
 abbrev pub pin_words : List ℕ → List Piece
 pin_words [] = []

@@ -67,11 +67,20 @@ with_template lane (Some bytes) = with_lists lane bytes
 abbrev pub with_record : LaneState → List ℕ → LaneState
 with_record lane body = with_template lane (sole_value 0x70 (items_of body))
 
--- an answer to SELECT, and its list 9F38
+-- the value of the first object of this tag that stands in these bytes, and not within another
+abbrev pub found_here : ℕ → Option (List ℕ) → Option (List ℕ)
+found_here tag None = None
+found_here tag (Some bytes) = found_deep 0 tag bytes
+
+-- the list 9F38 of an answer to SELECT: it stands in the template A5 of the template 6F (EMV 4.3 Book 1 section 11.3.4)
+abbrev pub list_in : List ℕ → Option (List ℕ)
+list_in body = found_here 0x9F38 (found_here 0xA5 (found_here 0x6F (Some body)))
+
+-- an answer to SELECT, and its list
 abbrev pub with_selected : LaneState → List ℕ → List ℕ → LaneState
 with_selected lane answer body = record lane {
   selected = record { items = kept 258 answer };
-  pdol = record { items = list_or (found_deep 8 0x9F38 body) [] };
+  pdol = record { items = list_or (list_in body) [] };
 }
 
 -- a counter that GET DATA gave

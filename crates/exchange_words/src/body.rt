@@ -13,6 +13,9 @@ use word_lines::WordLines;
 /// How deep objects within objects are told.
 const DEPTH: u8 = 8;
 
+/// The last file whose records' objects a terminal takes (EMV 4.3 Book 3 section 10.2).
+const MOST_FILE: u8 = 10;
+
 /// The instruction of a command; 0 where it has none.
 pub(crate) fn instruction_of(command: &[u8]) -> u8
     ensures { result ≡ words.instruction_of command.now }
@@ -20,6 +23,16 @@ pub(crate) fn instruction_of(command: &[u8]) -> u8
     match command {
         [_, instruction, ..] => *instruction,
         _ => 0,
+    }
+}
+
+/// The file of READ RECORD, in the high five bits of P2; 0 where it has none.
+fn file_of(command: &[u8]) -> u8
+    ensures { result ≡ words.file_of command.now }
+{
+    match command.get(3) {
+        Some(reference) => *reference / 8,
+        None => 0,
     }
 }
 
@@ -216,11 +229,15 @@ fn is_same(lane: &LaneState, command: &[u8], answer: &[u8]) -> bool
 
 /// Keeps what the body of an answer leaves.
 fn learn_body(lane: &mut LaneState, command: &[u8], answer: &[u8], body: &[u8])
-    ensures left { lane.new ≡ words.left_by_new lane.old (words.instruction_of command.now) answer.now body.now }
+    ensures left { lane.new ≡ words.left_by_new lane.old command.now answer.now body.now }
 {
     match instruction_of(command) {
         0xa4 => learn_selected(lane, answer, body),
-        0xb2 => learn_record(lane, body),
+        0xb2 => {
+            if file_of(command) <= MOST_FILE {
+                learn_record(lane, body);
+            }
+        }
         0xca => learn_counter(lane, body),
         _ => {}
     }

@@ -106,12 +106,22 @@ fn tell_get_data(out: &mut WordLines, command: &Command<'_>)
     tell_name(out, tag);
 }
 
-/// The digits of a plaintext PIN block, where the data are one: behind their number in the low half byte
-/// (EMV 4.3 Book 3 section 6.5.12).
+/// Whether a PIN may have so many digits.
+fn is_pin_length(count: u8) -> bool
+    ensures { result ≡ words.is_pin_length count }
+{
+    4 <= count && count <= 12
+}
+
+/// Whether the data are a plaintext PIN block: four to twelve digits behind their number in the low half byte (EMV 4.3
+/// Book 3 section 6.5.12).
 fn is_pin_block(control: u8, digits: &[u8]) -> bool
     ensures { result ≡ words.is_pin_block control digits.now }
 {
-    control / 16 == 2 && digits.len() == 7 && digits_in(digits) == Some(u64::from(control % 16))
+    control / 16 == 2
+        && is_pin_length(control % 16)
+        && digits.len() == 7
+        && digits_in(digits) == Some(u64::from(control % 16))
 }
 
 /// Tells the PIN where the data are a plaintext PIN block.

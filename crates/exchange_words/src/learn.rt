@@ -83,13 +83,32 @@ pub(crate) fn learn_record(lane: &mut LaneState, body: &[u8])
     }
 }
 
-/// Keeps an answer to SELECT, and its list 9F38.
+/// The value of the first object of this tag that stands in these bytes, and not within another.
+fn find_here(bytes: Option<&[u8]>, tag: Tag) -> Option<&[u8]>
+    ensures { option_map (λ value. value.now) result ≡ spec.found_here tag.0 (option_map (λ bytes. bytes.now) bytes.entry) }
+{
+    match bytes {
+        Some(bytes) => find_deep(bytes, tag, 0),
+        None => None,
+    }
+}
+
+/// The list 9F38 of an answer to SELECT: it stands in the template A5 of the template 6F (EMV 4.3 Book 1 section
+/// 11.3.4).
+fn list_in(body: &[u8]) -> Option<&[u8]>
+    ensures { option_map (λ list. list.now) result ≡ spec.list_in body.now }
+{
+    let proprietary = find_here(find_here(Some(body), Tag(0x6f)), Tag(0xa5));
+    find_here(proprietary, Tag(0x9f38))
+}
+
+/// Keeps an answer to SELECT, and its list.
 pub(crate) fn learn_selected(lane: &mut LaneState, answer: &[u8], body: &[u8])
     ensures left { lane.new ≡ spec.with_selected lane.old answer.now body.now }
 {
     keep(&mut lane.selected, answer);
     lane.pdol.clear();
-    keep_list(&mut lane.pdol, find_deep(body, Tag(0x9f38), DEPTH));
+    keep_list(&mut lane.pdol, list_in(body));
 }
 
 /// The number of a value of two bytes.
