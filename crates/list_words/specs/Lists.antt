@@ -7,7 +7,7 @@ use Rattle.explain_words.specs.declared.codes.TheConstants.{OUTCOMES}
 use Rattle.list_words.specs.Fields.{entries_of, is_whole_list}
 use Rattle.list_words.specs.Plain.{number_in, told_if}
 use Rattle.list_words.specs.Rules.{rule_words}
-use Rattle.list_words.specs.declared.phrases.TheConstants.{GO_ON, FAIL}
+use Rattle.list_words.specs.declared.phrases.TheConstants.{GO_ON, FAIL, NO_RULE}
 
 abbrev pub unsuccessful_words : Bool → List Piece
 unsuccessful_words goes_on = (if goes_on then text GO_ON.now else text FAIL.now)
@@ -36,12 +36,17 @@ abbrev pub outcome_words : Option (List ℕ) → List Piece
 outcome_words None = []
 outcome_words (Some word) = text (codes ": ") ++ text word
 
--- the result of cardholder verification (EMV 4.3 Book 4 Annex A4)
+-- the rule that was performed and its outcome; 3F in place of a method says that none was (EMV 4.3 Book 4 Annex A4)
+unfoldable pub performed_rule : ℕ → ℕ → ℕ → List Piece
+performed_rule method condition outcome =
+    if method == 0x3F then text NO_RULE.now
+    else rule_words method condition ++ outcome_words (word_in (map (λ w. (w.0, w.1.now)) OUTCOMES) outcome)
+
+-- the result of cardholder verification
 abbrev pub method_result_words : List ℕ → Option (List Piece)
 method_result_words value =
     told_if (length value == 3)
-    (hex value ++ text (codes ", ") ++ rule_words (slice_index value 0) (slice_index value 1)
-    ++ outcome_words (word_in (map (λ w. (w.0, w.1.now)) OUTCOMES) (slice_index value 2)))
+    (hex value ++ text (codes ", ") ++ performed_rule (slice_index value 0) (slice_index value 1) (slice_index value 2))
 
 -- a group of records
 abbrev pub offline_words : ℕ → List Piece

@@ -8,11 +8,14 @@ ghost use Rattle.word_lines.specs.Pieces as piece;
 ghost use Rattle.word_lines.specs.Pieces.{Tells};
 
 use crate::fields::next_entry;
-use crate::phrases::{FAIL, GO_ON, UNKNOWN_CONDITION, UNKNOWN_METHOD};
+use crate::phrases::{FAIL, GO_ON, NO_RULE, UNKNOWN_CONDITION, UNKNOWN_METHOD};
 use crate::plain::number_in;
 use ber_tlv::{Tag, tag_bytes};
 use explain_words::{CONDITIONS, METHODS, OUTCOMES, word_of};
 use word_lines::WordLines;
+
+/// In place of a method: no rule was performed.
+const NO_METHOD: u8 = 0x3f;
 
 /// Tells the method of the low six bits.
 fn tell_method(out: &mut WordLines, method: u8)
@@ -115,6 +118,30 @@ fn tell_amounts(out: &mut WordLines, amounts: &[u8])
     }
 }
 
+/// Tells the word of an outcome, where it has one.
+fn tell_outcome(out: &mut WordLines, word: Option<&'static [u8]>)
+    ensures { Tells out.old out.new (spec.outcome_words (option_map (λ w. w.now) word.entry)) }
+{
+    if let Some(word) = word {
+        out.text(b": ");
+        out.text(word);
+    }
+}
+
+/// Tells the rule of cardholder verification that was performed, and its outcome; 3F in place of a method says that
+/// none was (EMV 4.3 Book 4 Annex A4).
+#[tactic(auto, unfolding(crate::specs::Lists::performed_rule))]
+pub fn tell_performed_rule(out: &mut WordLines, method: u8, condition: u8, outcome: u8)
+    ensures { Tells out.old out.new (spec.performed_rule method condition outcome) }
+{
+    if method == NO_METHOD {
+        out.text(NO_RULE);
+    } else {
+        tell_rule(out, method, condition);
+        tell_outcome(out, word_of(&OUTCOMES, u32::from(outcome)));
+    }
+}
+
 /// Tells the result of cardholder verification (EMV 4.3 Book 4 Annex A4).
 pub fn tell_method_result(out: &mut WordLines, value: &[u8]) -> bool
     ensures words { Tells out.old out.new (or_nothing (spec.method_result_words value.now)) }
@@ -124,21 +151,10 @@ pub fn tell_method_result(out: &mut WordLines, value: &[u8]) -> bool
         [method, condition, outcome] => {
             out.hex(value);
             out.text(b", ");
-            tell_rule(out, *method, *condition);
-            tell_outcome(out, word_of(&OUTCOMES, u32::from(*outcome)));
+            tell_performed_rule(out, *method, *condition, *outcome);
             true
         }
         _ => false,
-    }
-}
-
-/// Tells the word of an outcome, where it has one.
-fn tell_outcome(out: &mut WordLines, word: Option<&'static [u8]>)
-    ensures { Tells out.old out.new (spec.outcome_words (option_map (λ w. w.now) word.entry)) }
-{
-    if let Some(word) = word {
-        out.text(b": ");
-        out.text(word);
     }
 }
 

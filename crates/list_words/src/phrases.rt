@@ -9,6 +9,9 @@ pub const UNKNOWN_CONDITION: &[u8] = b"never (condition ";
 /// The cardholder must confirm the application.
 pub const CONFIRM: &[u8] = b", the cardholder must confirm";
 
+/// No rule of cardholder verification was performed.
+pub const NO_RULE: &[u8] = b"no rule was performed";
+
 /// Of a rule behind which others are tried.
 pub const GO_ON: &[u8] = b"; go on if unsuccessful";
 

@@ -1,11 +1,10 @@
 -- What is told of an end line, part by part.
-use Rattle.std.proofs.Common.{◌≡◌, ℕ, Bool, Option, List, ◌++◌, refl, subst}
+use Rattle.std.proofs.Common.{◌≡◌, ℕ, Bool, Option, ◌++◌, refl, subst}
 use Rattle.word_lines.specs.Lines.{WordsData}
 use Rattle.word_lines.specs.Pieces.{Tells}
 use Rattle.word_lines.proofs.Telling.{tells_then}
-use Rattle.narrator.specs.Endings.{hex_number, end_bits, cvm_words, code_words, scripts_words, set_fields, outcome_words, rule_and_outcome}
+use Rattle.narrator.specs.Endings.{hex_number, end_bits, cvm_words, code_words, scripts_words, set_fields}
 use Rattle.power_words.proofs.Parts.{tells_as}
-use Rattle.list_words.specs.Rules.{rule_words}
 use Rattle.report_lines.specs.Reading.{FieldsData}
 
 fields_are : (f : FieldsData) (brief : Bool) → end_bits f brief ++ cvm_words (hex_number f.cvm) ++ code_words f.arc ++ scripts_words f.scripts ≡ set_fields f brief
@@ -21,14 +20,3 @@ fields_told first second third fourth last f brief cvm is bits verified code scr
     (tells_then first fourth last (end_bits f brief ++ cvm_words (hex_number f.cvm) ++ code_words f.arc) (scripts_words f.scripts)
     (tells_then first third fourth (end_bits f brief ++ cvm_words (hex_number f.cvm)) (code_words f.arc)
     (tells_then first second third (end_bits f brief) (cvm_words (hex_number f.cvm)) bits (subst (λ (o : Option ℕ). Tells second third (cvm_words o)) is verified)) code) scripts)
-
-rule_is : (method condition outcome : ℕ) → rule_words method condition ++ outcome_words outcome ≡ rule_and_outcome method condition outcome
-unfolding rule_and_outcome
-rule_is method condition outcome = refl
-
--- a rule and its outcome
-pub rule_told : (first second last : WordsData) (method condition outcome : ℕ) → Tells first second (rule_words method condition)
-    → Tells second last (outcome_words outcome) → Tells first last (rule_and_outcome method condition outcome)
-rule_told first second last method condition outcome rule ended =
-    tells_as first last (rule_words method condition ++ outcome_words outcome) (rule_and_outcome method condition outcome) (rule_is method condition outcome)
-    (tells_then first second last (rule_words method condition) (outcome_words outcome) rule ended)

@@ -7,18 +7,19 @@ use Rattle.word_lines.specs.Pieces.{Piece, line, text, number, hex, word_or}
 use Rattle.word_lines.specs.Bits.{bits_between}
 use Rattle.explain_words.specs.Words.{word_in, text_in, name_in}
 use Rattle.explain_words.specs.declared.bits.TheConstants.{STATUS_BITS}
-use Rattle.explain_words.specs.declared.codes.TheConstants.{CAUSES, CRYPTOGRAMS, OUTCOMES, RESPONSES, STEPS}
+use Rattle.explain_words.specs.declared.codes.TheConstants.{CAUSES, CRYPTOGRAMS, RESPONSES, STEPS}
 use Rattle.explain_words.specs.declared.names.Form.{Form}
 use Rattle.explain_words.specs.declared.names.TheConstants.{NAMES}
 use Rattle.emv_dict.specs.declared.ending.Kind.{Kind}
 use Rattle.action_words.specs.Told.{reason_words}
 use Rattle.action_words.specs.declared.reason.Reason.{Reason}
+use Rattle.object_words.specs.Bits.{bit_word}
 use Rattle.object_words.specs.Results.{results_words}
-use Rattle.list_words.specs.Rules.{rule_words}
+use Rattle.list_words.specs.Lists.{performed_rule}
 use Rattle.lane_words.specs.Statuses.{status_words, kind_name}
 use Rattle.lane_words.specs.declared.lane.LaneState.{LaneState}
 use Rattle.report_lines.specs.Reading.{EndingData, Approved, Declined, Terminated, Cut, FieldsData}
-use Rattle.narrator.specs.declared.phrases.TheConstants.{ENDED_AT, PULLED_OUT, CARD_ANSWERED, ASKED_FOR, ALL_CARRIED_OUT, NO_SCRIPT, NO_RULE}
+use Rattle.narrator.specs.declared.phrases.TheConstants.{ENDED_AT, PULLED_OUT, CARD_ANSWERED, ASKED_FOR, ALL_CARRIED_OUT, NO_SCRIPT}
 
 -- a lower-case hexadecimal digit
 abbrev pub is_hex_digit : ℕ → Bool
@@ -127,20 +128,13 @@ ending_words lane (Terminated step cause detail) = terminated_words step cause d
 -- a bit of the transaction status information by its place among 16
 abbrev pub performed_word : ℕ → List Piece
 performed_word place =
-    let bit = place / 8 * 10 + 18 - place % 8 in word_or (number bit) (word_in (map (λ w. (w.0, w.1.now)) STATUS_BITS) bit)
+    bit_word (map (λ w. (w.0, w.1.now)) STATUS_BITS) (place / 8 + 1) (8 - place % 8)
 
 abbrev pub performed_bits : ℕ → List Piece
 performed_bits status = bits_between 16 (text (codes ", ")) performed_word status
 
 abbrev pub performed_words : ℕ → List Piece
 performed_words status = (if status % 65536 == 0 then text (codes "no bit") else performed_bits status)
-
-abbrev pub behind_colon : Option (List ℕ) → List Piece
-behind_colon None = []
-behind_colon (Some word) = text (codes ": ") ++ text word
-
-abbrev pub outcome_words : ℕ → List Piece
-outcome_words outcome = behind_colon (word_in (map (λ w. (w.0, w.1.now)) OUTCOMES) outcome)
 
 unfoldable pub response_word : ℕ → Option (List ℕ)
 response_word code = word_in (map (λ w. (w.0, w.1.now)) RESPONSES) code
@@ -184,17 +178,8 @@ abbrev pub end_bits : FieldsData → Bool → List Piece
 end_bits f true = []
 end_bits f false = tvr_words (hex_number f.tvr) ++ tsi_words (hex_number f.tsi)
 
--- a rule and its outcome
-unfoldable pub rule_and_outcome : ℕ → ℕ → ℕ → List Piece
-rule_and_outcome method condition outcome = rule_words method condition ++ outcome_words outcome
-
--- the rule that was performed
-abbrev pub performed_rule : ℕ → List Piece
-performed_rule cvm =
-    if cvm / 65536 % 256 == 0x3F then text NO_RULE.now else rule_and_outcome (cvm / 65536 % 256) (cvm / 256 % 256) (cvm % 256)
-
 abbrev pub reached_words : ℕ → List Piece
-reached_words cvm = (if cvm == 0 then text (codes "not reached") else performed_rule cvm)
+reached_words cvm = (if cvm == 0 then text (codes "not reached") else performed_rule (cvm / 65536 % 256) (cvm / 256 % 256) (cvm % 256))
 
 -- the result of cardholder verification: three bytes as one number
 unfoldable pub verification_words : ℕ → List Piece

@@ -7,19 +7,16 @@ ghost use Rattle.word_lines.specs.Pieces as piece;
 ghost use Rattle.word_lines.specs.Pieces.{Tells};
 
 use crate::digits::hex_number;
-use crate::phrases::{
-    ALL_CARRIED_OUT, ASKED_FOR, CARD_ANSWERED, ENDED_AT, NO_RULE, NO_SCRIPT, PULLED_OUT,
-};
+use crate::phrases::{ALL_CARRIED_OUT, ASKED_FOR, CARD_ANSWERED, ENDED_AT, NO_SCRIPT, PULLED_OUT};
 use action_words::{Reason, tell_reason};
 use ber_tlv::Tag;
 use emv_dict::Kind;
 use explain_words::{
-    CAUSES, CRYPTOGRAMS, Form, OUTCOMES, RESPONSES, STATUS_BITS, STEPS, name_of, word_of,
-    word_of_text,
+    CAUSES, CRYPTOGRAMS, Form, RESPONSES, STATUS_BITS, STEPS, name_of, word_of, word_of_text,
 };
 use lane_words::{LaneState, kind_name, tell_status};
-use list_words::tell_rule;
-use object_words::tell_results;
+use list_words::tell_performed_rule;
+use object_words::{tell_bit_word, tell_results};
 use report_lines::{EndFields, Ending};
 use word_lines::WordLines;
 
@@ -246,11 +243,7 @@ fn tell_performed_word(out: &mut WordLines, place: u8)
     requires { place < 16 }
     ensures { Tells out.old out.new (spec.performed_word place) }
 {
-    let bit = u32::from(place / 8) * 10 + 18 - u32::from(place % 8);
-    match word_of(&STATUS_BITS, bit) {
-        Some(word) => out.text(word),
-        None => out.number(u64::from(bit)),
-    }
+    tell_bit_word(out, &STATUS_BITS, u32::from(place / 8) + 1, 8 - place % 8);
 }
 
 /// Tells the words of what was performed, commas between.
@@ -274,36 +267,6 @@ fn tell_performed(out: &mut WordLines, status: u64)
     }
 }
 
-/// Tells whether cardholder verification was successful.
-fn tell_outcome(out: &mut WordLines, outcome: u8)
-    ensures { Tells out.old out.new (spec.outcome_words outcome) }
-{
-    if let Some(word) = word_of(&OUTCOMES, u32::from(outcome)) {
-        out.text(b": ");
-        out.text(word);
-    }
-}
-
-/// Tells a rule of cardholder verification, and its outcome.
-fn tell_rule_and_outcome(out: &mut WordLines, method: u8, condition: u8, outcome: u8)
-    ensures { Tells out.old out.new (spec.rule_and_outcome method condition outcome) }
-{
-    tell_rule(out, method, condition);
-    tell_outcome(out, outcome);
-}
-
-/// Tells the rule of cardholder verification that was performed, and its outcome.
-fn tell_performed_rule(out: &mut WordLines, cvm: u64)
-    ensures { Tells out.old out.new (spec.performed_rule cvm) }
-{
-    let method = (cvm / 65536 % 256) as u8;
-    if method == 0x3f {
-        out.text(NO_RULE);
-    } else {
-        tell_rule_and_outcome(out, method, (cvm / 256 % 256) as u8, (cvm % 256) as u8);
-    }
-}
-
 /// Tells the rule that was performed, or that verification was not reached.
 fn tell_reached(out: &mut WordLines, cvm: u64)
     ensures { Tells out.old out.new (spec.reached_words cvm) }
@@ -311,7 +274,12 @@ fn tell_reached(out: &mut WordLines, cvm: u64)
     if cvm == 0 {
         out.text(b"not reached");
     } else {
-        tell_performed_rule(out, cvm);
+        tell_performed_rule(
+            out,
+            (cvm / 65536 % 256) as u8,
+            (cvm / 256 % 256) as u8,
+            (cvm % 256) as u8,
+        );
     }
 }
 

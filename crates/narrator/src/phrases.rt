@@ -12,9 +12,6 @@ pub const CARD_ANSWERED: &[u8] = b"; the card answered ";
 /// Before the kind of cryptogram that the terminal asked for.
 pub const ASKED_FOR: &[u8] = b"the terminal asked for ";
 
-/// No rule of cardholder verification was performed.
-pub const NO_RULE: &[u8] = b"no rule was performed";
-
 /// Each command of a script was carried out.
 pub const ALL_CARRIED_OUT: &[u8] = b": all commands were carried out";
 

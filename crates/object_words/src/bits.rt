@@ -68,8 +68,9 @@ pub(crate) fn tell_bits(out: &mut WordLines, value: &[u8])
     }
 }
 
-/// Tells the word of a bit, or BYTE.BIT where it has none.
-fn tell_bit_word(out: &mut WordLines, table: &[(u32, &'static [u8])], number: u32, bit: u8)
+/// Tells the word of a bit in a table, of the byte of this number from 1 and its bit from 1 to 8, or BYTE.BIT where it
+/// has none.
+pub fn tell_bit_word(out: &mut WordLines, table: &[(u32, &'static [u8])], number: u32, bit: u8)
     requires number { number ≤ 100 }
     requires bit { bit ≤ 8 }
     ensures { Tells out.old out.new (spec.bit_word (map (λ w. (w.0, w.1.now)) table.now) number bit) }

@@ -9,6 +9,7 @@ pub mod phrases;
 pub mod results;
 pub mod style;
 
+pub use bits::tell_bit_word;
 pub use command::tell_script_command;
 pub use object::{Object, next_item, tell_object, tell_objects, tell_value};
 pub use results::tell_results;
