@@ -173,6 +173,18 @@ fn other_replies_are_not_read(rt: HostRuntime) {
     nine[1] = 31;
     nine[30] = 0x71;
     assert!(rt; reply_fault(&nine) == Some(MessageFault::Value(Tag(0x71))));
+    // Two scripts of 1,024 bytes together with a byte 00 between them, and one byte less.
+    let mut long = [0; 1033];
+    long[..15].copy_from_slice(&[
+        0xE2, 0x82, 0x04, 0x05, 0x8A, 0x02, 0x30, 0x30, 0x72, 0x00, 0x00, 0x72, 0x82, 0x03, 0xFA,
+    ]);
+    assert!(rt; reply_fault(&long) == Some(MessageFault::Value(Tag(0x71))));
+    long[3] = 0x04;
+    long[14] = 0xF9;
+    let Ok(reply) = read_reply(&long[..1032]) else {
+        panic!(rt; "a reply");
+    };
+    assert_eq!(rt; reply.scripts.len(), 1024);
 }
 
 #[test]

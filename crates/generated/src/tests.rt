@@ -81,6 +81,11 @@ fn a_torn_purchase(rt: HostRuntime) -> Result<(), Fail> {
         at: TearAt::Before(1),
     };
     assert_eq!(rt; planned.tear, Some(cut));
+    // x is 1004713987, 3BE2B803: the reply is lost, and the card is pulled out all the same.
+    let scenario = generated(rt.alloc(), 178)?;
+    let planned = purchase(&rt, &scenario, 0, 0);
+    assert_eq!(rt; planned.link, Link::ReplyLost);
+    assert_eq!(rt; planned.tear, Some(cut));
     Ok(())
 }
 

@@ -64,6 +64,9 @@ fn a_message_that_is_cut_is_short_at_the_part_that_is_cut(rt: HostRuntime) {
     let mut longer = [0; 87];
     longer[..86].copy_from_slice(&REVERSAL);
     assert!(rt; fault(&longer) == Some(IsoFault::Rest(86)));
+    // Another field 11 stands before the byte behind the last field.
+    longer[47] = b'2';
+    assert!(rt; fault(&longer) == Some(IsoFault::Field(11)));
 }
 
 /// The bits of a byte.
