@@ -148,7 +148,7 @@ fn a_plan_fires_once(rt: HostRuntime) -> Result<(), Fail> {
     hold(&rt, rt.alloc(), PULLED, PULLED_ANSWERS)
 }
 
-/// The later of two plans holds, and only from the next power-up.
+/// The later of two plans holds, and only from the next power-up, also behind one that has fired.
 const REPLACED: &str = "\
 pull 1 before 1
 pull 9 release
@@ -157,8 +157,13 @@ pull 1 before 1
 00a4040007a000000003101000
 80a8000002830000
 power
+pull 1 release
 00a4040007a000000003101000
 80a8000002830000
+power
+00a4040007a000000003101000
+80a8000002830000
+power
 ";
 
 const REPLACED_ANSWERS: &str = "\
@@ -169,8 +174,13 @@ pull 1 before 1
 < 6f168407a0000000031010a50b50064352454449548701019000
 < 80061c00080103009000
 power 11,9,0,0,3,0
+pull 1 release
 < 6f168407a0000000031010a50b50064352454449548701019000
 < torn
+power 11,9,0,0,3,0
+< 6f168407a0000000031010a50b50064352454449548701019000
+< torn
+power 12,9,0,0,3,0
 ";
 
 #[test]
