@@ -232,8 +232,8 @@ fn other_lines_ask_nothing(rt: HostRuntime) -> Result<(), Fail> {
         wanted.push_str("?\n")?;
     }
     // The card was left as it was.
-    lines.push_str("00\n80ca9f3600\npower\nno newline")?;
-    wanted.push_str("< 6700\n< 6985\npower 10,9,0,0,3,0\n")?;
+    lines.push_str("00\n80ca9f3600\npull 255 within 255\npower\nno newline")?;
+    wanted.push_str("< 6700\n< 6985\npull 255 within 255\npower 10,9,0,0,3,0\n")?;
     hold(&rt, rt.alloc(), lines.as_str(), wanted.as_str())
 }
 
