@@ -283,6 +283,13 @@ fn a_card_goes_by_its_name(rt: HostRuntime) -> Result<(), Fail> {
         assert_eq!(rt; found, status);
         assert!(rt; told.as_slice() == wanted.as_bytes());
     }
+    // Without a name the first card counts, whatever it is.
+    let mut turned = String::from_str(alloc, CANNED)?;
+    turned.push_str(CARD)?;
+    let text = talk(alloc, turned.as_str(), "off\n")?;
+    let (status, told) = run_of(alloc, &[], text.as_str(), (&[], &[]))?;
+    assert_eq!(rt; status, 2);
+    assert_eq!(rt; told.as_slice(), b"?\n".as_slice());
     Ok(())
 }
 
