@@ -309,6 +309,13 @@ fn a_document_is_refused(rt: HostRuntime) -> Result<(), Fail> {
         assert_eq!(rt; found, status, "{text}");
         assert!(rt; told.as_slice() == wanted.as_bytes(), "{text}");
     }
+    // A table that no scenario has.
+    let mut more = String::from_str(rt.alloc(), CARD)?;
+    more.push_str("[zeta]\n")?;
+    let text = talk(rt.alloc(), more.as_str(), "off\n")?;
+    let (status, told) = run_of(rt.alloc(), &[], text.as_str(), (&[], &[]))?;
+    assert_eq!(rt; status, 1);
+    assert!(rt; told.as_slice() == b"refused 5 UnknownKey zeta\n".as_slice());
     Ok(())
 }
 
