@@ -212,13 +212,13 @@ const ONLINE: [&[Line]; 8] = [
         OPTIONS_AGAIN,
         "841800000833ebc0e7a4fb0d6c 6985",
     ],
-    // a blocked application in its transaction
+    // a blocked application in its transaction, which an update without b7 leaves blocked
     &[
         SELECT,
         OPTIONS,
         REQUEST,
         "841e000008c8f7aeabb5b88a5c 9000",
-        AUTHENTICATE,
+        "00820000088ea4806180800000 9000",
         "80ae40001f3030000000002500000000000000084080000000000840240615000102030400 801100000b9675eb9f3bacb7700100010003019000",
     ],
     // issuer authentication data of eight bytes
