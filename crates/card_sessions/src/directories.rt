@@ -16,7 +16,7 @@ pub(crate) const DIRECTORIES: [(Variant, &[Line]); 4] = [
             "00b2011400 6a82",
             "00b2015c00 6a82",
             "00b2000c00 6a86",
-            "00b2010c01aa 6700",
+            "00b2011401aa 6700",
             "80ca9f3600 6985",
             OPTIONS_AGAIN,
             "0020008008241234ffffffffff 6985",
