@@ -148,7 +148,7 @@ fn a_plan_fires_once(rt: HostRuntime) -> Result<(), Fail> {
     hold(&rt, rt.alloc(), PULLED, PULLED_ANSWERS)
 }
 
-/// The later of two plans holds, and only from the next power-up.
+/// The later of two plans holds, and only from the next power-up, also behind one that has fired.
 const REPLACED: &str = "\
 pull 1 before 1
 pull 9 release
@@ -157,8 +157,13 @@ pull 1 before 1
 00a4040007a000000003101000
 80a8000002830000
 power
+pull 1 release
 00a4040007a000000003101000
 80a8000002830000
+power
+00a4040007a000000003101000
+80a8000002830000
+power
 ";
 
 const REPLACED_ANSWERS: &str = "\
@@ -169,8 +174,13 @@ pull 1 before 1
 < 6f168407a0000000031010a50b50064352454449548701019000
 < 80061c00080103009000
 power 11,9,0,0,3,0
+pull 1 release
 < 6f168407a0000000031010a50b50064352454449548701019000
 < torn
+power 11,9,0,0,3,0
+< 6f168407a0000000031010a50b50064352454449548701019000
+< torn
+power 12,9,0,0,3,0
 ";
 
 #[test]
@@ -222,8 +232,8 @@ fn other_lines_ask_nothing(rt: HostRuntime) -> Result<(), Fail> {
         wanted.push_str("?\n")?;
     }
     // The card was left as it was.
-    lines.push_str("00\n80ca9f3600\npower\nno newline")?;
-    wanted.push_str("< 6700\n< 6985\npower 10,9,0,0,3,0\n")?;
+    lines.push_str("00\n80ca9f3600\npull 255 within 255\npower\nno newline")?;
+    wanted.push_str("< 6700\n< 6985\npull 255 within 255\npower 10,9,0,0,3,0\n")?;
     hold(&rt, rt.alloc(), lines.as_str(), wanted.as_str())
 }
 
@@ -273,6 +283,13 @@ fn a_card_goes_by_its_name(rt: HostRuntime) -> Result<(), Fail> {
         assert_eq!(rt; found, status);
         assert!(rt; told.as_slice() == wanted.as_bytes());
     }
+    // Without a name the first card counts, whatever it is.
+    let mut turned = String::from_str(alloc, CANNED)?;
+    turned.push_str(CARD)?;
+    let text = talk(alloc, turned.as_str(), "off\n")?;
+    let (status, told) = run_of(alloc, &[], text.as_str(), (&[], &[]))?;
+    assert_eq!(rt; status, 2);
+    assert_eq!(rt; told.as_slice(), b"?\n".as_slice());
     Ok(())
 }
 
@@ -292,6 +309,13 @@ fn a_document_is_refused(rt: HostRuntime) -> Result<(), Fail> {
         assert_eq!(rt; found, status, "{text}");
         assert!(rt; told.as_slice() == wanted.as_bytes(), "{text}");
     }
+    // A table that no scenario has.
+    let mut more = String::from_str(rt.alloc(), CARD)?;
+    more.push_str("[zeta]\n")?;
+    let text = talk(rt.alloc(), more.as_str(), "off\n")?;
+    let (status, told) = run_of(rt.alloc(), &[], text.as_str(), (&[], &[]))?;
+    assert_eq!(rt; status, 1);
+    assert!(rt; told.as_slice() == b"refused 5 UnknownKey zeta\n".as_slice());
     Ok(())
 }
 

@@ -159,8 +159,9 @@ fn master_keys(rt: HostRuntime) {
     }
 }
 
-/// Hashes and their sixteen decimal digits: that of "abc", and bytes of one letter.
-const HASHES: [([u8; 20], u64); 3] = [
+/// Hashes and their sixteen decimal digits: that of "abc", bytes of one letter, and A to F six times, with four
+/// decimal digits behind them.
+const HASHES: [([u8; 20], u64); 4] = [
     (
         [
             0xa9, 0x99, 0x3e, 0x36, 0x47, 0x06, 0x81, 0x6a, 0xba, 0x3e, 0x25, 0x71, 0x78, 0x50,
@@ -170,6 +171,13 @@ const HASHES: [([u8; 20], u64); 3] = [
     ),
     ([0xaa; 20], 0x0000_0000_0000_0000),
     ([0xff; 20], 0x5555_5555_5555_5555),
+    (
+        [
+            0xab, 0xcd, 0xef, 0xab, 0xcd, 0xef, 0xab, 0xcd, 0xef, 0xab, 0xcd, 0xef, 0xab, 0xcd,
+            0xef, 0xab, 0xcd, 0xef, 0x12, 0x34,
+        ],
+        0x1234_0123_4501_2345,
+    ),
 ];
 
 #[test]

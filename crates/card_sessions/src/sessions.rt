@@ -130,7 +130,7 @@ const SESSIONS: [(Variant, &[Line]); 12] = [
             SELECT,
             OPTIONS,
             "0020008008241111ffffffffff 63c2",
-            "0020008008242222ffffffffff 63c1",
+            "00200080082412340000000000 63c1",
             VERIFY,
             "80ae40001d000000002500000000000000084080004000000840240615000102030400 801140000b1fe5da94e94c28660140000103019000",
         ],
@@ -157,6 +157,7 @@ const SESSIONS: [(Variant, &[Line]); 12] = [
         &[
             "00a4040007a000000003101000 6f168407a0000000031010a50b50064352454449548701016283",
             OPTIONS_AGAIN,
+            "0020008008241234ffffffffff 6985",
         ],
     ),
 ];
@@ -212,13 +213,13 @@ const ONLINE: [&[Line]; 8] = [
         OPTIONS_AGAIN,
         "841800000833ebc0e7a4fb0d6c 6985",
     ],
-    // a blocked application in its transaction
+    // a blocked application in its transaction, which an update without b7 leaves blocked
     &[
         SELECT,
         OPTIONS,
         REQUEST,
         "841e000008c8f7aeabb5b88a5c 9000",
-        AUTHENTICATE,
+        "00820000088ea4806180800000 9000",
         "80ae40001f3030000000002500000000000000084080000000000840240615000102030400 801100000b9675eb9f3bacb7700100010003019000",
     ],
     // issuer authentication data of eight bytes
