@@ -73,6 +73,29 @@ const ASKED: &str = "\
 end approved offline tvr=8000000000 tsi=6800 cvm=410302 arc=Y1 atc=000b ac=6114ff966d2fd232 scripts=-
 ";
 
+/// What the card says that asks to go online, where the host says nothing.
+const SILENT: &str = "\
+< 6f168407a0000000031010a50b50064352454449548701019000
+< 6f168407a0000000031010a50b50064352454449548701019000
+< 80060000080101009000
+< 70405a0847617390010100105f24032612318c159f02069f03069f1a0295055f2a029a039c019f37048d178a029f02069f03069f1a0295055f2a029a039c019f37049000
+< 801180000b11223344556677880140000103019000
+host < none
+< 801100000b11223344556677880140000103019000
+";
+
+/// What the terminal asks then, the host among others.
+const ASKED_ONCE: &str = "\
+> 00a4040007a000000003101000
+> 00a4040007a000000003101000
+> 80a8000002830000
+> 00b2010c00
+> 80ae80001d000000002500000000000000084080000000000840240615000102030400
+host > e16a9f1c085445524d303030315a0847617390010100105f24032612319f02060000000025009f03060000000000009f1a020840950580000000005f2a0208409a032406159c01009f370401020304820200009f3602000b9f260811223344556677889f1006014000010301
+> 80ae00001f5a33000000002500000000000000084080000000000840240615000102030400
+end declined offline tvr=8000000000 tsi=2000 cvm=3f0000 arc=Z3 atc=000b ac=1122334455667788 scripts=-
+";
+
 /// A document behind its line, and what comes behind it.
 fn talk(alloc: Global, document: &str, replies: &str) -> Result<String, AllocError> {
     let mut text = String::new(alloc);
@@ -111,7 +134,8 @@ fn hold(
 
 #[test]
 fn a_dialogue_is_the_kernels(rt: HostRuntime) -> Result<(), Fail> {
-    hold(&rt, rt.alloc(), REPLIES, 0, ASKED)
+    hold(&rt, rt.alloc(), REPLIES, 0, ASKED)?;
+    hold(&rt, rt.alloc(), SILENT, 0, ASKED_ONCE)
 }
 
 /// What is asked first, and how it ends where the card is gone.
