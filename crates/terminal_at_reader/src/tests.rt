@@ -221,8 +221,12 @@ const TORN: &str = "tear = { commit = 1, at = \"release\" }\n";
 const TERMINAL_TORN: &str = "terminal_tear = { commit = 1, at = \"release\" }\n";
 
 /// Keys that no terminal at a reader has, at the top, in the lane and in the purchase, and what is answered.
-const OTHER_KEYS: [((&str, &str, &str), &str); 5] = [
+const OTHER_KEYS: [((&str, &str, &str), &str); 6] = [
     (("trace = []\n", "", ""), "refused 5 UnknownKey trace\n"),
+    (
+        ("trace = []\n", "durable = true\n", ""),
+        "refused 3 BadValue lane.durable\n",
+    ),
     (
         ("", "durable = true\n", ""),
         "refused 3 BadValue lane.durable\n",
