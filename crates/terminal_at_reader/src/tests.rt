@@ -264,5 +264,8 @@ fn faults_have_their_status(rt: HostRuntime) -> Result<(), Fail> {
     let (status, told) = run_of(rt.alloc(), text.as_str(), (&[], &[2]))?;
     assert_eq!(rt; status, 4);
     assert_eq!(rt; told.as_slice(), FIRST.as_bytes());
+    let (status, told) = run_of(rt.alloc(), "document 3\npin", (&[], &[1]))?;
+    assert_eq!(rt; status, 4);
+    assert!(rt; told.is_empty());
     Ok(())
 }
