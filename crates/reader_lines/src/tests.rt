@@ -1,3 +1,4 @@
+use crate::document::MOST_GIVEN;
 use crate::{Came, Given, LineText, number_of, read_given, read_line};
 use emv_ports::{MemorySource, ReadFault};
 use std::alloc::Global;
@@ -44,6 +45,8 @@ fn numbers_are_digits(rt: HostRuntime) -> Result<(), Fail> {
     assert_eq!(rt; number_of(255, b"0"), Some(0));
     assert_eq!(rt; number_of(255, b"007"), Some(7));
     assert_eq!(rt; number_of(255, b"255"), Some(255));
+    assert_eq!(rt; number_of(MOST_GIVEN, b"4194304"), Some(4_194_304));
+    assert_eq!(rt; number_of(MOST_GIVEN, b"4194305"), None);
     for wrong in [
         "",
         "256",
