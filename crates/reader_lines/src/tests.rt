@@ -82,6 +82,7 @@ fn a_document_stands_first(rt: HostRuntime) -> Result<(), Fail> {
         "document 4",
         "document 4\nabc",
         "document x\n",
+        "\ndocument 4\na\nb\n",
         "power\n",
         "document 4194305\n",
         "document 1\r\na",
