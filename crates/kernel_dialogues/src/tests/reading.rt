@@ -84,6 +84,7 @@ gpo-bare-9000: selected > 80a8000002830000 9000 = terminated initiate coding 0 t
 gpo-77-none: selected > 80a8000002830000 77009000 = terminated initiate missing 82 tvr=0000000000 tsi=0000 cvm=000000 arc=-- atc=---- ac=---------------- scripts=-
 gpo-77-no-94: selected > 80a8000002830000 770482021c009000 = terminated initiate missing 94 tvr=0000000000 tsi=0000 cvm=000000 arc=-- atc=---- ac=---------------- scripts=-
 gpo-fault-in-the-second-template: selected > 80a8000002830000 770077038205009000 = terminated initiate coding 4 tvr=0000000000 tsi=0000 cvm=000000 arc=-- atc=---- ac=---------------- scripts=-
+gpo-77-fault-deep: selected > 80a8000002830000 770d8202000094040801010073019f9000 > 00b2010c00 gone = cut read tvr=0000000000 tsi=0000 cvm=000000 arc=-- atc=---- ac=---------------- scripts=-
 gpo-80-empty: selected > 80a8000002830000 80009000 = terminated initiate value 80 tvr=0000000000 tsi=0000 cvm=000000 arc=-- atc=---- ac=---------------- scripts=-
 gpo-9001: selected > 80a8000002830000 80061c00080103009001 = terminated initiate status 9001 tvr=0000000000 tsi=0000 cvm=000000 arc=-- atc=---- ac=---------------- scripts=-
 gpo-empty: selected > 80a8000002830000 - = terminated initiate answer tvr=0000000000 tsi=0000 cvm=000000 arc=-- atc=---- ac=---------------- scripts=-
