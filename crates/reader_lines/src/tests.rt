@@ -72,7 +72,10 @@ fn given_in(alloc: Global, text: &[u8], fails: &[u32]) -> Result<Result<Given, R
 
 #[test]
 fn a_document_stands_first(rt: HostRuntime) -> Result<(), Fail> {
-    for text in ["document 4\na\nb\npower\n", "document 00000004\na\nb\npower\n"] {
+    for text in [
+        "document 4\na\nb\npower\n",
+        "document 00000004\na\nb\npower\n",
+    ] {
         match given_in(rt.alloc(), text.as_bytes(), &[])? {
             Ok(Given::Document(bytes)) => assert_eq!(rt; bytes.as_slice(), b"a\nb\n".as_slice()),
             Ok(Given::Other) | Err(_) => assert!(rt; false, "{text}"),
