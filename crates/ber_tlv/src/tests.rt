@@ -33,6 +33,7 @@ fn reads_items_and_faults(rt: HostRuntime) {
 
     assert!(rt; first_fault(&[0x5A, 0x80]) == Some(TlvFault::BadLength(1)));
     assert!(rt; first_fault(&[0x9F, 0x81, 0x81, 0x01]) == Some(TlvFault::LongTag(0)));
+    assert!(rt; first_fault(&[0x9F, 0x81, 0x80, 0x01]) == Some(TlvFault::LongTag(0)));
     // Padding, a whole object, padding, and a tag that is cut.
     assert!(rt; first_fault(&[0, 0x50, 0x01, 0x41, 0, 0x9F]) == Some(TlvFault::Truncated(5)));
 }
@@ -81,6 +82,8 @@ fn reads_objects_directly_in_a_string(rt: HostRuntime) {
     assert!(rt; first_value(&fci[3..11], Tag(0x84)) == Ok(Some([0xA0].as_slice())));
     assert!(rt; first_value(&fci[3..11], Tag(0x87)) == Ok(None));
     assert!(rt; first_value(&[0x84, 0x02, 0xA0], Tag(0x84)) == Err(TlvFault::Truncated(0)));
+    // What stands behind the first one is looked at too.
+    assert!(rt; first_value(&[0x84, 0x00, 0x84, 0x02], Tag(0x84)) == Err(TlvFault::Truncated(2)));
 
     // An object in a template 77 is cut; in a 70 it is not looked at.
     let cut = [0x77, 0x04, 0x82, 0x00, 0x5A, 0x05];

@@ -29,6 +29,9 @@ fn refuses_object_513_and_byte_16385(rt: HostRuntime) {
         assert!(rt; env.put(Tag(number), &[]) == Ok(()));
     }
     assert!(rt; env.put(Tag(512), &[]) == Err(EnvFault::TooMany));
+    // A tag that is there comes before the missing room, and too many objects before too many bytes.
+    assert!(rt; env.put(Tag(7), &[]) == Err(EnvFault::Repeated(Tag(7))));
+    assert!(rt; env.put(Tag(512), &[0; 16385]) == Err(EnvFault::TooMany));
 
     let mut full = Env::new();
     assert!(rt; full.put(Tag(0x50), &[7; 16383]) == Ok(()));

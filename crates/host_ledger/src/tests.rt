@@ -40,7 +40,15 @@ fn holds_what_is_there(rt: HostRuntime) -> Result<(), Fail> {
     assert!(rt; ledger.hold(&first, 2500) == Err(LedgerFault::AlreadyBooked(held)));
     assert!(rt; ledger.hold(&key(&PAN, 12)?, 1) == Err(LedgerFault::NoFunds(0)));
     assert!(rt; ledger.hold(&key(&[1], 11)?, 1) == Err(LedgerFault::UnknownAccount));
-    assert!(rt; ledger.hold(&key(&OTHER, 11)?, 10) == Ok(()));
+    let other = key(&OTHER, 11)?;
+    assert!(rt; ledger.hold(&other, 10) == Ok(()));
+    // A card of the same account with another sequence number has transactions of its own.
+    let second_card = Key {
+        pan: other.pan.copy(),
+        sequence: 2,
+        counter: 11,
+    };
+    assert!(rt; ledger.hold(&second_card, 0) == Ok(()));
     Ok(())
 }
 
