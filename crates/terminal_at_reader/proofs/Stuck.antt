@@ -3,7 +3,6 @@ use Rattle.std.proofs.Common.{◌≡◌, ℕ, true, false, List, [], ◌∷◌, 
 use Rattle.std.proofs.lemmas.Option.{same_Some}
 use Rattle.std.specs.Io.KnownBytes.{Appends, Consumes}
 use Rattle.emv_ports.proofs.Growth.{Appends-more}
-use Rattle.emv_ports.specs.Growth.{AppendsFront}
 use Rattle.kernel.specs.Dialogue.{dialogue}
 use Rattle.kernel.specs.Kernel.{KernelData, deal_in}
 use Rattle.kernel.specs.Reply.{Reply, Deed}
@@ -18,7 +17,7 @@ use Rattle.trace_check.specs.Loop.{Taken}
 use Rattle.trace_check.specs.Texts.{entry_of}
 use Rattle.trace_check.specs.declared.entry.Entry.{Entry}
 use Rattle.terminal_at_reader.specs.Talk.{IsEntryRead, IsStuck, NoEntry, NoReply, SoFar, line_of, written}
-use Rattle.terminal_at_reader.specs.Top.{IsHalfAnswered, IsUnheard}
+use Rattle.terminal_at_reader.specs.Top.{IsUnheardWith}
 
 -- what is so of all that may stand behind a line
 pub every_rest : (P : List ℕ → Type 0) → ((rest : List ℕ) → P rest) → (left : Option (List ℕ)) → IfSome left P
@@ -68,26 +67,15 @@ is_stuck deal kernel first left before held now far asked other = record {
   told = Appends-more before held now (written far.entries) (line_of (entry_at deal (dialogue deal far.replies))) far.told asked;
 }
 
--- the same of the terminal of a lane, and what answers it
-pub unheard : (lane : LaneData) (deal : Deal) (planned : Planned) (first before between held : Option (List ℕ)) → lane.purchases ≡ planned ∷ []
-    → deal ≡ record { settings = lane.settings; purchase = planned.purchase } → IsStuck deal first before between → Appends between held (codes "?" ++ 10 ∷ [])
-    → IsUnheard lane first before held
-unheard lane deal planned first before between held one same stuck told = record {
+-- the same of the terminal of a lane, with what became of the line that answers it
+pub unheard : (Tells : Option (List ℕ) → Option (List ℕ) → List ℕ → Type 0) (lane : LaneData) (deal : Deal) (planned : Planned)
+    (first before between held : Option (List ℕ)) → lane.purchases ≡ planned ∷ []
+    → deal ≡ record { settings = lane.settings; purchase = planned.purchase } → IsStuck deal first before between → Tells between held (codes "?" ++ 10 ∷ [])
+    → IsUnheardWith Tells lane first before held
+unheard Tells lane deal planned first before between held one same stuck told = record {
   planned = planned;
   one = one;
   between = between;
   stuck = subst (λ (d : Deal). IsStuck d first before between) same stuck;
   told = told;
-}
-
--- the same, where a front of the line was written
-pub half_answered : (lane : LaneData) (deal : Deal) (planned : Planned) (first before between held : Option (List ℕ)) → lane.purchases ≡ planned ∷ []
-    → deal ≡ record { settings = lane.settings; purchase = planned.purchase } → IsStuck deal first before between
-    → AppendsFront between held (codes "?" ++ 10 ∷ []) → IsHalfAnswered lane first before held
-half_answered lane deal planned first before between held one same stuck front = record {
-  planned = planned;
-  one = one;
-  between = between;
-  stuck = subst (λ (d : Deal). IsStuck d first before between) same stuck;
-  front = front;
 }

@@ -44,13 +44,21 @@ pub record IsRefused (first left before held : Option (List ℕ)) : Type 0 where
   pub named : refused_line fault ≡ Some words
   pub told : Appends before held words
 
--- what the terminal of a lane asked last is followed by no reply that it awaits, which was answered by one line
-pub record IsUnheard (lane : LaneData) (first before held : Option (List ℕ)) : Type 0 where
+-- what the terminal of a lane asked last is followed by no reply that it awaits, and this became of the line that answers it
+pub record IsUnheardWith (Tells : Option (List ℕ) → Option (List ℕ) → List ℕ → Type 0) (lane : LaneData) (first before held : Option (List ℕ)) : Type 0 where
   pub planned : Planned
   pub one : lane.purchases ≡ planned ∷ []
   pub between : Option (List ℕ)
   pub stuck : IsStuck (record { settings = lane.settings; purchase = planned.purchase }) first before between
-  pub told : Appends between held (codes "?" ++ 10 ∷ [])
+  pub told : Tells between held (codes "?" ++ 10 ∷ [])
+
+-- the line was written
+abbrev pub IsUnheard : LaneData → Option (List ℕ) → Option (List ℕ) → Option (List ℕ) → Type 0
+IsUnheard lane first before held = IsUnheardWith Appends lane first before held
+
+-- a front of it was written
+abbrev pub IsHalfAnswered : LaneData → Option (List ℕ) → Option (List ℕ) → Option (List ℕ) → Type 0
+IsHalfAnswered lane first before held = IsUnheardWith AppendsFront lane first before held
 
 -- no document stands first, which was answered by one line; or one was read, and in it a terminal that got no reply
 pub data IsOdd (first before held : Option (List ℕ)) : Type 0 where
@@ -63,14 +71,6 @@ pub record IsCutOff (lane : LaneData) (before held : Option (List ℕ)) : Type 0
   pub planned : Planned
   pub one : lane.purchases ≡ planned ∷ []
   pub cut : IsCut (record { settings = lane.settings; purchase = planned.purchase }) before held
-
--- of the line that answers what it does not await a front was written
-pub record IsHalfAnswered (lane : LaneData) (first before held : Option (List ℕ)) : Type 0 where
-  pub planned : Planned
-  pub one : lane.purchases ≡ planned ∷ []
-  pub between : Option (List ℕ)
-  pub stuck : IsStuck (record { settings = lane.settings; purchase = planned.purchase }) first before between
-  pub front : AppendsFront between held (codes "?" ++ 10 ∷ [])
 
 -- nothing was written; or a document was read, and the talk of its terminal was broken off
 abbrev pub IsBrokenIn : List ℕ → Option (List ℕ) → Option (List ℕ) → Type 0

@@ -1,7 +1,9 @@
 use Rattle.std.proofs.Common.{◌≡◌, inl, inr, Err, ap, subst}
+use Rattle.std.specs.Io.KnownBytes.{Appends}
+use Rattle.emv_ports.specs.Growth.{AppendsFront}
 use Rattle.kernel.specs.Kernel.{deal_in}
 use Rattle.scenario_lanes.specs.Plan.{LaneData}
-use Rattle.terminal_at_reader.proofs.Stuck.{half_answered, unheard}
+use Rattle.terminal_at_reader.proofs.Stuck.{unheard}
 use Rattle.terminal_at_reader.proofs.Talking.{cut_off, only_planned, traced}
 use Rattle.terminal_at_reader.specs.Top.{IsCutOff, IsHalfAnswered, IsTraced, IsUnheard}
 use Rattle.terminal_at_reader.specs.declared.talk.Stop.{Stop}
@@ -23,7 +25,7 @@ returns-in-Err-Other-clause-odd g c = λ two.
     let same : seen ≡ c.args.lane.now = cc c.lane.view_is in
     let one = only_planned seen c.args.lane.now c.index-planned.result.now same c.requires.one c.index-planned.ensures in
     subst (λ (lane : LaneData). IsUnheard lane (g.S.Source.left c.args.source.now) (g.K.Sink.held c.args.sink.now) (g.K.Sink.held c.answer_other.new.sink)) same
-    (unheard seen (deal_in c.begin-kernel.result) c.index-planned.result.now (g.S.Source.left c.args.source.now) (g.K.Sink.held c.args.sink.now)
+    (unheard Appends seen (deal_in c.begin-kernel.result) c.index-planned.result.now (g.S.Source.left c.args.source.now) (g.K.Sink.held c.args.sink.now)
     (g.K.Sink.held c.converse.new.sink) (g.K.Sink.held c.answer_other.new.sink) one c.begin-kernel.ensures.deal_is
     (c.in-Err-Other.ensures.odd (ap (λ (stop : Stop). Err stop) c.in-Err-Other.field-0-is)) (c.answer_other.ensures.told two))
 
@@ -42,6 +44,6 @@ returns-in-Err-Other-clause-short g c = λ four.
     let same : seen ≡ c.args.lane.now = cc c.lane.view_is in
     let one = only_planned seen c.args.lane.now c.index-planned.result.now same c.requires.one c.index-planned.ensures in
     inr (subst (λ (lane : LaneData). IsHalfAnswered lane (g.S.Source.left c.args.source.now) (g.K.Sink.held c.args.sink.now) (g.K.Sink.held c.answer_other.new.sink)) same
-    (half_answered seen (deal_in c.begin-kernel.result) c.index-planned.result.now (g.S.Source.left c.args.source.now) (g.K.Sink.held c.args.sink.now)
+    (unheard AppendsFront seen (deal_in c.begin-kernel.result) c.index-planned.result.now (g.S.Source.left c.args.source.now) (g.K.Sink.held c.args.sink.now)
     (g.K.Sink.held c.converse.new.sink) (g.K.Sink.held c.answer_other.new.sink) one c.begin-kernel.ensures.deal_is
     (c.in-Err-Other.ensures.odd (ap (λ (stop : Stop). Err stop) c.in-Err-Other.field-0-is)) (c.answer_other.ensures.front four)))
