@@ -50,22 +50,32 @@ pub record IsRefused (first left before held : Option (List ℕ)) : Type 0 where
   pub document : Consumes first left ((line ++ 10 ∷ []) ++ bytes)
   pub fault : IsFault bytes before held
 
--- a new card's answers to lines, and the line that answers what is no line of a talk
-pub record IsOverfull (image : ImageData) (first before held : Option (List ℕ)) : Type 0 where
+-- a new card answered lines, and this became of the line that answers what is no line of a talk
+pub record IsOverfullWith (Tells : Option (List ℕ) → Option (List ℕ) → List ℕ → Type 0) (image : ImageData) (first before held : Option (List ℕ)) : Type 0 where
   pub between : Option (List ℕ)
   pub full : IsFull image new_card first before between
-  pub told : Appends between held (codes "?" ++ 10 ∷ [])
+  pub told : Tells between held (codes "?" ++ 10 ∷ [])
 
--- there is no such card with applications, which one line answers; or it answered lines before one that is too long
-pub data IsUnserved (name : Option (List ℕ)) (cards : List NamedCard) (first before held : Option (List ℕ)) : Type 0 where
-  Lacking : image_in name cards ≡ None → Appends before held (codes "?" ++ 10 ∷ []) → IsUnserved name cards first before held
-  Overfull : (image : ImageData) → image_in name cards ≡ Some image → IsOverfull image first before held → IsUnserved name cards first before held
+-- the line was written
+abbrev pub IsOverfull : ImageData → Option (List ℕ) → Option (List ℕ) → Option (List ℕ) → Type 0
+IsOverfull image first before held = IsOverfullWith Appends image first before held
+
+-- a front of it was written
+abbrev pub IsHalfAnswered : ImageData → Option (List ℕ) → Option (List ℕ) → Option (List ℕ) → Type 0
+IsHalfAnswered image first before held = IsOverfullWith AppendsFront image first before held
+
+-- a document was read in which there is no such card with applications, which one line answers; or its card answered lines
+-- before one that is too long
+pub data IsUnserved (name : Option (List ℕ)) (bytes : List ℕ) (first before held : Option (List ℕ)) : Type 0 where
+  Lacking : (cards : List NamedCard) → IsReading bytes (Ok cards) → image_in name cards ≡ None → Appends before held (codes "?" ++ 10 ∷ [])
+      → IsUnserved name bytes first before held
+  Overfull : (image : ImageData) → IsServed name bytes image → IsOverfull image first before held → IsUnserved name bytes first before held
 
 -- no document stands first, which one line answers; or one was read
 pub data IsOdd (name : Option (List ℕ)) (first before held : Option (List ℕ)) : Type 0 where
   NoneFirst : OfFirstLine NoDocument first → Appends before held (codes "?" ++ 10 ∷ []) → IsOdd name first before held
-  Unserved : (bytes : List ℕ) (between : Option (List ℕ)) → IsDocument first between bytes → (cards : List NamedCard) → IsReading bytes (Ok cards)
-      → IsUnserved name cards between before held → IsOdd name first before held
+  Unserved : (bytes : List ℕ) (between : Option (List ℕ)) → IsDocument first between bytes → IsUnserved name bytes between before held
+      → IsOdd name first before held
 
 -- nothing was written; or a document was read, and the talk of its card was broken off
 abbrev pub IsBrokenIn : Option (List ℕ) → List ℕ → Option (List ℕ) → Option (List ℕ) → Type 0
@@ -75,12 +85,6 @@ pub data IsBroken (name : Option (List ℕ)) (first before held : Option (List �
   Silent : held ≡ before → IsBroken name first before held
   InTalk : (bytes : List ℕ) (between : Option (List ℕ)) → IsDocument first between bytes → IsBrokenIn name bytes before held
       → IsBroken name first before held
-
--- a new card answered lines, and of the line that answers what is no line of a talk a front was written
-pub record IsHalfAnswered (image : ImageData) (first before held : Option (List ℕ)) : Type 0 where
-  pub between : Option (List ℕ)
-  pub full : IsFull image new_card first before between
-  pub front : AppendsFront between held (codes "?" ++ 10 ∷ [])
 
 -- the sink failed behind a document: in the line of its fault, in the one that answers that there is no such card, in the
 -- talk of its card, or in the line that answers what is no line of a talk

@@ -3,7 +3,6 @@ ghost use Rattle.std.specs.Prelude.{◌≡◌, ◌≢◌, ◌≤◌, ◌⊎◌, 
 ghost use Rattle.std.specs.Io.KnownBytes.{Appends};
 ghost use Rattle.emv_ports.specs.Causes.{Rose};
 ghost use Rattle.emv_ports.specs.Growth.{AppendsFront};
-ghost use Rattle.scenario.specs.declared.plan.NamedCard.{NamedCard as CardRow};
 ghost use Rattle.scenario_fields.specs.Line.{refused_line};
 ghost use Rattle.card_files.specs.Views.{ImageData};
 ghost use Rattle.card_at_reader.specs.Desk.{new_card};
@@ -99,8 +98,7 @@ fn hold_document<P: Pages, S: Source, K: Sink>(
         × IsAnswered image new_card (S.left source.old) (S.left source.new) (K.held sink.old) (K.held sink.new) }
     ensures refused { result ≡ 1 → IsFault bytes.now (K.held sink.old) (K.held sink.new) }
     ensures unread { result ≡ 1 → source.new ≡ source.old }
-    ensures odd { result ≡ 2 → (cards : List CardRow) × IsReading bytes.now (Ok cards)
-        × IsUnserved (option_map (λ name. name.now) name.entry) cards (S.left source.old) (K.held sink.old) (K.held sink.new) }
+    ensures odd { result ≡ 2 → IsUnserved (option_map (λ name. name.now) name.entry) bytes.now (S.left source.old) (K.held sink.old) (K.held sink.new) }
     ensures broken { (result ≡ 3) ⊎ (result ≡ 5) → IsBrokenIn (option_map (λ name. name.now) name.entry) bytes.now (K.held sink.old) (K.held sink.new) }
     ensures short { result ≡ 4 → IsCutIn (option_map (λ name. name.now) name.entry) bytes.now (S.left source.old) (K.held sink.old) (K.held sink.new) }
     ensures source { result ≡ 3 → Rose (S.faults source.old) (S.faults source.new) }

@@ -27,5 +27,5 @@ returns-clause-short g c = λ four.
       full =
           subst (λ (image : ImageData). IsFull image new_card (g.S.Source.left c.args.source.now) (g.K.Sink.held c.args.sink.now) (g.K.Sink.held c.attend.new.sink))
           c.put_in-desk.ensures.image (c.in-Err-Long.ensures.long (ap (λ (stop : Stop). Err stop) c.in-Err-Long.field-0-is) new_card c.put_in-desk.ensures.stands);
-      front = c.answer_other.ensures.front four;
+      told = c.answer_other.ensures.front four;
     }

@@ -5,11 +5,11 @@ use Rattle.card_at_reader.proofs.top.run.Goals as goal
 
 pub returns-in-Ok-Document-clause-odd : goal.returns-in-Ok-Document-clause-odd
 returns-in-Ok-Document-clause-odd g c = λ two.
-    let found = c.hold_document.ensures.odd two in
     Unserved c.as_slice.result.now (g.S.Source.left c.read_given.new.source)
-    (rw c.as_slice.ensures.value (rw c.in-Ok-Document.field-0-is at c.in-Ok-Document.ensures.given)) found.0 found.1
+    (rw c.as_slice.ensures.value (rw c.in-Ok-Document.field-0-is at c.in-Ok-Document.ensures.given))
     (subst (λ (name : Option (List ℕ)).
-    IsUnserved name found.0 (g.S.Source.left c.read_given.new.source) (g.K.Sink.held c.args.sink.now) (g.K.Sink.held c.hold_document.new.sink)) c.name_in.ensures found.2)
+    IsUnserved name c.as_slice.result.now (g.S.Source.left c.read_given.new.source) (g.K.Sink.held c.args.sink.now) (g.K.Sink.held c.hold_document.new.sink))
+    c.name_in.ensures (c.hold_document.ensures.odd two))
 
 pub returns-in-Ok-Document-clause-broken : goal.returns-in-Ok-Document-clause-broken
 returns-in-Ok-Document-clause-broken g c = λ why.
