@@ -1,5 +1,5 @@
 //! The buffer of the lines.
-ghost use Rattle.std.specs.Prelude.{◌≡◌, ◌++◌, ◌≤◌, ◌∷◌, [], true, false, OnOk};
+ghost use Rattle.std.specs.Prelude.{◌≡◌, ◌++◌, ◌≤◌, ◌∷◌, [], true, false, OnErr, OnOk};
 ghost use Rattle.word_lines.specs.Lines.{AreWordLines, begun, closed, opened, shown, stage_of};
 ghost use Rattle.word_lines.specs.Pieces as piece;
 ghost use Rattle.word_lines.specs.Pieces.{Tells};
@@ -141,12 +141,15 @@ impl WordLines {
         }
     }
 
-    /// Ends the open line. An error says that there was no memory, for this or an earlier piece.
+    /// Ends the open line. An error says that there was no memory, for this or an earlier piece; each later call gives it
+    /// again.
     #[tactic(auto, unfolding(crate::specs::Lines::AreWordLines))]
     pub fn finish(&mut self) -> Result<(), AllocError>
         ensures lines { OnOk result (AreWordLines self.new.bytes) }
         ensures ended { OnOk result (self.new.bytes ≡ closed self.old.bytes) }
         ensures whole { OnOk result (self.old.failed ≡ false) }
+        ensures still_whole { OnOk result (self.new.failed ≡ false) }
+        ensures failed { OnErr result (self.new.failed ≡ true) }
     {
         self.end();
         if self.failed {
