@@ -10,7 +10,7 @@ pub record Caught : Type 0 where
   pub message : List ℕ
   pub lost : Bool
 
--- Of these captures these were sent, in their order: each once, or again where its drop was lost; that of a lost purchase
+-- Of these captures these were sent, in their order: each once, or again, as its drop may be lost; that of a lost purchase
 -- maybe never.
 pub data Sends : List Caught → List (List ℕ) → Type 0 where
   none : Sends [] []

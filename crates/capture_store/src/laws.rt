@@ -3,8 +3,8 @@ ghost use Rattle.capture_store.specs.Fitting.{StoreFits};
 ghost use Rattle.capture_store.specs.Sending.{StoreKeeps, LeavesOneOfTwo};
 
 /// From an opening through every call, made or cut at any place: whatever the next opening would find, what
-/// was sent and what is left is sent of what was caught, in its order. A capture is sent once, or again where
-/// its drop was lost, and only that of a lost purchase maybe never.
+/// was sent and what is left is sent of what was caught, in its order. A capture is sent once, or again, as its
+/// drop may be lost, and only that of a lost purchase maybe never.
 pub fn stores_keep_what_is_sent()
     ensures { StoreKeeps }
 {}

@@ -1,7 +1,7 @@
 -- A turn of a lane from what its function has at hand: the lane, its purchase that is next or runs, its card and its store.
-use Rattle.std.proofs.Common.{◌≡◌, ℕ, ◌<◌, ◌≤◌, Bool, true, false, ◌&&◌, List, [], length, get_or, set, slice_get, Option, Some, None, sym, ap, ◌∙◌, subst, arith}
+use Rattle.std.proofs.Common.{◌≡◌, refl, ℕ, ◌<◌, ◌≤◌, Bool, true, false, ◌&&◌, List, [], length, get_or, set, slice_get, Option, Some, None, sym, ap, ◌∙◌, subst, arith}
 use Rattle.std.specs.Prelude.{is_none}
-use Rattle.std.proofs.lemmas.List.{length-set}
+use Rattle.std.proofs.lemmas.List.{length-set, set-get_or}
 use Rattle.std.proofs.lemmas.List.Elements.{All-set}
 use Rattle.std.proofs.lemmas.Option.{same_Some}
 use Rattle.capture_store.specs.SeenShelf.{ShelfSeen}
@@ -12,7 +12,7 @@ use Rattle.report_text.specs.declared.line.Line.{Line}
 use Rattle.scenario_lanes.specs.Plan.{purchase_count}
 use Rattle.txn_replay.specs.Bounds.{purchases_in}
 use Rattle.txn_replay.specs.Payment.{Payment, payment_in, next_of}
-use Rattle.txn_replay.specs.Seen.{WorldSeen, WorldStands, Goes, IsStanding, IsWhole}
+use Rattle.txn_replay.specs.Seen.{WorldSeen, WorldStands, IsUnmoved, Goes, IsStanding, IsWhole}
 use Rattle.txn_replay.specs.Slot.{SlotSeen, SlotOff, is_on}
 use Rattle.txn_replay.specs.Sound.{IsIdle}
 use Rattle.txn_replay.specs.Standing.{PartStands, LaneFits, Led, SameLane, seen_payment}
@@ -23,10 +23,13 @@ use Rattle.txn_replay.specs.declared.event.Event.TheVariants.{Turn}
 use Rattle.txn_replay.specs.declared.lane.Lane.{Lane}
 use Rattle.txn_replay.specs.declared.payment.Payment.{Payment as Paying}
 use Rattle.txn_replay.proofs.Few.{inside_lane}
-use Rattle.txn_replay.proofs.Lists.{found_at}
+use Rattle.txn_replay.proofs.Lists.{found_at, set_one}
 use Rattle.txn_replay.proofs.Payments.{some_of_all}
 use Rattle.txn_replay.proofs.Turned.{idle_without, idle_goes, idle_held, free_holder, same_stands}
 use Rattle.txn_replay.proofs.Turning.{part_stands, turn_goes}
+
+same_itself : (lane : Lane) → SameLane lane lane
+same_itself lane = record { ended = refl; running = refl; log = refl; captures = refl; card = refl; ending = refl; found = refl }
 
 -- `v` is made of the fields of the run, whose value is `now`
 module _ (v now : WorldSeen) (view : v ≡ now) (whole : IsWhole v) (l : ℕ) (below : l < length now.scenario.lanes)
@@ -135,6 +138,20 @@ module _ (v now : WorldSeen) (view : v ≡ now) (whole : IsWhole v) (l : ℕ) (b
               subst (λ (h : HostData). WorldStands (record after { host = h }) w) (sym host_same)
               (subst (λ (t : Counts). WorldStands (record after { host = v.host; tally = t }) w) (sym tally_same)
               (same_stands v w stands l p.planned.card own later shelf behind slot next own_there shelf_there slot_there same shelf_same slot_same))
+
+          pub nothing_else : SameLane own later → behind ≡ shelf → next ≡ slot → host ≡ v.host → tally ≡ v.tally → IsUnmoved now after
+          nothing_else same shelf_same slot_same host_same tally_same =
+              subst (λ (x : WorldSeen). IsUnmoved x after) view (record {
+                scenario = refl;
+                slots = ap (λ (x : SlotSeen). set v.slots p.planned.card x) (slot_same ∙ slot_is) ∙ set-get_or v.slots p.planned.card slot;
+                lane_count = length-set v.lanes l later;
+                lanes = set_one (λ (j : ℕ) (x : Lane). (before : Lane) × (slice_get v.lanes j ≡ Some before) × SameLane before x) v.lanes l later
+                    (own, own_there, same) (λ j x differs there. (x, there, same_itself x));
+                shelves = ap (λ (x : ShelfSeen). set v.shelves l x) (shelf_same ∙ shelf_is) ∙ set-get_or v.shelves l shelf;
+                host = host_same;
+                tally = tally_same;
+                spare = refl;
+              })
 
           -- or the exchange has happened; `held` was asked of the same lane and card before
           pub moved_on : (lane_before : Lane) → lane_before ≡ get_or v.lanes l lane_before → (slot_before : SlotSeen)

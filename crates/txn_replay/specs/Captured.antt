@@ -70,7 +70,7 @@ pub record IsDelivered (keys : HostKeys) (accounts : List AccountData) (messages
       → approves (reply_of (host_reply keys accounts (take at messages) message)) ≡ true → IsBookedBy keys accounts messages (present_key fields) at
 
 -- each capture of a purchase that wasn't lost was sent whole, in the order of the purchases, each copy; that of a lost purchase
--- whole or never; and what was sent twice was, because its drop was lost. What was sent came to the host.
+-- whole or never; one may be sent again, as its drop may be lost. What was sent came to the host.
 pub record AreSent (s : ScenarioData) (lines : List Line) (w : World) (l : ℕ) : Type 0 where
   pub sent : List (List ℕ)
   pub sends : Sends (caught_in (lane_at w l).ended) sent

@@ -20,7 +20,7 @@ use Rattle.txn_replay.specs.Run.{all_over}
 use Rattle.txn_replay.specs.Slot.{SlotSeen, SlotOn, IsSlotOf, HasLost, is_on}
 use Rattle.txn_replay.specs.Sound.{IsSound}
 use Rattle.txn_replay.specs.StandAlone.{ComesApart}
-use Rattle.txn_replay.specs.Standing.{RunStands, LaneKeeps, CardStands, ShelfFor, LaneFits, lane_left, shelf_left}
+use Rattle.txn_replay.specs.Standing.{RunStands, LaneKeeps, CardStands, ShelfFor, LaneFits, SameLane, lane_left, shelf_left}
 use Rattle.txn_replay.specs.Steps.{Asks, checks, Step}
 use Rattle.txn_replay.specs.Stored.{StoresStand, IsSettledTo}
 use Rattle.txn_replay.specs.World.{Holder, CardRow, LaneRow, World, card_at, lane_at}
@@ -37,6 +37,17 @@ pub record WorldSeen : Type 0 where
   pub tally : Counts
   -- the pages that no card and no store has
   pub spare : List Memory
+
+-- nothing is another, but that a lane may have more room than before
+pub record IsUnmoved (old new : WorldSeen) : Type 0 where
+  pub scenario : new.scenario ≡ old.scenario
+  pub slots : new.slots ≡ old.slots
+  pub lane_count : length new.lanes ≡ length old.lanes
+  pub lanes : (l : ℕ) (later : Lane) → slice_get new.lanes l ≡ Some later → (lane : Lane) × (slice_get old.lanes l ≡ Some lane) × SameLane lane later
+  pub shelves : new.shelves ≡ old.shelves
+  pub host : new.host ≡ old.host
+  pub tally : new.tally ≡ old.tally
+  pub spare : new.spare ≡ old.spare
 
 -- the plan of the purchase that has a card
 abbrev pub plan_in : Option Payment → Option Tear

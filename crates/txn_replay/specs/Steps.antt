@@ -1,4 +1,4 @@
--- The events of a run: an exchange of a lane, a message of the settlement, a step of the audit (this project's own).
+-- The events of a run: an exchange of a lane, a step of the settlement, a step of the audit (this project's own).
 use Rattle.std.specs.Prelude.{◌≡◌, ℕ, ◌+◌, ◌-◌, Bool, true, false, if◌then◌else◌, List, [], ◌∷◌, ◌++◌, length, flat_map, replicate, slice_get, slice_index_or, slice_set, Option, Some, None, unwrap_or}
 use Rattle.app_select.specs.Said.{select_command}
 use Rattle.capture_store.specs.Calls.{Drops}

@@ -1,6 +1,5 @@
 //! The audit: each card with applications is powered up, and each of these is asked for its counters.
 ghost use Rattle.std.specs.Prelude.{◌≡◌, ◌≤◌, ◌<◌, ◌+◌, ◌*◌, ◌∷◌, [], ℕ, Bool, true, None, option_map, slice_get, length, IfSome};
-ghost use Rattle.app_select.specs.Said.{select_command};
 ghost use Rattle.card_app.specs.SeenChip.{ChipOn, ChipOff, is_on as chip_on, losses_of};
 ghost use Rattle.card_pages.specs.Pages.{found_of};
 ghost use Rattle.risk_mgmt.specs.Counters.{get_data};
@@ -16,6 +15,7 @@ ghost use Rattle.std.specs.List.{flat_map};
 use crate::lines::{Lines, add_audit, add_audit_power};
 use crate::slot::{Slot, SlotKind};
 use apdu_core::{Answer, Command, Out, write_command};
+use app_select::{FIRST_OCCURRENCE, write_select};
 use card_app::Chip;
 use card_files::AppImage;
 use emv_ports::Pages;
@@ -185,28 +185,10 @@ fn write_question(question: Question<'_>, out: &mut Out)
     ensures { out.new.items ≡ question_command question.entry }
 {
     match question {
-        Question::Select(app) => write_select(app, out),
+        Question::Select(app) => write_select(app.name.0.as_slice(), FIRST_OCCURRENCE, out),
         Question::Counter => write_get_data(0x36, out),
         Question::LastOnline => write_get_data(0x13, out),
     }
-}
-
-/// SELECT of an application's name.
-fn write_select(app: &AppImage, out: &mut Out)
-    ensures { out.new.items ≡ select_command 0 app.now.name }
-{
-    let name = app.name.0.as_slice();
-    write_command(
-        &Command {
-            class: 0,
-            ins: 0xA4,
-            p1: 4,
-            p2: 0,
-            body: name,
-            expects: Some(0),
-        },
-        out,
-    );
 }
 
 /// GET DATA of an object whose tag has this second byte behind 9F.

@@ -45,7 +45,7 @@ pub(crate) struct Common<'s> {
 }
 
 /// The purchase goes on behind a reply, or has ended: the card is turned off then.
-fn settle<'s, P: Pages>(
+fn end_if_over<'s, P: Pages>(
     at: &Payment<'s>,
     lane: &mut Lane<'s>,
     shelf: &mut Shelf<P>,
@@ -119,7 +119,7 @@ fn ask_card<'s, P: Pages>(
         Ok(()) => {
             add_answer(at.lane, kernel.bytes(), answer.as_slice(), lines);
             kernel.take_card(answer.as_slice(), lane.log.as_slice());
-            settle(at, lane, shelf, slot, tally, lines);
+            end_if_over(at, lane, shelf, slot, tally, lines);
         }
         Err(Gone) => {
             slot.add_gone(at.lane, kernel.bytes(), lines);
@@ -214,7 +214,7 @@ fn ask_host<'s, P: Pages>(
         lines,
     );
     hear(lane, said(comes, &reply));
-    settle(at, lane, shelf, slot, &mut common.tally, lines);
+    end_if_over(at, lane, shelf, slot, &mut common.tally, lines);
     Ok(())
 }
 
@@ -250,7 +250,7 @@ fn begin<'s, P: Pages>(
     match slot.power_up(at.planned.tear) {
         Ok(()) => {
             slot.add_power(at.lane, at.card.name.as_slice(), lines);
-            settle(at, lane, shelf, slot, tally, lines);
+            end_if_over(at, lane, shelf, slot, tally, lines);
         }
         Err(Gone) => {
             add_power_torn(at.lane, at.card.name.as_slice(), lines);

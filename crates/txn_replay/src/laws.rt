@@ -91,8 +91,8 @@ pub fn pages_tell_totals()
 {}
 
 /// Of a lane that keeps its captures durably, each capture of a purchase that wasn't lost is sent whole, in the
-/// order of the purchases; that of a lost purchase is sent whole or never; one that is sent again is, because its
-/// drop was lost. What is sent comes to the host, and a presentment's transaction is booked where the host's reply
+/// order of the purchases; that of a lost purchase is sent whole or never; one may be sent again, as its drop may be
+/// lost. What is sent comes to the host, and a presentment's transaction is booked where the host's reply
 /// to it has code 00. A lane has lost as many purchases as its lines tell.
 pub fn captures_are_sent()
     ensures sent { CapturesAreSent }

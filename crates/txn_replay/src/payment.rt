@@ -51,10 +51,10 @@ pub(crate) fn payment_at(scenario: &Scenario, lane: usize, number: u32) -> Optio
 }
 
 /// Whether the lane speaks ISO 8583 with the host.
-pub(crate) fn dialect_at(scenario: &Scenario, lane: u8) -> bool
+pub(crate) fn speaks_iso(scenario: &Scenario, lane: usize) -> bool
     ensures { result ≡ dialect_of scenario.now lane }
 {
-    match scenario.lanes.get(lane as usize) {
+    match scenario.lanes.get(lane) {
         Some(terminal) => terminal.iso,
         None => false,
     }

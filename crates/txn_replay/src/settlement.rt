@@ -33,7 +33,7 @@ pub(crate) enum Settling<'a> {
     /// A message that a lane has captured is sent.
     Sends(usize, &'a [u8]),
     /// The oldest message of a lane's store is sent, and dropped behind its last copy.
-    Drains(usize, bool),
+    Drains { lane: usize, drops: bool },
 }
 
 /// How many steps a lane has.
@@ -69,7 +69,10 @@ fn step_in<'a>(
     if number == 0 {
         return Settling::Opens(index);
     }
-    Settling::Drains(index, number % copies == 0)
+    Settling::Drains {
+        lane: index,
+        drops: number % copies == 0,
+    }
 }
 
 /// The step of the settlement of this number, from 0.

@@ -8,7 +8,7 @@ ghost use Rattle.report_text.specs.declared.line.Line.{Line as ReportLine};
 ghost use Rattle.scenario.specs.Plan.{IsScenario};
 ghost use Rattle.txn_replay.specs.Reading.{data_at, ending_at};
 ghost use Rattle.txn_replay.specs.Run.{all_over, ended_count};
-ghost use Rattle.txn_replay.specs.Seen.{WorldSeen, WorldStands, Goes, BankStands, IsSettling, IsNext, is_done, turns_left};
+ghost use Rattle.txn_replay.specs.Seen.{WorldSeen, WorldStands, IsUnmoved, Goes, BankStands, IsSettling, IsNext, is_done, turns_left};
 ghost use Rattle.txn_replay.specs.Sound.{IsIdle};
 ghost use Rattle.txn_replay.specs.Steps.{Settlement, Check, settlements, checks};
 ghost use Rattle.txn_replay.specs.Stored.{IsSettledTo};
@@ -20,7 +20,7 @@ use crate::bank::{give_pages, give_stores, take_pages, take_stores};
 use crate::exchange::{Common, exchange, is_held};
 use crate::lane::{Lane, all_ended, are_done, data_in, new_lanes};
 use crate::lines::Lines;
-use crate::payment::{dialect_at, payment_at};
+use crate::payment::{payment_at, speaks_iso};
 use crate::settlement::{Settling, drain, open_to_settle, send, settlement};
 use crate::slot::Slot;
 use capture_store::Shelf;
@@ -139,6 +139,7 @@ impl<'s, P: Pages> World<'s, P> {
         ensures idle { IfOk result (λ went. went ≡ false → (w : SpecWorld) → WorldStands self.old w → IsIdle self.old.scenario w lane) }
         ensures still { IfOk result (λ went. went ≡ false → (self.new ≡ self.old) × (lines.new.items ≡ [])) }
         ensures err { OnErr result ((w : SpecWorld) → WorldStands self.old w → WorldStands self.new w) }
+        ensures unmoved { OnErr result (IsUnmoved self.old self.new) }
         ensures none { OnErr result (lines.new.items ≡ []) }
         ensures scenario { self.new.scenario ≡ self.old.scenario }
     {
@@ -193,12 +194,12 @@ impl<'s, P: Pages> World<'s, P> {
                 Ok(true)
             }
             Settling::Sends(lane, message) => {
-                let iso = dialect_at(scenario, lane as u8);
+                let iso = speaks_iso(scenario, lane);
                 send(iso, lane as u8, message, &mut self.common.host, lines)?;
                 Ok(true)
             }
-            Settling::Drains(lane, drops) => {
-                let iso = dialect_at(scenario, lane as u8);
+            Settling::Drains { lane, drops } => {
+                let iso = speaks_iso(scenario, lane);
                 let shelf = &mut self.shelves[lane];
                 drain(iso, lane as u8, drops, shelf, &mut self.common.host, lines)?;
                 Ok(true)

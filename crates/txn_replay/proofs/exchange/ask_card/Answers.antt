@@ -41,10 +41,10 @@ returns-in-Ok-clause-moved g c = λ issuer accounts replies part runs.
     ∙ ap (λ (xs : List Line). xs ++ answer_lines p.lane c.bytes-in-Ok.result.now c.as_slice.result.now) c.requires.lines
     ∙ ap (λ (bytes : List ℕ). answer_lines p.lane bytes c.as_slice.result.now) shown
     ∙ ap (λ (bytes : List ℕ). answer_lines p.lane command bytes) c.as_slice.ensures.value in
-    subst (λ (m : Moved). MovedTo p c.settle.new.lane c.settle.new.shelf c.settle.new.slot c.settle.new.lines.items m)
+    subst (λ (m : Moved). MovedTo p c.end_if_over.new.lane c.end_if_over.new.shelf c.end_if_over.new.slot c.end_if_over.new.lines.items m)
     (sym (asked_answered p c.args.lane.now c.args.shelf.now c.args.slot.now c.process.new.self replies part command runs is answer said))
-    (subst (λ (xs : List Line). MovedTo p c.settle.new.lane c.settle.new.shelf c.settle.new.slot c.settle.new.lines.items (settled p told after xs)) lines
-    (c.settle.ensures.moved issuer accounts told after
+    (subst (λ (xs : List Line). MovedTo p c.end_if_over.new.lane c.end_if_over.new.shelf c.end_if_over.new.slot c.end_if_over.new.lines.items (settled p told after xs)) lines
+    (c.end_if_over.ensures.moved issuer accounts told after
     (runs_on p c.args.lane.now c.args.shelf.now c.args.slot.now c.process.new.self replies part command runs is answer _ said taken (c.take_card.ensures.deal ∙ was.1) losses)))
 
 pub returns-in-Ok-clause-counted : goal.returns-in-Ok-clause-counted
@@ -72,10 +72,10 @@ returns-in-Ok-clause-counted g c = λ issuer accounts replies part runs.
     ∙ ap (λ (xs : List Line). xs ++ answer_lines p.lane c.bytes-in-Ok.result.now c.as_slice.result.now) c.requires.lines
     ∙ ap (λ (bytes : List ℕ). answer_lines p.lane bytes c.as_slice.result.now) shown
     ∙ ap (λ (bytes : List ℕ). answer_lines p.lane command bytes) c.as_slice.ensures.value in
-    subst (λ (m : Moved). IsCounted c.args.tally.now c.settle.new.tally part.lane.ended m.part.lane.ended)
+    subst (λ (m : Moved). IsCounted c.args.tally.now c.end_if_over.new.tally part.lane.ended m.part.lane.ended)
     (sym (asked_answered p c.args.lane.now c.args.shelf.now c.args.slot.now c.process.new.self replies part command runs is answer said))
-    (subst (λ (xs : List Line). IsCounted c.args.tally.now c.settle.new.tally part.lane.ended (settled p told after xs).part.lane.ended) lines
-    (c.settle.ensures.counted issuer accounts told after
+    (subst (λ (xs : List Line). IsCounted c.args.tally.now c.end_if_over.new.tally part.lane.ended (settled p told after xs).part.lane.ended) lines
+    (c.end_if_over.ensures.counted issuer accounts told after
     (runs_on p c.args.lane.now c.args.shelf.now c.args.slot.now c.process.new.self replies part command runs is answer _ said taken (c.take_card.ensures.deal ∙ was.1) losses)))
 
 pub returns-in-Err-clause-moved : goal.returns-in-Err-clause-moved
@@ -118,8 +118,8 @@ returns-in-Err-clause-counted g c = λ issuer accounts replies part runs.
     gone_counted p c.args.lane.now c.args.shelf.now c.args.slot.now c.process.new.self replies part command runs is done.0 gone done.1
     c.args.tally.now c.finish.new.tally done.5
 
-pub settle-requires-clause-taken : goal.settle-requires-clause-taken
-settle-requires-clause-taken g c =
+pub end_if_over-requires-clause-taken : goal.end_if_over-requires-clause-taken
+end_if_over-requires-clause-taken g c =
     let was = taken_as c.args.lane.now.running c.in-Some.place c.deref_mut-kernel.result.now c.in-Some.is c.deref_mut-kernel.ensures.value c.requires.taken in
     (was.0 ++ CardSaid c.as_slice-in-Ok.result.now c.as_slice-in-Ok-2.result.now ∷ [], c.take_card.ensures.stands was.0 was.1)
 

@@ -39,10 +39,10 @@ returns-clause-led g c = λ replies part runs stood.
     let on : PartRuns p c.hear.new.lane c.args.shelf.now c.args.slot.now more after =
     heard_on p c.args.lane.now c.hear.new.lane c.args.shelf.now c.args.slot.now replies more part message runs stands in
     record {
-      moved = subst (λ (xs : List Line). MovedTo p c.settle.new.lane c.settle.new.shelf c.settle.new.slot c.settle.new.lines.items (settled p more after xs)) lines
-          (c.settle.ensures.moved p.issuer p.accounts more after on);
-      counted = subst (λ (xs : List Line). IsCounted c.args.common.now.tally c.settle.new.tally part.lane.ended (settled p more after xs).part.lane.ended) lines
-          (c.settle.ensures.counted p.issuer p.accounts more after on);
+      moved = subst (λ (xs : List Line). MovedTo p c.end_if_over.new.lane c.end_if_over.new.shelf c.end_if_over.new.slot c.end_if_over.new.lines.items (settled p more after xs)) lines
+          (c.end_if_over.ensures.moved p.issuer p.accounts more after on);
+      counted = subst (λ (xs : List Line). IsCounted c.args.common.now.tally c.end_if_over.new.tally part.lane.ended (settled p more after xs).part.lane.ended) lines
+          (c.end_if_over.ensures.counted p.issuer p.accounts more after on);
     }
 
 pub returns-clause-messages : goal.returns-clause-messages

@@ -29,12 +29,12 @@ returns-in-Ok-clause-led g c = λ issuer accounts part rests.
     powered_runs p c.args.lane.now c.args.shelf.now c.args.slot.now c.power_up.new.self part rests is c.start.new.lane choice up.1 (c.in-Ok.ensures.losses part.card.losses rests.losses)
     c.start.ensures.same (c.start.ensures.told issuer accounts) in (
       choice,
-      powered_led p c.args.lane.now c.args.shelf.now c.args.slot.now c.power_up.new.self part rests is c.settle.new.lane c.settle.new.shelf c.settle.new.slot
-          c.args.tally.now c.settle.new.tally c.settle.new.lines.items choice up.1.spared
-          (subst (λ (xs : List Line). MovedTo p c.settle.new.lane c.settle.new.shelf c.settle.new.slot c.settle.new.lines.items (settled p [] after xs)) lines
-          (c.settle.ensures.moved issuer accounts [] after runs))
-          (subst (λ (xs : List Line). IsCounted c.args.tally.now c.settle.new.tally part.lane.ended (settled p [] after xs).part.lane.ended) lines
-          (c.settle.ensures.counted issuer accounts [] after runs)),
+      powered_led p c.args.lane.now c.args.shelf.now c.args.slot.now c.power_up.new.self part rests is c.end_if_over.new.lane c.end_if_over.new.shelf c.end_if_over.new.slot
+          c.args.tally.now c.end_if_over.new.tally c.end_if_over.new.lines.items choice up.1.spared
+          (subst (λ (xs : List Line). MovedTo p c.end_if_over.new.lane c.end_if_over.new.shelf c.end_if_over.new.slot c.end_if_over.new.lines.items (settled p [] after xs)) lines
+          (c.end_if_over.ensures.moved issuer accounts [] after runs))
+          (subst (λ (xs : List Line). IsCounted c.args.tally.now c.end_if_over.new.tally part.lane.ended (settled p [] after xs).part.lane.ended) lines
+          (c.end_if_over.ensures.counted issuer accounts [] after runs)),
     )
 
 pub returns-in-Err-clause-led : goal.returns-in-Err-clause-led

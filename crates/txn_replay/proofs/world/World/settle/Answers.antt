@@ -58,9 +58,6 @@ invariant_of-self g c = (opens_whole _ _ c.self.invariant.0 c.self.view_is _ c.a
 pub overflow_cast-lane : goal.overflow_cast-lane
 overflow_cast-lane g c = omega (arith, lane_fits _ _ c.self.invariant.0 c.self.view_is _ c.as_slice.ensures.value c.args.number c.in-Some.step (λ rows are. c.in-Some.ensures rows are) (settling.Sends c.in-Sends.lane c.in-Sends.message) c.in-Sends.is)
 
-pub overflow_cast-lane-in-Sends : goal.overflow_cast-lane-in-Sends
-overflow_cast-lane-in-Sends g c = omega (arith, lane_fits _ _ c.self.invariant.0 c.self.view_is _ c.as_slice.ensures.value c.args.number c.in-Some.step (λ rows are. c.in-Some.ensures rows are) (settling.Sends c.in-Sends.lane c.in-Sends.message) c.in-Sends.is)
-
 pub send-requires-clause-message : goal.send-requires-clause-message
 send-requires-clause-message g c = λ iso. sends_message _ _ c.self.invariant.0 c.self.view_is _ c.as_slice.ensures.value c.args.number c.in-Some.step (λ rows are. c.in-Some.ensures rows are) c.requires.done c.in-Sends.lane c.in-Sends.message c.in-Sends.is
 
@@ -71,17 +68,14 @@ pub send-requires-clause-stands : goal.send-requires-clause-stands
 send-requires-clause-stands g c = (c.self.invariant.0.standing.0.messages, c.self.invariant.0.standing.1.messages)
 
 pub returns-in_ok-send-in-Sends-clause-ok : goal.returns-in_ok-send-in-Sends-clause-ok
-returns-in_ok-send-in-Sends-clause-ok g c = λ w stands through. sends_so _ _ c.self.invariant.0 c.self.view_is _ c.as_slice.ensures.value c.args.number c.in-Some.step (λ rows are. c.in-Some.ensures rows are) c.requires.done c.in-Sends.lane c.in-Sends.message c.in-Sends.is _ c.dialect_at-iso.ensures _ c.send.new.lines.items c.requires.empty c.send.new.host (λ messages stands. c.in_ok-send-in-Sends.ensures.stands messages stands) (λ messages stands. c.in_ok-send-in-Sends.ensures.lines messages stands) w stands
+returns-in_ok-send-in-Sends-clause-ok g c = λ w stands through. sends_so _ _ c.self.invariant.0 c.self.view_is _ c.as_slice.ensures.value c.args.number c.in-Some.step (λ rows are. c.in-Some.ensures rows are) c.requires.done c.in-Sends.lane c.in-Sends.message c.in-Sends.is _ c.speaks_iso-iso.ensures _ c.send.new.lines.items c.requires.empty c.send.new.host (λ messages stands. c.in_ok-send-in-Sends.ensures.stands messages stands) (λ messages stands. c.in_ok-send-in-Sends.ensures.lines messages stands) w stands
 
 pub invariant_of-self-in-Sends : goal.invariant_of-self-in-Sends
-invariant_of-self-in-Sends g c = (sends_whole _ _ c.self.invariant.0 c.self.view_is _ c.as_slice.ensures.value c.args.number c.in-Some.step (λ rows are. c.in-Some.ensures rows are) c.requires.done c.in-Sends.lane c.in-Sends.message c.in-Sends.is _ c.dialect_at-iso.ensures _ c.send.new.lines.items c.requires.empty c.send.new.host (λ messages stands. c.in_ok-send-in-Sends.ensures.stands messages stands) (λ messages stands. c.in_ok-send-in-Sends.ensures.lines messages stands) c.send.ensures.keys c.send.ensures.accounts, c.self.invariant.1)
+invariant_of-self-in-Sends g c = (sends_whole _ _ c.self.invariant.0 c.self.view_is _ c.as_slice.ensures.value c.args.number c.in-Some.step (λ rows are. c.in-Some.ensures rows are) c.requires.done c.in-Sends.lane c.in-Sends.message c.in-Sends.is _ c.speaks_iso-iso.ensures _ c.send.new.lines.items c.requires.empty c.send.new.host (λ messages stands. c.in_ok-send-in-Sends.ensures.stands messages stands) (λ messages stands. c.in_ok-send-in-Sends.ensures.lines messages stands) c.send.ensures.keys c.send.ensures.accounts, c.self.invariant.1)
 
 -- a message of a store is sent
 pub overflow_cast-lane-in-Drains : goal.overflow_cast-lane-in-Drains
 overflow_cast-lane-in-Drains g c = omega (arith, lane_fits _ _ c.self.invariant.0 c.self.view_is _ c.as_slice.ensures.value c.args.number c.in-Some.step (λ rows are. c.in-Some.ensures rows are) (settling.Drains c.in-Drains.lane c.in-Drains.drops) c.in-Drains.is)
-
-pub overflow_cast-lane-in-Drains-2 : goal.overflow_cast-lane-in-Drains-2
-overflow_cast-lane-in-Drains-2 g c = omega (arith, lane_fits _ _ c.self.invariant.0 c.self.view_is _ c.as_slice.ensures.value c.args.number c.in-Some.step (λ rows are. c.in-Some.ensures rows are) (settling.Drains c.in-Drains.lane c.in-Drains.drops) c.in-Drains.is)
 
 pub index_mut-shelf-requires : goal.index_mut-shelf-requires
 index_mut-shelf-requires g c = omega (arith, lane_inside _ _ c.self.invariant.0 c.self.view_is _ c.as_slice.ensures.value c.args.number c.in-Some.step (λ rows are. c.in-Some.ensures rows are) (settling.Drains c.in-Drains.lane c.in-Drains.drops) c.in-Drains.is, c.self.invariant.0.shelf_count, c.self.inside.shelves.ok.0)
@@ -93,7 +87,7 @@ pub drain-requires-clause-stands : goal.drain-requires-clause-stands
 drain-requires-clause-stands g c = (c.self.invariant.0.standing.0.messages, c.self.invariant.0.standing.1.messages)
 
 pub returns-in_ok-drain-in-Drains-clause-ok : goal.returns-in_ok-drain-in-Drains-clause-ok
-returns-in_ok-drain-in-Drains-clause-ok g c = λ w stands through. drains_so _ _ c.self.invariant.0 c.self.view_is _ c.as_slice.ensures.value c.args.number c.in-Some.step (λ rows are. c.in-Some.ensures rows are) c.requires.done c.in-Drains.lane c.in-Drains.drops c.in-Drains.is _ c.index_mut-shelf.ensures.value c.drain.new.shelf c.drain.new.host _ c.dialect_at-iso-in-Drains.ensures c.drain.new.lines.items (λ row on. c.in_ok-drain-in-Drains.ensures.drained row on) (λ row message messages on first stands. c.in_ok-drain-in-Drains.ensures.lines row message messages on first stands) c.drain.ensures.losses w stands through
+returns-in_ok-drain-in-Drains-clause-ok g c = λ w stands through. drains_so _ _ c.self.invariant.0 c.self.view_is _ c.as_slice.ensures.value c.args.number c.in-Some.step (λ rows are. c.in-Some.ensures rows are) c.requires.done c.in-Drains.lane c.in-Drains.drops c.in-Drains.is _ c.index_mut-shelf.ensures.value c.drain.new.shelf c.drain.new.host _ c.speaks_iso-iso-in-Drains.ensures c.drain.new.lines.items (λ row on. c.in_ok-drain-in-Drains.ensures.drained row on) (λ row message messages on first stands. c.in_ok-drain-in-Drains.ensures.lines row message messages on first stands) c.drain.ensures.losses w stands through
 
 pub invariant_of-self-in-Drains : goal.invariant_of-self-in-Drains
-invariant_of-self-in-Drains g c = (drains_whole _ _ c.self.invariant.0 c.self.view_is _ c.as_slice.ensures.value c.args.number c.in-Some.step (λ rows are. c.in-Some.ensures rows are) c.requires.done c.in-Drains.lane c.in-Drains.drops c.in-Drains.is _ c.index_mut-shelf.ensures.value c.drain.new.shelf c.drain.new.host _ c.dialect_at-iso-in-Drains.ensures c.drain.new.lines.items (λ row on. c.in_ok-drain-in-Drains.ensures.drained row on) (λ row message messages on first stands. c.in_ok-drain-in-Drains.ensures.lines row message messages on first stands) c.drain.ensures.losses c.requires.next c.drain.ensures.keys c.drain.ensures.accounts, c.self.invariant.1)
+invariant_of-self-in-Drains g c = (drains_whole _ _ c.self.invariant.0 c.self.view_is _ c.as_slice.ensures.value c.args.number c.in-Some.step (λ rows are. c.in-Some.ensures rows are) c.requires.done c.in-Drains.lane c.in-Drains.drops c.in-Drains.is _ c.index_mut-shelf.ensures.value c.drain.new.shelf c.drain.new.host _ c.speaks_iso-iso-in-Drains.ensures c.drain.new.lines.items (λ row on. c.in_ok-drain-in-Drains.ensures.drained row on) (λ row message messages on first stands. c.in_ok-drain-in-Drains.ensures.lines row message messages on first stands) c.drain.ensures.losses c.requires.next c.drain.ensures.keys c.drain.ensures.accounts, c.self.invariant.1)

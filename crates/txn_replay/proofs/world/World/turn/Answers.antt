@@ -1,7 +1,7 @@
 use Rattle.std.proofs.Common.{ap}
 use Rattle.txn_replay.specs.Steps.{part_of}
 use Rattle.txn_replay.specs.declared.exchange.Common.{Common}
-use Rattle.txn_replay.proofs.AtHand.{stands_for, none_left, card_held, few_ended, own_fits, part_at, whole_after, unmoved, moved_on}
+use Rattle.txn_replay.proofs.AtHand.{stands_for, none_left, card_held, few_ended, own_fits, part_at, whole_after, unmoved, nothing_else, moved_on}
 use Rattle.txn_replay.proofs.Turned.{on_err}
 use Rattle.txn_replay.proofs.world.World.turn.Goals as goal
 
@@ -83,6 +83,16 @@ returns-in_err-exchange-clause-err g c =
     c.exchange.new.lane c.exchange.new.shelf c.exchange.new.slot c.exchange.new.common.host c.exchange.new.common.tally
     c.in_err-exchange.ensures.err.0 c.in_err-exchange.ensures.err.1 c.in_err-exchange.ensures.err.2 (ap (λ (x : Common). x.host) c.in_err-exchange.ensures.err.3) (ap (λ (x : Common). x.tally) c.in_err-exchange.ensures.err.3)
     w (stands_for _ _ c.self.view_is c.self.invariant.0 c.args.lane c.requires.lane c.index.result.now c.index.ensures w stands))
+
+pub returns-in_err-exchange-clause-unmoved : goal.returns-in_err-exchange-clause-unmoved
+returns-in_err-exchange-clause-unmoved g c =
+    on_err c.from_residual.result (
+    nothing_else _ _ c.self.view_is c.self.invariant.0 c.args.lane c.requires.lane c.index.result.now c.index.ensures
+    c.in-Some.at c.in-Some.ensures.payment c.in-Some.ensures.card
+    c.index_mut.result.now c.index_mut.ensures.value c.index_mut-3.result.now c.index_mut-3.ensures.value
+    c.index_mut-2.result.now c.index_mut-2.ensures.value
+    c.exchange.new.lane c.exchange.new.shelf c.exchange.new.slot c.exchange.new.common.host c.exchange.new.common.tally
+    c.in_err-exchange.ensures.err.0 c.in_err-exchange.ensures.err.1 c.in_err-exchange.ensures.err.2 (ap (λ (x : Common). x.host) c.in_err-exchange.ensures.err.3) (ap (λ (x : Common). x.tally) c.in_err-exchange.ensures.err.3))
 
 pub invariant_of-self-2 : goal.invariant_of-self-2
 invariant_of-self-2 g c =
