@@ -16,7 +16,7 @@ use Rattle.emv_top.specs.declared.words.Order.{Order}
 use Rattle.emv_top.specs.declared.words.Order.TheVariants.{Read, Replay}
 use Rattle.emv_top.proofs.Going.{stopped_with, completes_with}
 use Rattle.emv_top.proofs.ReadRuns.{read_fair}
-use Rattle.emv_top.proofs.ReadSettled.{read_settled}
+use Rattle.emv_top.proofs.ReadSettled.{read_settled, read_calm}
 use Rattle.emv_top.proofs.Settled.{run_settled}
 use Rattle.kernel.specs.Tally.{Counts}
 use Rattle.scenario.specs.Plan.{ScenarioData, IsScenario}
@@ -76,12 +76,20 @@ module _ (s : ScenarioData) (v : WorldSeen) (told : v.scenario ≡ s) (old new :
 
   pub whole_reading : (whole : ScenarioData) → s ≡ to_read whole → RunsAreFair → Completes (ReadRun whole) (WorldStands v) old new → IsWhole Read whole old new bank tally
   whole_reading whole same law completes =
-      completes_with (ReadRun whole) (WorldStands v) (λ w. Leaves (to_read whole) bank tally w × AreSettled whole w) old new
-      (λ ls w run stands. (
-        subst (λ (t : ScenarioData). Leaves t bank tally w) same
-            (left w stands (subst (λ (t : ScenarioData). IsFair t w) (sym same) (read_fair law (to_read whole) run.count run.choices run.reported w run.reached))),
-        read_settled whole run.count run.choices run.reported w run.reached,
-      )) completes
+      let run : ReadRun whole completes.lines completes.world = completes.run in
+      record {
+        lines = completes.lines;
+        world = completes.world;
+        run = read_calm whole completes.lines completes.world run;
+        stands = (
+          subst (λ (t : ScenarioData). Leaves t bank tally completes.world) same
+              (left completes.world completes.stands
+              (subst (λ (t : ScenarioData). IsFair t completes.world) (sym same)
+              (read_fair law (to_read whole) run.count run.choices run.reported completes.world run.reached))),
+          read_settled whole run.count run.choices run.reported completes.world run.reached,
+        );
+        written = completes.written;
+      }
 
   pub cut_reading : (whole : ScenarioData) → s ≡ to_read whole → RunsAreFair → Stopped s shown_lines (Reads s) (WorldStands v) old new → IsCut Read whole old new bank tally
   cut_reading whole same law stopped =

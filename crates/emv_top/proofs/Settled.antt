@@ -145,8 +145,8 @@ module _ (s : ScenarioData) where
       here card answers there canned =
           let same : p.card ≡ card = same_Some p.card card (sym (payment_facts s l (length (lane_at w l).ended) p is).card ∙ there) in
           let its : p.card.canned ≡ Some answers = ap (λ (x : CardData). x.canned) same ∙ canned in
-          lane_card p (part_of w l p.planned.card) (λ apps. absurd (not_both its apps)) (before p.planned.card card answers there canned)
-          (choice_in choices 0) (choice_in choices 1)
+          (lane_card p (part_of w l p.planned.card) (λ apps. absurd (not_both its apps)) (before p.planned.card card answers there canned)
+          (choice_in choices 0) (choice_in choices 1)).0
         where
           not_both : p.card.canned ≡ Some answers → p.card.canned ≡ None → ⊥
           not_both some none = cc

@@ -1,5 +1,5 @@
 -- What answers the bytes that were read: the text, the pages and the tally of one run, or the line of a fault.
-use Rattle.std.specs.Prelude.{◌≡◌, ◌⊎◌, ℕ, ◌-◌, ◌≤◌, List, drop, length, slice_get, Option, Some, None, Ok, Err}
+use Rattle.std.specs.Prelude.{◌≡◌, ◌⊎◌, ℕ, ◌-◌, ◌≤◌, List, count_by, drop, length, slice_get, Option, Some, None, Ok, Err}
 use Rattle.std.specs.List.{All}
 use Rattle.std.specs.Io.KnownBytes.{Appends}
 use Rattle.emv_ports.specs.Causes.{Rose}
@@ -22,7 +22,7 @@ use Rattle.scenario.specs.Plan.{ScenarioData}
 use Rattle.scenario_fields.specs.Line.{refused_line}
 use Rattle.scenario_fields.specs.declared.fault.ScenarioFault.{ScenarioFault}
 use Rattle.txn_replay.specs.Counting.{counts}
-use Rattle.txn_replay.specs.Laws.{IsFair}
+use Rattle.txn_replay.specs.Laws.{IsFair, is_torn}
 use Rattle.txn_replay.specs.Reading.{ReadRun, to_read}
 use Rattle.txn_replay.specs.Told.{HasLosses}
 use Rattle.txn_replay.specs.World.{World, card_at}
@@ -63,10 +63,16 @@ pub record Completes (runs : List Line → World → Type 0) (holds : World → 
 abbrev pub ToldReplays : ScenarioData → Ends
 ToldReplays s n choices lines w tail = Replays s n choices lines w tail × HasLosses s lines w
 
+-- a card was read: no card lost its power, and no line tells that one did
+pub record CalmReading (s : ScenarioData) (lines : List Line) (w : World) : Type 0 where
+  pub run : ReadRun s lines w
+  pub losses : (i : ℕ) → (card_at w i).losses ≡ 0
+  pub untold : count_by is_torn lines ≡ 0
+
 -- the runs that an order asks for, and the scenario whose cards, lanes and host they are of: in a whole run each purchase
 -- with a well-formed card is decided, and a card is read without its purchase's tear
 abbrev pub runs_of : Order → ScenarioData → List Line → World → Type 0
-runs_of Read s = ReadRun s
+runs_of Read s = CalmReading s
 runs_of Replay s = DecidedRun s
 
 abbrev pub played : Order → ScenarioData → ScenarioData

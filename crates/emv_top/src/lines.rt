@@ -21,6 +21,7 @@ pub struct Room {
 }
 
 impl Room {
+    /// Room that holds nothing.
     pub fn new() -> Room
         ensures { result.lines.items ≡ [] }
     {

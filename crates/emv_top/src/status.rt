@@ -5,7 +5,7 @@ ghost use Rattle.emv_top.specs.StatusCode.{code_of};
 /// How the program ends.
 #[derive(Clone, Copy, PartialEq, Eq, Debug)]
 pub enum Status {
-    /// The report was written.
+    /// What the words ask for was written: a report, a summary or a verdict.
     Done,
     /// The input is refused, and the refusal's line was written.
     Refused,

@@ -1,3 +1,5 @@
+//! What stops a run.
+
 /// Why a run stops before its end.
 #[derive(Clone, Copy, PartialEq, Eq, Debug)]
 pub enum Stop {
