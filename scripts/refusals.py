@@ -12,6 +12,18 @@ TEXT = re.compile(
 )
 BARE = re.compile(r"[A-Za-z0-9_-]+")
 PLAIN = re.compile(r"[^,\]}\n#]*")
+# Forms of texts as the schema has them, and in words.
+FORMS = [
+    (re.compile(r"\^\[0-9\]\{(.+)\}\$"), "{} digits in quotes"),
+    (re.compile(r"\^(?:\(\?!.*?\))?\(\[0-9A-Fa-f\]\{2\}\)\{(.+)\}\$"), "{} bytes in hexadecimal, in quotes"),
+    (re.compile(r"\^\[A-Za-z0-9\]\{(.+)\}\$"), "{} letters or digits"),
+    (re.compile(r"\^\[a-z0-9\]\{(.+)\}\$"), "{} small letters or digits"),
+    (re.compile(r"\^\[ -~\]\{(.+)\}\$"), "{} printable characters"),
+    (re.compile(r"\^\[0-9\]\{2\}\(0\[1-9\].*"), "six digits in quotes, YYMMDD"),
+]
+# What a trace has not.
+LEFT_OUT = ("dialect", "durable", "link", "tear", "terminal_tear")
+NOTHING_FOUND = "a whole number is outside 64 bits, or tables, arrays or a key are nested too deep"
 
 
 def as_text(path):
@@ -121,7 +133,7 @@ def line_and_column(text, place):
 
 
 def syntax_hint(text):
-    """Where and why the document is no TOML, by Python's own reader; None without one, or where it finds nothing."""
+    """Where and why the document is no TOML, by Python's own reader of TOML 1.0; None without one."""
     try:
         import tomllib
     except ImportError:
@@ -132,8 +144,8 @@ def syntax_hint(text):
         cause, _, place = str(error).rstrip(")").rpartition(" (at ")
         return f"{line_and_column(text, len(text)) if place == 'end of document' else place}: {cause}"
     except RecursionError:
-        return "tables or arrays are nested too deep"
-    return None
+        pass
+    return NOTHING_FOUND
 
 
 def near(name, known):
@@ -147,6 +159,18 @@ def keys_below(places, table):
     return [path[-1] for path in places if path and path[:-1] == table and isinstance(path[-1], str)]
 
 
+def missing_at_top(text, places, key):
+    """Where a key of the document itself is missing: it may be another kind of document, or the key may stand in a table."""
+    if key == "pin_key" and ("card",) in places:
+        return "the document is a scenario, which `replay` and `read` run"
+    if key == "issuer" and ("trace",) in places:
+        return "the document is a trace, which `check` looks at"
+    elsewhere = [path for path in places if path and path[-1] == key]
+    if elsewhere:
+        return f"{line_and_column(text, places[elsewhere[0]])}: {key} stands there: it belongs before the first table"
+    return f"the document has no {key}"
+
+
 def missing_hint(text, places, table, key, known):
     """Where a key is missing: at another one that may be meant for it, or else at its table."""
     unknown = [name for name in keys_below(places, table) if name not in known]
@@ -154,17 +178,20 @@ def missing_hint(text, places, table, key, known):
     if found:
         return f"{line_and_column(text, places[(*table, found[0])])}: {found[0]} stands there: did you mean {key}?"
     if not table:
-        return f"the document has no {key}"
+        return missing_at_top(text, places, key)
     return f"{line_and_column(text, places[table])}: {as_text(table)} begins there, and has no {key}"
 
 
 def names_of_cards(text):
-    """The cards of a document that is TOML."""
+    """The cards of a document that is TOML; none where Python's reader, of TOML 1.0, doesn't know what stands there."""
     try:
         import tomllib
     except ImportError:
         return []
-    return [card["name"] for card in tomllib.loads(text)["card"]]
+    try:
+        return [card["name"] for card in tomllib.loads(text)["card"]]
+    except tomllib.TOMLDecodeError:
+        return []
 
 
 def name_hint(text, place):
@@ -182,15 +209,27 @@ def keys_at(table, is_trace):
     return (table_at(place, schema) or {}).get("properties", {})
 
 
-def values_of(row):
-    """The values that a key may have by its row of the schema, where they are few or lie between two numbers."""
-    if "$ref" in row:
-        row = resolved(row["$ref"], read_schema())
+def form_of(row, name):
+    """The values that a key may have by its row of the schema, in words; None where they are told by no few words."""
     if "enum" in row:
-        return f" (one of {', '.join(map(json.dumps, row['enum']))})"
+        return f"one of {', '.join(map(json.dumps, row['enum']))}"
     if "minimum" in row and "maximum" in row:
-        return f" (from {row['minimum']} to {row['maximum']})"
-    return ""
+        return f"a whole number from {row['minimum']} to {row['maximum']}"
+    if row.get("type") == "boolean":
+        return "true or false"
+    if row.get("type") == "array" and "$ref" in row["items"]:
+        inner = resolved(row["items"]["$ref"], read_schema())
+        return f"a table [[{name}]] for each" if inner.get("type") == "object" else "an array"
+    for pattern, words in FORMS:
+        if found := pattern.fullmatch(row.get("pattern", "")):
+            return words.format(*(count.replace(",", " to ") for count in found.groups()))
+    return None
+
+
+def values_of(row, name):
+    """The values that a key may have, in brackets."""
+    form = form_of(resolved(row["$ref"], read_schema()) if "$ref" in row else row, name)
+    return f" ({form})" if form else ""
 
 
 def key_hint(text, fault, path, place, is_trace):
@@ -198,13 +237,19 @@ def key_hint(text, fault, path, place, is_trace):
     name = path[-1] if isinstance(path[-1], str) else as_text(path)
     keys = keys_at(path[:-1], is_trace)
     said = f"{line_and_column(text, place)}: {name} stands there"
+    if fault == "UnknownKey" and path[:-1] and name in keys_at((), is_trace):
+        return f"{said}: it belongs before the first table"
     if fault == "UnknownKey":
         return said + near(name, keys)
+    if is_trace and name in LEFT_OUT and fault == "BadValue":
+        return f"{said}: a trace has none"
+    if is_trace and path == ("lane", "purchase"):
+        return f"{said}: a trace has one purchase"
     if fault == "UnknownName" and name == "card":
         return said + name_hint(text, place)
     row = keys.get(name, {})
     meant = row.get("description")
-    return said + (f": {meant}" if meant else "") + values_of(row)
+    return said + (f": {meant}" if meant else "") + values_of(row, name)
 
 
 def default_hint(text, places, table, key):
@@ -237,7 +282,7 @@ def hint(document, answer):
         return None
     fault, path = found[1], found[2]
     try:
-        text = document.decode()
+        text = document.decode("utf-8-sig")
     except UnicodeDecodeError as error:
         line = document.count(b"\n", 0, error.start) + 1
         return f"line {line}: byte {document[error.start]:02x} is no UTF-8"

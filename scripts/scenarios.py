@@ -2,9 +2,25 @@
 import json
 import re
 import subprocess
+import tomllib
 from itertools import zip_longest
+from pathlib import Path
 
 SECONDS = 600
+
+
+class NoDocument(Exception):
+    """A file that is no document, or none that Python reads."""
+
+
+def read_document(path):
+    """The document in a file, with or without a byte order mark."""
+    try:
+        return tomllib.loads(Path(path).read_bytes().decode("utf-8-sig"))
+    except OSError as error:
+        raise NoDocument(f"{path}: {error.strerror}") from None
+    except ValueError as error:
+        raise NoDocument(f"{path} is no document of TOML 1.0: {error}") from None
 
 
 def toml(value):
@@ -44,12 +60,13 @@ def first_difference(lines, wanted):
     return None
 
 
-def word_for(report):
-    """The word that gives such a report."""
+def word_for(report, text):
+    """The word that gives such a report of this document (bytes): a trace is told by its entries or its one lane."""
     lines = report.splitlines() or [""]
     if lines[-1].startswith("read "):
         return "read"
-    return "check" if lines[0].startswith("check ") else "replay"
+    is_trace = lines[0].startswith("refused ") and re.search(rb"^\s*(?:trace\s*=|\[lane\])", text, re.MULTILINE)
+    return "check" if is_trace or lines[0].startswith("check ") else "replay"
 
 
 def purchase_lines(report, lane, number):
