@@ -23,7 +23,7 @@ FORMS = [
 ]
 # What a trace has not.
 LEFT_OUT = ("dialect", "durable", "link", "tear", "terminal_tear")
-NOTHING_FOUND = "a whole number is outside 64 bits, or tables, arrays or a key are nested too deep"
+NOTHING_FOUND = "a whole number may be outside 64 bits, or tables, arrays or a key nested too deep"
 
 
 def as_text(path):
