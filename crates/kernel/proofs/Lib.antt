@@ -20,5 +20,6 @@ mod Growing
 mod Turning
 mod Telling
 mod Restricting
+mod Uncaptured
 mod Belonging
 mod Traded

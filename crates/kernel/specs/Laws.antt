@@ -17,7 +17,7 @@ use Rattle.kernel.specs.Ended.{EndData, end_of}
 use Rattle.kernel.specs.Reply.{Reply, CardSaid, CardGone, HostSaid, HostSilent, Deed, ToCard, ToHost, Over}
 use Rattle.object_lists.specs.CardRead.{ReadCard}
 use Rattle.restrictions.specs.Restricted.{restricted}
-use Rattle.terminal_state.specs.Marks.{Mark, HasRead, HasRestricted, HasVerified, HasJudged, HasFirst, HasReply, WasUnable, HasAuthenticated, HasRunBefore, HasSecond, HasRunBehind, was_sent, latest, moment}
+use Rattle.terminal_state.specs.Marks.{Mark, HasRead, HasRestricted, HasVerified, HasJudged, HasFirst, HasReply, WasUnable, HasAuthenticated, HasRunBefore, HasSecond, HasRunBehind, was_sent, latest, card_of, moment}
 use Rattle.terminal_state.specs.Terminal.{Deal}
 
 -- what a terminal did at first, and behind each reply
@@ -166,6 +166,16 @@ IsRestricted deal marks =
 
 abbrev pub ReadingRestricts : Type 0
 ReadingRestricts = (deal : Deal) (replies : List Reply) → IsRestricted deal (dialogue deal replies).marks
+
+-- Nothing is captured where a dialogue begins, nor with the reply that finishes reading or ends the dialogue before that: the
+-- terminal has asked for no cryptogram yet.
+abbrev pub CapturesNothing : Deal → List Reply → Type 0
+CapturesNothing deal replies = (end : EndData) → end_of deal (dialogue deal replies) ≡ Some end → end.capture ≡ None
+
+pub record ReadingCapturesNothing : Type 0 where
+  pub first : (deal : Deal) → CapturesNothing deal []
+  pub read : (deal : Deal) (replies : List Reply) (reply : Reply) → latest card_of None (dialogue deal replies).marks ≡ None
+      → CapturesNothing deal (replies ++ reply ∷ [])
 
 -- the bits that a step may set (EMV 4.3 Book 3 Annex C5), the five bytes of the terminal verification results one behind
 -- another: no offline data authentication; restrictions; verification; risk management; issuer authentication; scripts

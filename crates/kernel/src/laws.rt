@@ -1,5 +1,5 @@
 //! What holds of every dialogue, whatever the card and the host say.
-ghost use Rattle.kernel.specs.Laws.{DeedsGrow, StepsStay, EndsStay, RepliesTurn, HostIsTold, CapturesFit, ReadingRestricts, BitsBelong};
+ghost use Rattle.kernel.specs.Laws.{DeedsGrow, StepsStay, EndsStay, RepliesTurn, HostIsTold, CapturesFit, ReadingCapturesNothing, ReadingRestricts, BitsBelong};
 
 /// Further replies add commands and messages behind those that were sent.
 pub fn deeds_grow()
@@ -32,6 +32,11 @@ pub fn host_is_told()
 /// than 00 and an ending that is no approval, is reversed.
 pub fn captures_fit()
     ensures { CapturesFit }
+{}
+
+/// With the reply that finishes reading nothing is captured, nor before it.
+pub fn reading_captures_nothing()
+    ensures { ReadingCapturesNothing }
 {}
 
 /// Once the card is read, the bits of the processing restrictions stand.

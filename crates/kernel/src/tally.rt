@@ -6,7 +6,7 @@ use emv_dict::Ending;
 use std::marker::Model;
 
 /// The numbers of dialogues by their ending, and of all replies that they took. Each stops at the greatest
-/// number. Only `Kernel::into_ended` raises them.
+/// number. Only `Kernel::end` and `Kernel::into_ended` raise them.
 #[derive(Clone, Copy, PartialEq, Eq, Debug)]
 pub struct Tally {
     approved: u64,
