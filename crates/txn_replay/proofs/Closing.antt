@@ -18,7 +18,7 @@ use Rattle.txn_replay.specs.Part.{Part, settled_by, sending, on_for, cut_ends, a
 use Rattle.txn_replay.specs.Payment.{Payment, deal_for, end_at}
 use Rattle.txn_replay.specs.Storing.{part_with, copied, copy_lines, dropped_by, delivers_first, lane_piece}
 use Rattle.txn_replay.specs.World.{Holder, CardRow, new_card}
-use Rattle.txn_replay.proofs.Ways.{AtRest, IsOn, lane_ways}
+use Rattle.txn_replay.proofs.Ways.{lane_ways}
 
 -- a purchase has the card, or nothing is decided
 abbrev pub Live : ImageData → CardRow → List ℕ → Type 0

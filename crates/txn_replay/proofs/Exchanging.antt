@@ -21,7 +21,7 @@ use Rattle.txn_replay.specs.Storing.{part_with, lane_lost, lane_copied, copied, 
 use Rattle.txn_replay.specs.World.{Holder, CardRow, LaneRow, with_sent}
 use Rattle.txn_replay.proofs.Moves.{this_one}
 use Rattle.txn_replay.proofs.Sending.{Later, as_is, beginning, messaging}
-use Rattle.txn_replay.proofs.Ways.{AtRest, IsOn, lane_ways}
+use Rattle.txn_replay.proofs.Ways.{AtRest, lane_ways}
 
 -- what came of the replies, the card, the messages and the lines leads to what holds behind the exchange
 pub record Tells (p : Payment) (part : Part) (Came : LaneRow → List Reply → CardRow → List (List ℕ) → List Line → Type 0) (R : Part → List Line → Type 0) : Type 0 where

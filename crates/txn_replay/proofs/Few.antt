@@ -24,7 +24,7 @@ use Rattle.txn_replay.specs.Part.{approval, loses, lane_ended}
 use Rattle.txn_replay.specs.Payment.{Payment, payment_of, payment_on, payment_in, next_of, durable_of}
 use Rattle.txn_replay.specs.Run.{Place, Reached}
 use Rattle.txn_replay.specs.Sound.{IsSound}
-use Rattle.txn_replay.specs.Steps.{Settlement, Sends, copies_of, dropped_copies, lane_settlements, settlements, settlements_from, app_checks, checks_for, card_checks, checks_from, checks, part_of, choice_in, turned_by, settles, audits, happens}
+use Rattle.txn_replay.specs.Steps.{Sends, copies_of, dropped_copies, lane_settlements, settlements, settlements_from, app_checks, checks_for, card_checks, checks_from, checks, part_of, choice_in, turned_by, settles, audits, happens}
 use Rattle.txn_replay.specs.Storing.{lane_lost, lane_copied, lane_piece}
 use Rattle.txn_replay.specs.World.{Past, LaneRow, World, new_lane, first_world, lane_at, with_store}
 use Rattle.txn_replay.specs.declared.event.Event.{Event}

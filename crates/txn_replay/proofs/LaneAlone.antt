@@ -1,5 +1,5 @@
 -- The scenario in which a lane is alone: its purchases are there, with the accounts of its numbers, and no others.
-use Rattle.std.proofs.Common.{◌≡◌, ◌≢◌, ◌⊎◌, ℕ, zero, suc, ◌+◌, ◌<◌, ◌==◌, Bool, true, false, cond, ◌&&◌, ◌||◌, List, [], ◌∷◌, length, slice_get, Option, Some, None, option_map, refl, sym, ap, ◌∙◌, subst, inl, inr, arith}
+use Rattle.std.proofs.Common.{◌≡◌, ◌≢◌, ◌⊎◌, ℕ, zero, suc, ◌+◌, ◌≤◌, ◌<◌, ◌==◌, Bool, true, false, ◌&&◌, ◌||◌, List, [], ◌∷◌, length, slice_get, Option, Some, None, option_map, refl, sym, ap, ◌∙◌, subst, inl, inr, arith}
 use Rattle.std.specs.List.{list_any}
 use Rattle.std.specs.Prelude.{option_and_then}
 use Rattle.std.specs.Str.{bytes_eq}
@@ -10,7 +10,7 @@ use Rattle.scenario.specs.Cards.{CardData}
 use Rattle.scenario.specs.Plan.{ScenarioData, IsScenario}
 use Rattle.scenario_lanes.specs.Plan.{LaneData}
 use Rattle.scenario_lanes.specs.declared.plan.Planned.{Planned}
-use Rattle.txn_replay.specs.Alone.{names_card, is_card_of, nobody, cards_alone, idle, behind_idle, lanes_alone, alone, names_one, is_name_of, LaneHasNoChoice}
+use Rattle.txn_replay.specs.Alone.{names_card, is_card_of, before_own, cards_alone, idle, behind_idle, lanes_alone, alone, names_one, is_name_of, LaneHasNoChoice}
 use Rattle.txn_replay.specs.Choices.{HasNoChoice, LeavesNone}
 use Rattle.txn_replay.specs.Payment.{Payment, payment_with, payment_of, payment_on, payment_in, is_iso, dialect_of, is_durable, durable_of}
 use Rattle.txn_replay.proofs.Lost.{names_differ}
@@ -35,19 +35,55 @@ idle_count zero lane = refl
 idle_count (suc l) lane = ap (λ n. suc n) (idle_count l lane)
 
 -- a card that passes is there
+pub own_here : (own : ℕ → Bool) (n : ℕ) → own (n + 0) ≡ own n
+own_here own n = ap own (let e : n + 0 ≡ n = omega arith in e)
+
+pub own_next : (own : ℕ → Bool) (n i : ℕ) → own (n + suc i) ≡ own (n + 1 + i)
+own_next own n i = ap own (let e : n + suc i ≡ n + 1 + i = omega arith in e)
+
+next_place : (b : Bool) (card : CardData) (cards : List CardData) (i : ℕ) → slice_get (before_own b card cards) (suc i) ≡ slice_get cards i
+next_place true card cards i = refl
+next_place false card [] i = refl
+next_place false card (other ∷ others) i = refl
+
 own_card : (own : ℕ → Bool) (n : ℕ) (cards : List CardData) (i : ℕ) → own (n + i) ≡ true → slice_get (cards_alone own n cards) i ≡ slice_get cards i
 unfolding cards_alone
 own_card own n [] i is = refl
 own_card own n (card ∷ cards) zero is =
-    let here : own n ≡ true = ap own (let e : n ≡ n + 0 = omega arith in e) ∙ is in
-    ap (λ b. Some (cond b card nobody)) here
+    ap (λ b. slice_get (before_own b card (cards_alone own (n + 1) cards)) 0) (sym (own_here own n) ∙ is)
 own_card own n (card ∷ cards) (suc i) is =
-    own_card own (n + 1) cards i (ap own (let e : n + 1 + i ≡ n + suc i = omega arith in e) ∙ is)
+    next_place (own n) card (cards_alone own (n + 1) cards) i ∙ own_card own (n + 1) cards i (sym (own_next own n i) ∙ is)
 
-pub cards_count : (own : ℕ → Bool) (n : ℕ) (cards : List CardData) → length (cards_alone own n cards) ≡ length cards
+-- so it is within both lists or in neither
+few_before : (b : Bool) (card : CardData) (cards : List CardData) → length (before_own b card cards) ≤ suc (length cards)
+few_before true card cards = omega arith
+few_before false card [] = omega arith
+few_before false card (other ∷ others) = omega arith
+
+some_before : (b : Bool) (card : CardData) (cards : List CardData) (i : ℕ) → i < length cards → suc i < length (before_own b card cards)
+some_before true card cards i within = omega (arith, within)
+some_before false card [] i within = absurd (omega (arith, within))
+some_before false card (other ∷ others) i within = omega (arith, within)
+
+cards_few : (own : ℕ → Bool) (n : ℕ) (cards : List CardData) → length (cards_alone own n cards) ≤ length cards
 unfolding cards_alone
-cards_count own n [] = refl
-cards_count own n (card ∷ cards) = ap (λ m. suc m) (cards_count own (n + 1) cards)
+cards_few own n [] = omega arith
+cards_few own n (card ∷ cards) =
+    omega (arith, cards_few own (n + 1) cards, few_before (own n) card (cards_alone own (n + 1) cards))
+
+own_within : (own : ℕ → Bool) (n : ℕ) (cards : List CardData) (i : ℕ) → own (n + i) ≡ true → i < length cards → i < length (cards_alone own n cards)
+unfolding cards_alone
+own_within own n [] i is within = absurd (omega (arith, within))
+own_within own n (card ∷ cards) zero is within =
+    subst (λ b. 0 < length (before_own b card (cards_alone own (n + 1) cards))) (sym (sym (own_here own n) ∙ is)) (omega arith)
+own_within own n (card ∷ cards) (suc i) is within =
+    some_before (own n) card (cards_alone own (n + 1) cards) i (own_within own (n + 1) cards i (sym (own_next own n i) ∙ is) (omega (arith, within)))
+
+pub cards_within : (pans : List ℕ → Bool) (s : ScenarioData) (l i : ℕ) → is_card_of s l i ≡ true → i < length s.cards → i < length (alone pans s l).cards
+cards_within pans s l i is within = own_within (is_card_of s l) 0 s.cards i (ap (is_card_of s l) (let e : 0 + i ≡ i = omega arith in e) ∙ is) within
+
+pub cards_are_few : (pans : List ℕ → Bool) (s : ScenarioData) (l : ℕ) → length (alone pans s l).cards ≤ length s.cards
+cards_are_few pans s l = cards_few (is_card_of s l) 0 s.cards
 
 true_or : (b : Bool) → (b || true) ≡ true
 true_or true = refl

@@ -1,22 +1,24 @@
 -- As many purchases of a lane were lost as its lines tell.
 use Rattle.std.proofs.Common.{◌≡◌, ◌≢◌, ℕ, zero, suc, ◌⊎◌, ◌+◌, cond, Bool, true, false, List, [], ◌∷◌, ◌++◌, length, replicate, slice_get, Option, Some, None, refl, sym, ap, ◌∙◌, inl, inr, arith}
-use Rattle.std.specs.Prelude.{◌==◌, if◌then◌else◌}
-use Rattle.std.specs.List.{count_by}
+use Rattle.std.specs.Prelude.{ℤ, ◌==◌, if◌then◌else◌}
+use Rattle.std.specs.List.{count_by, flat_map}
 use Rattle.std.proofs.lemmas.Bool.{eqb-true, eq-eqb, cases_eq}
 use Rattle.std.proofs.lemmas.List.{get_or-set_other}
 use Rattle.std.proofs.lemmas.List.Sums.{sum_by-append, sum_by-cons}
 use Rattle.capture_store.specs.StoreRow.{opened_to_add}
-use Rattle.issuer_host.specs.History.{host_reply}
+use Rattle.issuer_host.specs.Account.{AccountData}
+use Rattle.issuer_host.specs.History.{host_reply, balance_after}
 use Rattle.kernel.specs.Ended.{EndData}
 use Rattle.kernel.specs.Reply.{Reply}
 use Rattle.report_text.specs.declared.line.Line.{Line}
-use Rattle.report_text.specs.declared.line.Line.TheVariants.{EndLost}
+use Rattle.report_text.specs.declared.line.Line.TheVariants.{EndLost, Done}
 use Rattle.scenario.specs.Plan.{ScenarioData}
-use Rattle.txn_replay.specs.Captured.{is_lost_line, LostAreTold}
+use Rattle.txn_replay.specs.Captured.{is_lost_line, LostAreTold, WholeRunsTellLost}
 use Rattle.txn_replay.specs.Counting.{lost_count}
 use Rattle.txn_replay.specs.Lines.{host_lines, settle_lines, outcome_line}
 use Rattle.txn_replay.specs.Part.{Part, Moved, loses}
 use Rattle.txn_replay.specs.Payment.{Payment, next_of}
+use Rattle.txn_replay.specs.Run.{Finished, balance_line, account_lines, ended_count, closing}
 use Rattle.txn_replay.specs.Sound.{IsSound}
 use Rattle.txn_replay.specs.Steps.{Check, PowersUp, Asks, Settlement, Opens, Sends, settlements, settles, checks, audits, part_of, choice_in, turned_by, happens}
 use Rattle.txn_replay.specs.Storing.{part_with, lane_lost, lane_copied, copied, copy_lines, lane_piece}
@@ -278,4 +280,34 @@ lost_first s = record {
 }
 
 pub lost_are_told : LostAreTold
-lost_are_told s place n choices lines w l reached = (reached_lines s (AreLostSo s) (lost_first s) (lost_next s) place n choices lines w reached).lanes l
+lost_are_told s place n choices lines w reached = (reached_lines s (AreLostSo s) (lost_first s) (lost_next s) place n choices lines w reached).lanes
+
+-- the lines at the end tell none
+balance_none : (l : ℕ) (pan : List ℕ) (o : Option ℤ) → told l (balance_line pan o) ≡ 0
+balance_none l pan None = refl
+balance_none l pan (Some amount) = refl
+
+accounts_none : (s : ScenarioData) (w : World) (l : ℕ) (accounts : List AccountData) → told l (flat_map (account_lines s w) accounts) ≡ 0
+accounts_none s w l [] = refl
+accounts_none s w l (account ∷ accounts) =
+    omega (
+      arith,
+      told-append l (account_lines s w account) (flat_map (account_lines s w) accounts),
+      balance_none l account.pan (balance_after s.issuer s.accounts w.messages account.pan),
+      accounts_none s w l accounts,
+    )
+
+pub whole_lost : WholeRunsTellLost
+whole_lost s lines w run l =
+    let reported : lost_count (lane_at w l).ended ≡ told l run.reported = lost_are_told s Finished run.count run.choices run.reported w run.reached l in
+    let accounts : told l (flat_map (account_lines s w) s.accounts) ≡ 0 = accounts_none s w l s.accounts in
+    let last : told l (Done (ended_count w) ∷ []) ≡ 0 = refl in
+    let all : lost_count (lane_at w l).ended ≡ told l (run.reported ++ closing s w) = omega (
+      arith,
+      reported,
+      accounts,
+      last,
+      told-append l run.reported (closing s w),
+      told-append l (flat_map (account_lines s w) s.accounts) (Done (ended_count w) ∷ []),
+    ) in
+    all ∙ ap (told l) (sym run.whole)

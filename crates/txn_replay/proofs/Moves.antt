@@ -17,7 +17,7 @@ use Rattle.txn_replay.specs.Part.{Part, settled_by, cut_ends, answered, canned_b
 use Rattle.txn_replay.specs.Payment.{Payment, deal_for, end_at}
 use Rattle.txn_replay.specs.Storing.{part_with, copied, copy_lines, dropped_by, delivers_first, lane_piece}
 use Rattle.txn_replay.specs.World.{Holder, CardRow, LaneRow, with_sent}
-use Rattle.txn_replay.proofs.Ways.{AtRest, IsOn, Goes, lane_ways}
+use Rattle.txn_replay.proofs.Ways.{AtRest, lane_ways}
 
 -- the purchase that goes on here
 abbrev pub this_one : Payment → Part → Holder

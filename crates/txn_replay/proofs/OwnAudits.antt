@@ -1,16 +1,17 @@
 -- The audit of a lane's cards in a run with others: its own steps are those of the lane alone, in their order.
 use Rattle.std.proofs.Common.{◌≡◌, ◌≢◌, ℕ, zero, suc, ◌+◌, Bool, true, false, cond, List, [], ◌∷◌, ◌++◌, length, take, slice_get, Option, Some, None, refl, sym, ap, ◌∙◌, subst, arith}
-use Rattle.std.specs.List.{flat_map}
+use Rattle.std.specs.List.{flat_map, count_by}
 use Rattle.std.specs.Prelude.{filter}
 use Rattle.std.proofs.lemmas.List.{get_or-set_other, length-set}
 use Rattle.std.proofs.lemmas.List.Elements.{filter-append}
+use Rattle.std.proofs.lemmas.List.Sums.{length-filter}
 use Rattle.std.proofs.lemmas.Option.{same_Some}
 use Rattle.card_app.specs.Answering.{card_answer}
 use Rattle.card_files.specs.Views.{AppData}
 use Rattle.card_pages.specs.Pages.{found_of}
 use Rattle.scenario.specs.Cards.{CardData}
 use Rattle.scenario.specs.Plan.{ScenarioData, IsScenario}
-use Rattle.txn_replay.specs.Alone.{is_card_of, is_name_of, nobody, cards_alone, alone, PartsAgree, is_own}
+use Rattle.txn_replay.specs.Alone.{is_card_of, is_name_of, before_own, cards_alone, alone, PartsAgree, is_own}
 use Rattle.txn_replay.specs.Changes.{powered, exchanged}
 use Rattle.txn_replay.specs.Lines.{audit_power_line, audit_lines}
 use Rattle.txn_replay.specs.StandAlone.{is_check_of}
@@ -19,11 +20,15 @@ use Rattle.txn_replay.specs.World.{CardRow, World, new_card, card_at}
 use Rattle.txn_replay.proofs.Auditing.{IsChecked, check_facts}
 use Rattle.txn_replay.proofs.LaneAlone.{name_of}
 use Rattle.txn_replay.proofs.OwnLines.{AreOf, all_pass, none_passes}
-use Rattle.txn_replay.proofs.OwnTurns.{Both, Others, set_alike}
+use Rattle.txn_replay.proofs.OwnTurns.{Both, Others, card_alike}
 
 -- how many of the first elements pass
 pub passed : {A : Type 0} → (A → Bool) → List A → ℕ → ℕ
 passed test xs k = length (filter test (take k xs))
+
+pub passed_counts : {A : Type 0} (test : A → Bool) (xs : List A) (k : ℕ) → passed test xs k ≡ count_by test (take k xs)
+unfolding passed
+passed_counts test xs k = length-filter test (take k xs)
 
 pub passed_none : {A : Type 0} (test : A → Bool) (xs : List A) → passed test xs 0 ≡ 0
 unfolding passed
@@ -100,26 +105,27 @@ module _ (own : ℕ → Bool) where
   unfolding checks_from cards_alone
   checks_own n [] = refl
   checks_own n (card ∷ cards) =
-      by (own n) (card_on n card card.canned)
+      by (own n) (cards_alone own (n + 1) cards) (card_on n card card.canned)
       ∙ ap (λ (xs : List Check). filter (is_on own) (card_checks n card) ++ xs) (checks_own (n + 1) cards)
       ∙ sym (filter-append (is_on own) (card_checks n card) (checks_from (n + 1) cards))
     where
-      by : (b : Bool) → AreOf (is_on own) b (card_checks n card)
-          → card_checks n (cond b card nobody) ++ checks_from (n + 1) (cards_alone own (n + 1) cards)
-          ≡ filter (is_on own) (card_checks n card) ++ checks_from (n + 1) (cards_alone own (n + 1) cards)
-      by true are = ap (λ (xs : List Check). xs ++ checks_from (n + 1) (cards_alone own (n + 1) cards)) (sym (all_pass (is_on own) (card_checks n card) are))
-      by false are = ap (λ (xs : List Check). xs ++ checks_from (n + 1) (cards_alone own (n + 1) cards)) (sym (none_passes (is_on own) (card_checks n card) are))
+      by : (b : Bool) (rest : List CardData) → AreOf (is_on own) b (card_checks n card)
+          → checks_from n (before_own b card rest) ≡ filter (is_on own) (card_checks n card) ++ checks_from (n + 1) rest
+      by true rest are = ap (λ (xs : List Check). xs ++ checks_from (n + 1) rest) (sym (all_pass (is_on own) (card_checks n card) are))
+      by false [] are = ap (λ (xs : List Check). xs ++ checks_from (n + 1) []) (sym (none_passes (is_on own) (card_checks n card) are))
+      by false (other ∷ others) are =
+          ap (λ (xs : List Check). xs ++ checks_from (n + 1) (other ∷ others)) (sym (none_passes (is_on own) (card_checks n card) are))
 
 module _ (pans : List ℕ → Bool) (s : ScenarioData) (l : ℕ) where
   pub alone_checks : checks (alone pans s l) ≡ filter (is_on (is_card_of s l)) (checks s)
   alone_checks = checks_own (is_card_of s l) 0 s.cards
 
   module _ (w v : World) (agree : PartsAgree pans s l w v) (choices : List Bool) where
-    cards_agree : (i : ℕ) (row few : CardRow) → few ≡ row → PartsAgree pans s l (with_card w i row) (with_card v i few)
-    cards_agree i row few same = record {
+    cards_agree : (i : ℕ) (row few : CardRow) → is_card_of s l i ≡ true → few ≡ row → PartsAgree pans s l (with_card w i row) (with_card v i few)
+    cards_agree i row few its same = record {
       lane = agree.lane;
       others = agree.others;
-      cards = λ j own. set_alike v.cards w.cards i j few row new_card (agree.cards_alone ∙ sym agree.card_count) same (agree.cards j own);
+      cards = λ j own. card_alike pans s l w v agree i j row few its own same;
       messages = agree.messages;
       lane_count = agree.lane_count;
       card_count = length-set w.cards i row ∙ agree.card_count;
@@ -170,7 +176,7 @@ module _ (pans : List ℕ → Bool) (s : ScenarioData) (l : ℕ) where
             lines = ap (λ (row : CardRow). audit_power_line card (found_of row.kept row.pending (choice_in choices 0)) ∷ []) (agree.cards i its);
             told = told;
             choices = refl;
-            parts = cards_agree i (after (card_at w i)) (after (card_at v i)) (ap after (agree.cards i its));
+            parts = cards_agree i (after (card_at w i)) (after (card_at v i)) its (ap after (agree.cards i its));
           }
             where
               after : CardRow → CardRow
@@ -179,7 +185,7 @@ module _ (pans : List ℕ → Bool) (s : ScenarioData) (l : ℕ) where
             lines = ap (λ (row : CardRow). audit_lines card command (card_answer card.image row.kept row.session command).answer) (agree.cards i its);
             told = told;
             choices = refl;
-            parts = cards_agree i (after (card_at w i)) (after (card_at v i)) (ap after (agree.cards i its));
+            parts = cards_agree i (after (card_at w i)) (after (card_at v i)) its (ap after (agree.cards i its));
           }
             where
               after : CardRow → CardRow

@@ -15,7 +15,7 @@ use Rattle.txn_replay.specs.Storing.{lane_piece}
 use Rattle.txn_replay.specs.World.{LaneRow, World, new_card, new_lane, first_world, lane_at}
 use Rattle.txn_replay.specs.declared.event.Event.{Event}
 use Rattle.txn_replay.specs.declared.event.Event.TheVariants.{Turn, Settle, Audit}
-use Rattle.txn_replay.proofs.LaneAlone.{cards_count, idle_payment, lanes_count}
+use Rattle.txn_replay.proofs.LaneAlone.{idle_payment, lanes_count}
 use Rattle.txn_replay.proofs.Lists.{at_set, append_first, get_or-map_const}
 use Rattle.txn_replay.proofs.OwnAudits.{passed, passed_none, passed_own, passed_other, passed_past, is_on, alone_checks, own_audits, other_audits}
 use Rattle.txn_replay.proofs.OwnLines.{Keeps, lane_keeps_sent}
@@ -62,7 +62,7 @@ module _ (pans : List ℕ → Bool) (s : ScenarioData) (l : ℕ) where
     lane_count = length-map s.lanes (λ lane. new_lane);
     card_count = length-map s.cards (λ card. new_card);
     lanes_alone = length-map (alone pans s l).lanes (λ lane. new_lane) ∙ lanes_count pans s l inside;
-    cards_alone = length-map (alone pans s l).cards (λ card. new_card) ∙ cards_count (is_card_of s l) 0 s.cards;
+    cards_alone = length-map (alone pans s l).cards (λ card. new_card);
   }
 
   -- what holds of the messages of a later world holds of those before it

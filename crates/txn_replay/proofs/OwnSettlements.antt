@@ -224,11 +224,13 @@ module _ (s : ScenarioData) (w : World) (k l : ℕ) (some : 1 ≤ s.copies) (ins
         ∙ ap (λ (rows : List LaneRow). length (settlements_from s 0 rows)) (take_set w.lanes (lane_in at) m (row_of at) early)
 
     pub record OwnStep (at : Settlement) : Type 0 where
+      pub number : own_steps s w l k ≡ k - before_lane s w l
       pub inner : slice_get (lane_settlements s.copies l (lane_at w l) (durable_of s l)) (own_steps s w l k) ≡ Some at
       pub next : own_steps s (after at) l (k + 1) ≡ own_steps s w l k + 1
 
     own_at : (at : Settlement) → lane_in at ≡ l → StepAt s w k l at → OwnStep at
     own_at at is step = record {
+      number = (let e : own_steps s w l k ≡ k - before_lane s w l = omega (arith, here, step.is) in e);
       inner = ap (λ m. slice_get (lane_settlements s.copies l (lane_at w l) (durable_of s l)) m) here ∙ step.inner;
       next = next_is ∙ ap (λ m. m + 1) (sym here);
     }

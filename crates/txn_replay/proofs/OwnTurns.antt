@@ -1,5 +1,5 @@
 -- An exchange of a lane in a run with others: the lane alone has the same one; one of another lane is none of it.
-use Rattle.std.proofs.Common.{◌≡◌, ◌≢◌, ℕ, zero, suc, ◌<◌, ◌==◌, Bool, true, false, List, [], ◌∷◌, length, get_or, set, slice_get, Option, Some, None, option_map, refl, sym, ap, ◌∙◌, subst, arith}
+use Rattle.std.proofs.Common.{◌≡◌, ◌≢◌, ℕ, zero, suc, ◌≤◌, ◌<◌, ◌==◌, Bool, true, false, List, [], ◌∷◌, length, get_or, set, slice_get, Option, Some, None, option_map, refl, sym, ap, ◌∙◌, subst, arith}
 use Rattle.std.specs.Prelude.{filter}
 use Rattle.std.proofs.lemmas.Bool.{eqb-true, eq-eqb}
 use Rattle.std.proofs.lemmas.List.{get_or-set_same, get_or-set_other, length-set}
@@ -10,9 +10,9 @@ use Rattle.txn_replay.specs.Part.{Part, Moved}
 use Rattle.txn_replay.specs.Payment.{Payment, payment_in, next_of}
 use Rattle.txn_replay.specs.Steps.{After, part_of, moved, choice_in, turned_by, happens}
 use Rattle.txn_replay.specs.Storing.{lane_piece}
-use Rattle.txn_replay.specs.World.{LaneRow, World, new_card, new_lane, lane_at}
+use Rattle.txn_replay.specs.World.{CardRow, LaneRow, World, new_card, new_lane, lane_at}
 use Rattle.txn_replay.specs.declared.event.Event.TheVariants.{Turn}
-use Rattle.txn_replay.proofs.LaneAlone.{payment_own, own_payment, idle_payment}
+use Rattle.txn_replay.proofs.LaneAlone.{cards_within, cards_are_few, payment_own, own_payment, idle_payment}
 use Rattle.txn_replay.proofs.OwnLines.{AreOf, all_pass, none_passes, lane_lines, lane_messages}
 use Rattle.txn_replay.proofs.OwnPieces.{at_own, Same, lane_same}
 use Rattle.txn_replay.proofs.Payments.{payment_facts}
@@ -24,16 +24,32 @@ differ a b other = by (a == b) refl
     by true is = absurd (other (eqb-true a b is))
     by false is = refl
 
--- two lists of one length that are alike here are so where both change alike
-pub set_alike : {A : Type 0} (xs ys : List A) (i j : ℕ) (a b d : A) → length xs ≡ length ys → a ≡ b → get_or xs j d ≡ get_or ys j d
-    → get_or (set xs i a) j d ≡ get_or (set ys i b) j d
-set_alike [] [] i j a b d count same here = here
-set_alike [] (y ∷ ys) i j a b d count same here = absurd (omega (arith, count))
-set_alike (x ∷ xs) [] i j a b d count same here = absurd (omega (arith, count))
-set_alike (x ∷ xs) (y ∷ ys) zero zero a b d count same here = same
-set_alike (x ∷ xs) (y ∷ ys) zero (suc j) a b d count same here = here
-set_alike (x ∷ xs) (y ∷ ys) (suc i) zero a b d count same here = here
-set_alike (x ∷ xs) (y ∷ ys) (suc i) (suc j) a b d count same here = set_alike xs ys i j a b d (omega (arith, count)) same here
+-- two lists that are alike here, the first no longer than the other, are so where both change alike at a place that the first has
+-- where the other has it
+set_alike : {A : Type 0} (xs ys : List A) (i j : ℕ) (a b d : A) → length xs ≤ length ys → (i < length ys → i < length xs) → a ≡ b
+    → get_or xs j d ≡ get_or ys j d → get_or (set xs i a) j d ≡ get_or (set ys i b) j d
+set_alike [] [] i j a b d few there same here = here
+set_alike [] (y ∷ ys) zero j a b d few there same here = absurd (let never : 0 < 0 = there (omega arith) in omega (arith, never))
+set_alike [] (y ∷ ys) (suc i) zero a b d few there same here = here
+set_alike [] (y ∷ ys) (suc i) (suc j) a b d few there same here =
+    set_alike [] ys i j a b d (omega arith)
+    (λ within. absurd (let never : suc i < 0 = there (omega (arith, within)) in omega (arith, never))) same here
+set_alike (x ∷ xs) [] i j a b d few there same here = absurd (omega (arith, few))
+set_alike (x ∷ xs) (y ∷ ys) zero zero a b d few there same here = same
+set_alike (x ∷ xs) (y ∷ ys) zero (suc j) a b d few there same here = here
+set_alike (x ∷ xs) (y ∷ ys) (suc i) zero a b d few there same here = here
+set_alike (x ∷ xs) (y ∷ ys) (suc i) (suc j) a b d few there same here =
+    set_alike xs ys i j a b d (omega (arith, few))
+    (λ within. (let so : suc i < length (x ∷ xs) = there (omega (arith, within)) in omega (arith, so))) same here
+
+-- so it is with a card of the lane
+pub card_alike : (pans : List ℕ → Bool) (s : ScenarioData) (l : ℕ) (w v : World) → PartsAgree pans s l w v → (i j : ℕ) (row few : CardRow)
+    → is_card_of s l i ≡ true → is_card_of s l j ≡ true → few ≡ row → get_or (set v.cards i few) j new_card ≡ get_or (set w.cards i row) j new_card
+card_alike pans s l w v agree i j row few own its same =
+    set_alike v.cards w.cards i j few row new_card (omega (arith, agree.cards_alone, agree.card_count, cards_are_few pans s l))
+    (λ within. (let there : i < length (alone pans s l).cards = cards_within pans s l i own (omega (arith, within, agree.card_count)) in
+    omega (arith, there, agree.cards_alone)))
+    same (agree.cards j its)
 
 -- an event of both, one in the run with others and one in that of the lane alone
 pub record Both (pans : List ℕ → Bool) (s : ScenarioData) (l : ℕ) (all own : After) : Type 0 where
@@ -104,8 +120,7 @@ module _ (pans : List ℕ → Bool) (s : ScenarioData) (l : ℕ) (apart : StandA
                 get_or-set_same v.lanes l few.part.lane new_lane there ∙ same.lane ∙ sym (get_or-set_same w.lanes l all.part.lane new_lane here);
             others = λ k other. get_or-set_other v.lanes l k few.part.lane new_lane other ∙ agree.others k other;
             cards = λ i own.
-                set_alike v.cards w.cards p.planned.card i few.part.card all.part.card new_card (agree.cards_alone ∙ sym agree.card_count) same.card
-                (agree.cards i own);
+                card_alike pans s l w v agree p.planned.card i all.part.card few.part.card (payment_own s l (length (lane_at w l).ended) p is) own same.card;
             messages = same.messages;
             lane_count = length-set w.lanes l all.part.lane ∙ agree.lane_count;
             card_count = length-set w.cards p.planned.card all.part.card ∙ agree.card_count;

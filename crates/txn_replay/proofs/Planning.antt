@@ -1,23 +1,21 @@
 -- While a lane's store is open, the purchase that is next or runs is the one whose plan it was opened under.
-use Rattle.std.proofs.Common.{◌≡◌, ℕ, ◌+◌, Bool, true, false, List, [], ◌∷◌, ◌++◌, length, Option, Some, None, refl, sym, ap, ◌∙◌, subst}
+use Rattle.std.proofs.Common.{◌≡◌, ℕ, Bool, true, false, List, [], ◌∷◌, length, Option, Some, None, refl, sym, ap, ◌∙◌, subst}
 use Rattle.std.specs.Prelude.{if◌then◌else◌}
-use Rattle.capture_store.specs.Calls.{Adds, Drops}
+use Rattle.capture_store.specs.Calls.{Drops}
 use Rattle.capture_store.specs.SeenShelf.{ShelfSeen, ShelfOn}
 use Rattle.capture_store.specs.StoreRow.{StoreRow, is_cut, made_call, cut_call, opened_to_add, ended_by}
 use Rattle.emv_ports.specs.declared.tear.Tear.{Tear}
-use Rattle.kernel.specs.Ended.{EndData}
-use Rattle.kernel.specs.Reply.{Reply}
 use Rattle.scenario.specs.Plan.{ScenarioData}
-use Rattle.txn_replay.specs.Part.{Part, lane_ended, piece}
-use Rattle.txn_replay.specs.Payment.{Payment, payment_in, durable_of}
+use Rattle.txn_replay.specs.Part.{Part, piece}
+use Rattle.txn_replay.specs.Payment.{Payment, payment_in}
 use Rattle.txn_replay.specs.Seen.{terminal_plan, ShelfAt}
-use Rattle.txn_replay.specs.Standing.{StorePlace, StoreStands, ShelfFor, ShelfStands}
-use Rattle.txn_replay.specs.Storing.{part_with, lane_lost, copied, copy_lines, dropped_by, delivers_first, lane_piece}
-use Rattle.txn_replay.specs.World.{LaneRow, with_store}
+use Rattle.txn_replay.specs.Standing.{StorePlace, ShelfFor, ShelfStands}
+use Rattle.txn_replay.specs.Storing.{part_with, copied, copy_lines, dropped_by, delivers_first, lane_piece}
+use Rattle.txn_replay.specs.World.{LaneRow}
 use Rattle.txn_replay.proofs.Lanes.{piece_lane}
-use Rattle.txn_replay.proofs.Payments.{IsPayment, payment_facts}
+use Rattle.txn_replay.proofs.Payments.{payment_facts}
 use Rattle.txn_replay.proofs.Sending.{Later, as_is, beginning, messaging}
-use Rattle.txn_replay.proofs.Ways.{AtRest, IsOn, Goes, lane_ways}
+use Rattle.txn_replay.proofs.Ways.{lane_ways}
 
 -- no purchase has ended behind which the store is still open
 abbrev pub StaysPlanned : ℕ → LaneRow → Type 0

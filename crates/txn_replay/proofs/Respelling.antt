@@ -25,7 +25,7 @@ use Rattle.txn_replay.specs.Changes.{exchanged, told_once, torn, lost}
 use Rattle.txn_replay.specs.Lines.{power_line, power_canned_line, power_torn_line, answer_lines, torn_lines, gone_lines, host_lines, outcome_line}
 use Rattle.txn_replay.specs.Part.{Part, Moved, loses, settled_by, sending, on_for, cut_ends, answered, canned_by, asked_by, asked, begun, begun_by, begun_with, piece_by, piece}
 use Rattle.txn_replay.specs.Payment.{Payment, payment_with, payment_of, payment_on, payment_in, is_iso, dialect_of, is_durable, durable_of, next_of, deal_for, end_at}
-use Rattle.txn_replay.specs.Respelled.{lanes_in, in_dialects, Respelled, same, call, reply, settle_call, settle_reply, AreRespelled, DialectsShow, WholeDialectsShow}
+use Rattle.txn_replay.specs.Respelled.{lanes_in, in_dialects, is_host, AreRespelled, no_lines, same_line, exchange, silence, settled, DialectsShow, WholeDialectsShow}
 use Rattle.txn_replay.specs.Run.{Place, Scheduled, Round, Finished, Reached, start, scheduled, rounds, round, again, settlement, settling, audit, auditing, finished, lane_over, all_below, all_over, balance_line, account_lines, ended_count, closing}
 use Rattle.txn_replay.specs.Steps.{After, Settlement, Opens, Sends, lane_settlements, settlements_from, Check, PowersUp, Asks, part_of, moved, choice_in, turned_by, settlements, settles, checks, audits, happens, Step}
 use Rattle.txn_replay.specs.Storing.{part_with, copied, copy_lines, dropped_by, delivers_first, opened_for, opens_by, goes_through, stored_by, free_by, runs_by, before_by, behind, lane_piece}
@@ -37,10 +37,13 @@ use Rattle.txn_replay.proofs.Payments.{payment_facts}
 module _ (before after : ℕ → Bool) where
   respelled-append : (xs ys us vs : List Line) → AreRespelled before after xs ys → AreRespelled before after us vs
       → AreRespelled before after (xs ++ us) (ys ++ vs)
-  respelled-append [] [] us vs first second = second
-  respelled-append [] (y ∷ ys) us vs first second = absurd first
-  respelled-append (x ∷ xs) [] us vs first second = absurd first
-  respelled-append (x ∷ xs) (y ∷ ys) us vs first second = (first.0, respelled-append xs ys us vs first.1 second)
+  respelled-append _ _ us vs no_lines second = second
+  respelled-append _ _ us vs (same_line {xs} {ys} line no_host rest) second = same_line line no_host (respelled-append xs ys us vs rest second)
+  respelled-append _ _ us vs (exchange {xs} {ys} lane message reply rest) second =
+      exchange lane message reply (respelled-append xs ys us vs rest second)
+  respelled-append _ _ us vs (silence {xs} {ys} lane message rest) second = silence lane message (respelled-append xs ys us vs rest second)
+  respelled-append _ _ us vs (settled {xs} {ys} lane message reply rest) second =
+      settled lane message reply (respelled-append xs ys us vs rest second)
 
   -- one exchange of a purchase, in both dialects
   record SameMoved (m n : Moved) : Type 0 where
@@ -56,10 +59,9 @@ module _ (before after : ℕ → Bool) where
     two = record p { iso = after p.lane }
 
     -- an end line is no message
-    end_same : (lost_so : Bool) (number : ℕ) (end : EndData)
-        → Respelled before after (outcome_line lost_so p.lane number end) (outcome_line lost_so p.lane number end)
-    end_same true number end = same _ refl
-    end_same false number end = same _ refl
+    end_same : (lost_so : Bool) (number : ℕ) (end : EndData) → is_host (outcome_line lost_so p.lane number end) ≡ false
+    end_same true number end = refl
+    end_same false number end = refl
 
     settled_same : (replies : List Reply) (part : Part) (xs ys : List Line) (e : Option EndData) → AreRespelled before after xs ys
         → SameMoved (settled_by one replies part xs e) (settled_by two replies part ys e)
@@ -69,18 +71,18 @@ module _ (before after : ℕ → Bool) where
       choices = refl;
       lines = respelled-append xs ys (outcome_line (loses p part.lane.store end.capture) p.lane (length part.lane.ended + 1) end ∷ [])
           (outcome_line (loses p part.lane.store end.capture) p.lane (length part.lane.ended + 1) end ∷ []) lines
-          (end_same (loses p part.lane.store end.capture) (length part.lane.ended + 1) end, tt);
+          (same_line _ (end_same (loses p part.lane.store end.capture) (length part.lane.ended + 1) end) no_lines);
     }
 
     cut_same : (replies : List Reply) (part cut : Part) (xs : List Line) (e : Option EndData) → AreRespelled before after xs xs
         → SameMoved (cut_ends one replies part cut xs e) (cut_ends two replies part cut xs e)
-    cut_same replies part cut xs None lines = record { part = refl; choices = refl; lines = tt }
+    cut_same replies part cut xs None lines = record { part = refl; choices = refl; lines = no_lines }
     cut_same replies part cut xs (Some end) lines = record {
       part = refl;
       choices = refl;
       lines = respelled-append xs xs (outcome_line (loses p cut.lane.store end.capture) p.lane (length cut.lane.ended + 1) end ∷ [])
           (outcome_line (loses p cut.lane.store end.capture) p.lane (length cut.lane.ended + 1) end ∷ []) lines
-          (end_same (loses p cut.lane.store end.capture) (length cut.lane.ended + 1) end, tt);
+          (same_line _ (end_same (loses p cut.lane.store end.capture) (length cut.lane.ended + 1) end) no_lines);
     }
 
     answered_same : (replies : List Reply) (command : List ℕ) (part : Part) (said : CardAnswer) (cut : Option Cut)
@@ -88,20 +90,20 @@ module _ (before after : ℕ → Bool) where
     answered_same replies command part said None =
         settled_same (replies ++ CardSaid said.answer part.lane.log ∷ []) (record part { card = exchanged p.card.image part.card command said })
         (answer_lines p.lane command said.answer) (answer_lines p.lane command said.answer)
-        (end_at p (replies ++ CardSaid said.answer part.lane.log ∷ [])) (same _ refl, (same _ refl, tt))
+        (end_at p (replies ++ CardSaid said.answer part.lane.log ∷ [])) (same_line _ refl (same_line _ refl no_lines))
     answered_same replies command part said (Some cut) =
         cut_same (replies ++ CardGone ∷ []) part (record part { card = torn part.card p.planned.tear cut }) (torn_lines p.lane command)
-        (end_at p (replies ++ CardGone ∷ [])) (same _ refl, (same _ refl, tt))
+        (end_at p (replies ++ CardGone ∷ [])) (same_line _ refl (same_line _ refl no_lines))
 
     canned_same : (replies : List Reply) (command : List ℕ) (part : Part) (o : Option (List ℕ))
         → SameMoved (canned_by one replies command part o) (canned_by two replies command part o)
     canned_same replies command part (Some answer) =
         settled_same (replies ++ CardSaid answer part.lane.log ∷ []) (record part { card = told_once part.card })
         (answer_lines p.lane command answer) (answer_lines p.lane command answer) (end_at p (replies ++ CardSaid answer part.lane.log ∷ []))
-        (same _ refl, (same _ refl, tt))
+        (same_line _ refl (same_line _ refl no_lines))
     canned_same replies command part None =
         cut_same (replies ++ CardGone ∷ []) part (record part { card = part.card }) (gone_lines p.lane command) (end_at p (replies ++ CardGone ∷ []))
-        (same _ refl, (same _ refl, tt))
+        (same_line _ refl (same_line _ refl no_lines))
 
     kind_same : (replies : List Reply) (command : List ℕ) (part : Part) (o : Option (List (List ℕ)))
         → SameMoved (asked_by one replies command part o) (asked_by two replies command part o)
@@ -112,8 +114,8 @@ module _ (before after : ℕ → Bool) where
 
     host_same : (message : List ℕ) (o : Option (List ℕ))
         → AreRespelled before after (host_lines (before p.lane) p.lane message o) (host_lines (after p.lane) p.lane message o)
-    host_same message None = (call p.lane message, (same _ refl, tt))
-    host_same message (Some answer) = (call p.lane message, (reply p.lane message answer, tt))
+    host_same message None = silence p.lane message no_lines
+    host_same message (Some reply) = exchange p.lane message reply no_lines
 
     asked_same : (replies : List Reply) (part : Part) (deed : Deed) → SameMoved (asked one replies part deed) (asked two replies part deed)
     asked_same replies part (ToCard command) = kind_same replies command part p.card.canned
@@ -123,29 +125,29 @@ module _ (before after : ℕ → Bool) where
       where
         answer : Option (List ℕ)
         answer = heard p.planned.link (host_reply p.issuer p.accounts part.messages message)
-    asked_same replies part (Over ending) = record { part = refl; choices = refl; lines = tt }
+    asked_same replies part (Over ending) = record { part = refl; choices = refl; lines = no_lines }
 
     tear_same : (part : Part) (choice is_cut : Bool) → SameMoved (begun_by one part choice is_cut) (begun_by two part choice is_cut)
     tear_same part choice true =
         cut_same (CardGone ∷ []) part (record part { card = lost part.card }) (power_torn_line p.lane p.card ∷ []) (end_at p (CardGone ∷ []))
-        (same _ refl, tt)
+        (same_line _ refl no_lines)
     tear_same part choice false =
         let found : List Decided = found_of part.card.kept part.card.pending choice in
         let on : SameMoved (settled_by one [] (on_for p (Some found) found part) (power_line p.lane p.card found ∷ []) (end_at p []))
         (settled_by two [] (on_for p (Some found) found part) (power_line p.lane p.card found ∷ []) (end_at p [])) =
         settled_same [] (on_for p (Some found) found part) (power_line p.lane p.card found ∷ []) (power_line p.lane p.card found ∷ []) (end_at p [])
-        (same _ refl, tt) in
+        (same_line _ refl no_lines) in
         record { part = on.part; choices = refl; lines = on.lines }
 
     begun_same : (part : Part) (choice : Bool) (o : Option (List (List ℕ))) → SameMoved (begun_with one part choice o) (begun_with two part choice o)
     begun_same part choice None = tear_same part choice (is_named p.planned.tear 0)
     begun_same part choice (Some answers) =
         settled_same [] (on_for p None (found_of part.card.kept part.card.pending false) part) (power_canned_line p.lane p.card ∷ [])
-        (power_canned_line p.lane p.card ∷ []) (end_at p []) (same _ refl, tt)
+        (power_canned_line p.lane p.card ∷ []) (end_at p []) (same_line _ refl no_lines)
 
     holder_same : (part : Part) (choice : Bool) (o : Option Holder) → SameMoved (begun one part choice o) (begun two part choice o)
     holder_same part choice None = begun_same part choice p.card.canned
-    holder_same part choice (Some holder) = record { part = refl; choices = refl; lines = tt }
+    holder_same part choice (Some holder) = record { part = refl; choices = refl; lines = no_lines }
 
     running_same : (part : Part) (choice : Bool) (o : Option (List Reply)) → SameMoved (piece_by one part choice o) (piece_by two part choice o)
     running_same part choice None = holder_same part choice part.card.holder
@@ -157,10 +159,10 @@ module _ (before after : ℕ → Bool) where
     -- what comes before a purchase, and the exchange with it
     copies_same : (message : List ℕ) (messages : List (List ℕ)) (n : ℕ)
         → AreRespelled before after (copy_lines one message messages n) (copy_lines two message messages n)
-    copies_same message messages zero = tt
+    copies_same message messages zero = no_lines
     copies_same message messages (suc n) =
         respelled-append (copy_lines one message messages n) (copy_lines two message messages n) _ _ (copies_same message messages n)
-        (settle_call p.lane message, (settle_reply p.lane message (host_reply p.issuer p.accounts (messages ++ replicate n message) message), tt))
+        (settled p.lane message (host_reply p.issuer p.accounts (messages ++ replicate n message) message) no_lines)
 
     dropped_same : (part : Part) (message : List ℕ) (cut : Bool)
         → SameMoved (dropped_by one (copied one message part) (copy_lines one message part.messages p.copies) cut)
@@ -170,12 +172,12 @@ module _ (before after : ℕ → Bool) where
       choices = refl;
       lines = respelled-append (copy_lines one message part.messages p.copies) (copy_lines two message part.messages p.copies)
           (EndLost p.lane (length part.lane.ended + 1) ∷ []) (EndLost p.lane (length part.lane.ended + 1) ∷ []) (copies_same message part.messages p.copies)
-          (same _ refl, tt);
+          (same_line _ refl no_lines);
     }
     dropped_same part message false = record { part = refl; choices = refl; lines = copies_same message part.messages p.copies }
 
     delivered_same : (part : Part) (list : List (List ℕ)) → SameMoved (delivers_first one part list) (delivers_first two part list)
-    delivered_same part [] = record { part = refl; choices = refl; lines = tt }
+    delivered_same part [] = record { part = refl; choices = refl; lines = no_lines }
     delivered_same part (message ∷ others) = dropped_same part message (is_cut p.planned.terminal_tear part.lane.store)
 
     lane_same : (part : Part) (first second : Bool) → SameMoved (lane_piece one part first second) (lane_piece two part first second)
@@ -187,13 +189,13 @@ module _ (before after : ℕ → Bool) where
 
         by_full : (full : Bool) → SameMoved (behind one first second (opened_for (part_with (opened_to_add part.lane.store first) part) full))
             (behind two first second (opened_for (part_with (opened_to_add part.lane.store first) part) full))
-        by_full true = record { part = refl; choices = refl; lines = tt }
+        by_full true = record { part = refl; choices = refl; lines = no_lines }
         by_full false =
             let both = piece_same (part_with (opened_to_add part.lane.store first) part) second in
             record { part = both.part; choices = ap (λ n. n + 1) both.choices; lines = both.lines }
 
         by_cut : (cut : Bool) → SameMoved (behind one first second (opens_by one part first cut)) (behind two first second (opens_by two part first cut))
-        by_cut true = record { part = refl; choices = refl; lines = (same _ refl, tt) }
+        by_cut true = record { part = refl; choices = refl; lines = (same_line _ refl no_lines) }
         by_cut false = by_full (opened_to_add part.lane.store first).due
 
         by_store : (o : Option ℕ) → SameMoved (behind one first second (stored_by one part first o)) (behind two first second (stored_by two part first o))
@@ -202,7 +204,7 @@ module _ (before after : ℕ → Bool) where
 
         by_holder : (o : Option Holder) → SameMoved (behind one first second (free_by one part first o)) (behind two first second (free_by two part first o))
         by_holder None = by_store part.lane.store.commits
-        by_holder (Some holder) = record { part = refl; choices = refl; lines = tt }
+        by_holder (Some holder) = record { part = refl; choices = refl; lines = no_lines }
 
         by_running : (o : Option (List Reply)) → SameMoved (behind one first second (runs_by one part first o)) (behind two first second (runs_by two part first o))
         by_running None = by_holder part.card.holder
@@ -294,7 +296,7 @@ module _ (s : ScenarioData) (iso : ℕ → Bool) where
       subst (λ (o : Option Payment). SameAfter (happens s w (Turn l) choices) (turned_by w l choices o)) (sym (next_same w l)) (by (next_of s w l) refl)
     where
       by : (o : Option Payment) → next_of s w l ≡ o → SameAfter (turned_by w l choices o) (turned_by w l choices (option_map (with_iso (after l)) o))
-      by None is = record { world = refl; choices = refl; lines = tt }
+      by None is = record { world = refl; choices = refl; lines = no_lines }
       by (Some p) is =
           let part : Part = part_of w l p.planned.card in
           let m : Moved = lane_piece p part (choice_in choices 0) (choice_in choices 1) in
@@ -331,18 +333,18 @@ module _ (s : ScenarioData) (iso : ℕ → Bool) where
   settlements_same w k = ap (λ (xs : List Settlement). slice_get xs k) (steps_same 0 w.lanes)
 
   settle_same : (w : World) (choices : List Bool) (o : Option Settlement) → SameAfter (settles s w choices o) (settles other w choices o)
-  settle_same w choices None = record { world = refl; choices = refl; lines = tt }
-  settle_same w choices (Some (Opens l)) = record { world = refl; choices = refl; lines = tt }
+  settle_same w choices None = record { world = refl; choices = refl; lines = no_lines }
+  settle_same w choices (Some (Opens l)) = record { world = refl; choices = refl; lines = no_lines }
   settle_same w choices (Some (Sends l message drops)) = record {
     world = refl;
     choices = refl;
-    lines = (settle_call l message, (settle_reply l message (host_reply s.issuer s.accounts w.messages message), tt));
+    lines = settled l message (host_reply s.issuer s.accounts w.messages message) no_lines;
   }
 
   audit_same : (w : World) (choices : List Bool) (o : Option Check) → SameAfter (audits w choices o) (audits w choices o)
-  audit_same w choices None = record { world = refl; choices = refl; lines = tt }
-  audit_same w choices (Some (PowersUp i card)) = record { world = refl; choices = refl; lines = (same _ refl, tt) }
-  audit_same w choices (Some (Asks i card command)) = record { world = refl; choices = refl; lines = (same _ refl, (same _ refl, tt)) }
+  audit_same w choices None = record { world = refl; choices = refl; lines = no_lines }
+  audit_same w choices (Some (PowersUp i card)) = record { world = refl; choices = refl; lines = (same_line _ refl no_lines) }
+  audit_same w choices (Some (Asks i card command)) = record { world = refl; choices = refl; lines = (same_line _ refl (same_line _ refl no_lines)) }
 
   event_same : (w : World) (e : Event) (choices : List Bool) → SameAfter (happens s w e choices) (happens other w e choices)
   event_same w (Turn l) choices = turn_same w l choices
@@ -380,7 +382,7 @@ module _ (s : ScenarioData) (iso : ℕ → Bool) where
     reached =
         subst (λ (rows : List LaneRow). Reached other (Scheduled 0) 0 [] [] (record { cards = (first_world s).cards; lanes = rows; messages = [] }))
         (new_lanes 0 s.lanes) start;
-    respelled = tt;
+    respelled = no_lines;
   }
   other_run _ _ _ _ _ (scheduled {k} {l} {n} {cs} {c} {ls} {new} {w = v} {w' = v'} before_it at step) =
       goes _ _ n cs c ls new v v' (Turn l) (other_run _ n cs ls v before_it) step (λ others made far next. scheduled far at next)
@@ -403,12 +405,12 @@ module _ (s : ScenarioData) (iso : ℕ → Bool) where
 
   -- the lines at the end are no messages
   balance_same : (pan : List ℕ) (o : Option ℤ) → AreRespelled before after (balance_line pan o) (balance_line pan o)
-  balance_same pan None = tt
-  balance_same pan (Some amount) = (same _ refl, tt)
+  balance_same pan None = no_lines
+  balance_same pan (Some amount) = (same_line _ refl no_lines)
 
   accounts_same : (w : World) (accounts : List AccountData)
       → AreRespelled before after (flat_map (account_lines s w) accounts) (flat_map (account_lines s w) accounts)
-  accounts_same w [] = tt
+  accounts_same w [] = no_lines
   accounts_same w (account ∷ accounts) =
       respelled-append before after (account_lines s w account) (account_lines s w account) (flat_map (account_lines s w) accounts)
       (flat_map (account_lines s w) accounts) (balance_same account.pan (balance_after s.issuer s.accounts w.messages account.pan)) (accounts_same w accounts)
@@ -416,7 +418,7 @@ module _ (s : ScenarioData) (iso : ℕ → Bool) where
   closing_same : (w : World) → AreRespelled before after (closing s w) (closing s w)
   closing_same w =
       respelled-append before after (flat_map (account_lines s w) s.accounts) (flat_map (account_lines s w) s.accounts) (Done (ended_count w) ∷ [])
-      (Done (ended_count w) ∷ []) (accounts_same w s.accounts) (same _ refl, tt)
+      (Done (ended_count w) ∷ []) (accounts_same w s.accounts) (same_line _ refl no_lines)
 
 pub dialects_show : DialectsShow
 dialects_show s iso place n choices lines w reached =

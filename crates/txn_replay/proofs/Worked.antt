@@ -28,7 +28,7 @@ use Rattle.txn_replay.specs.Part.{Part, lane_ended, ended_with}
 use Rattle.txn_replay.specs.Payment.{Payment, payment_in}
 use Rattle.txn_replay.specs.Run.{start, rounds, round, again, settlement, settling, audit, auditing, finished, Run}
 use Rattle.txn_replay.specs.Steps.{settlements_from, checks_from, happens}
-use Rattle.txn_replay.specs.Storing.{delivers, lane_piece}
+use Rattle.txn_replay.specs.Storing.{lane_piece}
 use Rattle.terminal_state.specs.Marks.{MomentData}
 use Rattle.txn_replay.specs.World.{World, LaneRow, first_world, new_card, new_lane}
 use Rattle.txn_replay.specs.declared.event.Event.TheVariants.{Turn, Settle, Audit}

@@ -1,6 +1,6 @@
 -- A lane alone: the scenario with nothing but this lane, its cards and its accounts, and what is the lane's own in a run with
 -- others (this project's own).
-use Rattle.std.specs.Prelude.{◌≡◌, ◌≢◌, ℕ, zero, suc, ◌+◌, ◌==◌, Bool, true, false, ◌&&◌, ◌||◌, if◌then◌else◌, List, [], ◌∷◌, ◌++◌, length, flat_map, slice_get, Option, Some, None}
+use Rattle.std.specs.Prelude.{◌≡◌, ◌≢◌, ℕ, zero, suc, ◌+◌, ◌==◌, Bool, true, false, ◌&&◌, ◌||◌, List, [], ◌∷◌, ◌++◌, length, flat_map, slice_get, Option, Some, None}
 use Rattle.std.specs.List.{list_any}
 use Rattle.std.specs.Str.{bytes_eq}
 use Rattle.host_histories.specs.Apart.{pan_of, own_messages, own_accounts}
@@ -22,14 +22,20 @@ names_card (Some lane) i = list_any (λ planned. planned.card == i) lane.purchas
 unfoldable pub is_card_of : ScenarioData → ℕ → ℕ → Bool
 is_card_of s l i = names_card (slice_get s.lanes l) i
 
--- in the place of another lane's card: it has no name, answers nothing, and is passed over in the audit
+-- in the place of another lane's card before one of the lane: it has no name, answers nothing, and is passed over in the audit
 abbrev pub nobody : CardData
 nobody = record { name = []; image = no_image; canned = Some [] }
 
--- the lane's own cards, the first of these having this number
+-- a card before these; behind the last one of the lane there is none
+abbrev pub before_own : Bool → CardData → List CardData → List CardData
+before_own true card cards = card ∷ cards
+before_own false card [] = []
+before_own false card (other ∷ others) = nobody ∷ other ∷ others
+
+-- the lane's own cards at their places, the first of these having this number
 unfoldable pub cards_alone : (ℕ → Bool) → ℕ → List CardData → List CardData
 cards_alone own i [] = []
-cards_alone own i (card ∷ cards) = (if own i then card else nobody) ∷ cards_alone own (i + 1) cards
+cards_alone own i (card ∷ cards) = before_own (own i) card (cards_alone own (i + 1) cards)
 
 -- a lane that does nothing
 abbrev pub idle : LaneData → LaneData
@@ -45,7 +51,7 @@ lanes_alone l None = []
 lanes_alone l (Some lane) = behind_idle l lane
 
 -- The scenario in which the lane is alone, with these account numbers: the issuer's keys, the accounts that have one of them,
--- the lane's cards, and the lane. All else that it takes from the scenario is how many cards there are.
+-- the lane's cards, and the lane.
 abbrev pub alone : (List ℕ → Bool) → ScenarioData → ℕ → ScenarioData
 alone pans s l = record {
   issuer = s.issuer;
@@ -86,7 +92,7 @@ pub record PartsAgree (pans : List ℕ → Bool) (s : ScenarioData) (l : ℕ) (w
   pub lane_count : length w.lanes ≡ length s.lanes
   pub card_count : length w.cards ≡ length s.cards
   pub lanes_alone : length v.lanes ≡ l + 1
-  pub cards_alone : length v.cards ≡ length s.cards
+  pub cards_alone : length v.cards ≡ length (alone pans s l).cards
 
 -- one of the cards that pass is of this name, the first having this number
 unfoldable pub names_one : (ℕ → Bool) → ℕ → List CardData → List ℕ → Bool

@@ -87,8 +87,15 @@ abbrev pub is_lost_line : ℕ → Line → Bool
 is_lost_line l (EndLost lane number) = lane == l
 is_lost_line l other = false
 
--- as many purchases of a lane were lost as its lines tell
+-- as many purchases of each lane were lost as its lines tell
+abbrev pub AreLostAsTold : List Line → World → Type 0
+AreLostAsTold lines w = (l : ℕ) → lost_count (lane_at w l).ended ≡ count_by (is_lost_line l) lines
+
 abbrev pub LostAreTold : Type 0
 LostAreTold =
-    (s : ScenarioData) (place : Place) (n : ℕ) (choices : List Bool) (lines : List Line) (w : World) (l : ℕ)
-    → Reached s place n choices lines w → lost_count (lane_at w l).ended ≡ count_by (is_lost_line l) lines
+    (s : ScenarioData) (place : Place) (n : ℕ) (choices : List Bool) (lines : List Line) (w : World)
+    → Reached s place n choices lines w → AreLostAsTold lines w
+
+-- so it is of whole runs
+abbrev pub WholeRunsTellLost : Type 0
+WholeRunsTellLost = (s : ScenarioData) (lines : List Line) (w : World) → Run s lines w → AreLostAsTold lines w

@@ -1,9 +1,9 @@
 -- A run in which lanes speak other dialects with the host: its lines are the other dialects' spellings of the same messages
 -- and replies (this project's own).
-use Rattle.std.specs.Prelude.{◌≡◌, ⊤, ℕ, ◌+◌, Bool, true, false, List, [], ◌∷◌}
+use Rattle.std.specs.Prelude.{◌≡◌, ℕ, ◌+◌, Bool, true, false, List, [], ◌∷◌}
 use Rattle.host_link.specs.Dialect.{call_in, reply_in}
 use Rattle.report_text.specs.declared.line.Line.{Line}
-use Rattle.report_text.specs.declared.line.Line.TheVariants.{ToHost, FromHost, SettleCall, SettleReply}
+use Rattle.report_text.specs.declared.line.Line.TheVariants.{ToHost, FromHost, NoReply, SettleCall, SettleReply}
 use Rattle.scenario.specs.Plan.{ScenarioData}
 use Rattle.scenario_lanes.specs.Plan.{LaneData}
 use Rattle.txn_replay.specs.Payment.{dialect_of}
@@ -26,27 +26,22 @@ is_host (SettleCall lane bytes) = true
 is_host (SettleReply lane bytes) = true
 is_host other = false
 
--- a line with such bytes spells the same message, or the same reply to it, in the lane's other dialect; each other line stays
-pub data Respelled (before after : ℕ → Bool) : Line → Line → Type 0 where
-  same : (line : Line) → is_host line ≡ false → Respelled before after line line
-  call : (lane : ℕ) (message : List ℕ)
-      → Respelled before after (ToHost lane (record { items = call_in (before lane) message })) (ToHost lane (record { items = call_in (after lane) message }))
-  reply : (lane : ℕ) (message answer : List ℕ)
-      → Respelled before after (FromHost lane (record { items = reply_in (before lane) message answer }))
-      (FromHost lane (record { items = reply_in (after lane) message answer }))
-  settle_call : (lane : ℕ) (message : List ℕ)
-      → Respelled before after (SettleCall lane (record { items = call_in (before lane) message }))
-      (SettleCall lane (record { items = call_in (after lane) message }))
-  settle_reply : (lane : ℕ) (message answer : List ℕ)
-      → Respelled before after (SettleReply lane (record { items = reply_in (before lane) message answer }))
-      (SettleReply lane (record { items = reply_in (after lane) message answer }))
-
--- line by line
-abbrev pub AreRespelled : (ℕ → Bool) → (ℕ → Bool) → List Line → List Line → Type 0
-AreRespelled before after [] [] = ⊤
-AreRespelled before after (x ∷ xs) (y ∷ ys) = Respelled before after x y × AreRespelled before after xs ys
-AreRespelled before after [] (y ∷ ys) = ⊥
-AreRespelled before after (x ∷ xs) [] = ⊥
+-- a message stands with its reply, or with none, and both are spelled anew in the lane's other dialect; each other line stays
+pub data AreRespelled (before after : ℕ → Bool) : List Line → List Line → Type 0 where
+  no_lines : AreRespelled before after [] []
+  same_line : {xs ys : List Line} (line : Line) → is_host line ≡ false → AreRespelled before after xs ys
+      → AreRespelled before after (line ∷ xs) (line ∷ ys)
+  exchange : {xs ys : List Line} (lane : ℕ) (message reply : List ℕ) → AreRespelled before after xs ys
+      → AreRespelled before after
+      (ToHost lane (record { items = call_in (before lane) message }) ∷ FromHost lane (record { items = reply_in (before lane) message reply }) ∷ xs)
+      (ToHost lane (record { items = call_in (after lane) message }) ∷ FromHost lane (record { items = reply_in (after lane) message reply }) ∷ ys)
+  silence : {xs ys : List Line} (lane : ℕ) (message : List ℕ) → AreRespelled before after xs ys
+      → AreRespelled before after (ToHost lane (record { items = call_in (before lane) message }) ∷ NoReply lane ∷ xs)
+      (ToHost lane (record { items = call_in (after lane) message }) ∷ NoReply lane ∷ ys)
+  settled : {xs ys : List Line} (lane : ℕ) (message reply : List ℕ) → AreRespelled before after xs ys
+      → AreRespelled before after
+      (SettleCall lane (record { items = call_in (before lane) message }) ∷ SettleReply lane (record { items = reply_in (before lane) message reply }) ∷ xs)
+      (SettleCall lane (record { items = call_in (after lane) message }) ∷ SettleReply lane (record { items = reply_in (after lane) message reply }) ∷ ys)
 
 -- with the same truth values the same world is reached in as many events, and with it each ending and each balance
 abbrev pub DialectsShow : Type 0

@@ -1,5 +1,5 @@
 -- A lane that shares no card and no account with others runs as if it were alone (this project's own).
-use Rattle.std.specs.Prelude.{◌≡◌, ◌≢◌, ℕ, ◌==◌, ◌<◌, Bool, true, false, List, [], length, filter, slice_get, Option, Some, None}
+use Rattle.std.specs.Prelude.{◌≡◌, ◌≢◌, ℕ, ◌-◌, ◌==◌, ◌<◌, Bool, true, false, List, [], length, count_by, filter, take, slice_get, Option, Some, None}
 use Rattle.std.specs.List.{list_any}
 use Rattle.std.specs.Str.{bytes_eq}
 use Rattle.host_histories.specs.Apart.{pan_of, own_accounts}
@@ -8,7 +8,7 @@ use Rattle.scenario.specs.Plan.{ScenarioData, IsScenario}
 use Rattle.txn_replay.specs.Alone.{is_card_of, alone, LaneRun, HasOwnCards, HasOwnNumbers, PartsAgree, is_own, LaneHasNoChoice}
 use Rattle.txn_replay.specs.Choices.{IsSameRun}
 use Rattle.txn_replay.specs.Run.{Run}
-use Rattle.txn_replay.specs.Steps.{Settlement, Opens, Sends, settlements, Check, PowersUp, Asks, checks, Step}
+use Rattle.txn_replay.specs.Steps.{Settlement, Opens, Sends, settlements_from, settlements, Check, PowersUp, Asks, checks, Step}
 use Rattle.txn_replay.specs.World.{World, first_world, lane_at}
 use Rattle.txn_replay.specs.declared.event.Event.{Event}
 use Rattle.txn_replay.specs.declared.event.Event.TheVariants.{Turn, Settle, Audit}
@@ -61,7 +61,6 @@ pub record HaveSame (pans : List ℕ → Bool) (s t : ScenarioData) (l : ℕ) : 
   pub issuer : s.issuer ≡ t.issuer
   pub accounts : own_accounts pans s.accounts ≡ own_accounts pans t.accounts
   pub cards : (i : ℕ) → is_card_of s l i ≡ true → slice_get s.cards i ≡ slice_get t.cards i
-  pub card_count : length s.cards ≡ length t.cards
   pub lane : slice_get s.lanes l ≡ slice_get t.lanes l
   pub copies : s.copies ≡ t.copies
 
@@ -85,9 +84,16 @@ is_event_of s w l (Turn lane) = lane == l
 is_event_of s w l (Settle number) = is_step_of l (slice_get (settlements s w) number)
 is_event_of s w l (Audit number) = is_check_of (is_card_of s l) (slice_get (checks s) number)
 
--- the lane alone has the same event, with the same truth values and lines, all of them its own, and then the parts agree
-pub record Follows (pans : List ℕ → Bool) (s : ScenarioData) (l : ℕ) (v : World) (choices : List Bool) (lines : List Line) (after : World) : Type 0 where
-  pub event : Event
+-- and which one it is in a run of the lane alone: an exchange, or the step or check of this number among the lane's own; these
+-- steps stand behind those of the lanes before it
+abbrev pub event_alone : ScenarioData → World → ℕ → Event → Event
+event_alone s w l (Turn lane) = Turn l
+event_alone s w l (Settle number) = Settle (number - length (settlements_from s 0 (take l w.lanes)))
+event_alone s w l (Audit number) = Audit (count_by (λ check. is_check_of (is_card_of s l) (Some check)) (take number (checks s)))
+
+-- the lane alone has this event, with the same truth values and lines, all of them its own, and then the parts agree
+pub record Follows (pans : List ℕ → Bool) (s : ScenarioData) (l : ℕ) (v : World) (event : Event) (choices : List Bool) (lines : List Line)
+    (after : World) : Type 0 where
   pub world : World
   pub step : Step (alone pans s l) v event choices lines world
   pub told : filter (is_own pans s l) lines ≡ lines
@@ -98,9 +104,9 @@ pub record Stays (pans : List ℕ → Bool) (s : ScenarioData) (l : ℕ) (v : Wo
   pub none : filter (is_own pans s l) lines ≡ []
   pub parts : PartsAgree pans s l after v
 
-abbrev pub ComesBy : (List ℕ → Bool) → ScenarioData → ℕ → World → List Bool → List Line → World → Bool → Type 0
-ComesBy pans s l v choices lines after true = Follows pans s l v choices lines after
-ComesBy pans s l v choices lines after false = Stays pans s l v lines after
+abbrev pub ComesBy : (List ℕ → Bool) → ScenarioData → ℕ → World → Event → List Bool → List Line → World → Bool → Type 0
+ComesBy pans s l v event choices lines after true = Follows pans s l v event choices lines after
+ComesBy pans s l v event choices lines after false = Stays pans s l v lines after
 
 -- both agree before their first events
 abbrev pub FirstPartsAgree : Type 0
@@ -111,7 +117,7 @@ FirstPartsAgree =
 abbrev pub ComesApart : ScenarioData → World → Event → List Bool → List Line → World → Type 0
 ComesApart s w e choices lines after =
     (pans : List ℕ → Bool) (l : ℕ) (v : World) → IsScenario s → IsApart pans s l after → PartsAgree pans s l w v
-    → ComesBy pans s l v choices lines after (is_event_of s w l e)
+    → ComesBy pans s l v (event_alone s w l e) choices lines after (is_event_of s w l e)
 
 -- and so it is of each event
 abbrev pub StepsComeApart : Type 0

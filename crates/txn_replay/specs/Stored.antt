@@ -1,5 +1,5 @@
 -- What holds of the stores in every world of a run, and of each while the settlement goes through them (this project's own).
-use Rattle.std.specs.Prelude.{◌≡◌, ◌⊎◌, ◌==◌, ℕ, ◌-◌, ◌/◌, ◌≤◌, ◌<◌, Bool, true, false, is_some, List, [], length, take, drop, Option, Some, None, unwrap_or}
+use Rattle.std.specs.Prelude.{◌≡◌, ◌⊎◌, ◌==◌, ℕ, ◌-◌, ◌/◌, ◌≤◌, ◌<◌, Bool, true, false, is_some, List, [], length, take, drop, Some, None, unwrap_or}
 use Rattle.capture_store.specs.Calls.{found_by}
 use Rattle.capture_store.specs.StoreRow.{StoreRow, new_store}
 use Rattle.report_text.specs.declared.line.Line.{Line}

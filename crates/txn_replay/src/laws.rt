@@ -1,6 +1,6 @@
 //! Laws over every run, whatever its scenario.
 ghost use Rattle.txn_replay.specs.Bounds.{WorldsAreFew, SettlementsAreFew, ChecksAreFew};
-ghost use Rattle.txn_replay.specs.Captured.{CapturesAreSent, LostAreTold};
+ghost use Rattle.txn_replay.specs.Captured.{CapturesAreSent, LostAreTold, WholeRunsTellLost};
 ghost use Rattle.txn_replay.specs.Choices.{NoneIsOpen, RunIsOne};
 ghost use Rattle.txn_replay.specs.Laws.{RunsAreFair, WholeRunsAreFair, WorldsAreSound, IdleLanesStay, LanesStayApart, LossesAreTold, StuckIsOver, CalmIsOver};
 ghost use Rattle.txn_replay.specs.PagesTell.{PagesTellTotals};
@@ -97,6 +97,7 @@ pub fn pages_tell_totals()
 pub fn captures_are_sent()
     ensures sent { CapturesAreSent }
     ensures lost { LostAreTold }
+    ensures lost_whole { WholeRunsTellLost }
 {}
 
 /// A store never holds more than seven messages, and has room while a purchase runs. The settlement goes through

@@ -1,5 +1,5 @@
 use Rattle.txn_replay.proofs.Capturing.{captures_sent}
-use Rattle.txn_replay.proofs.Losing.{lost_are_told}
+use Rattle.txn_replay.proofs.Losing.{lost_are_told, whole_lost}
 use Rattle.txn_replay.proofs.laws.captures_are_sent.Goals as goal
 
 pub returns-clause-sent : goal.returns-clause-sent
@@ -7,3 +7,6 @@ returns-clause-sent c = captures_sent
 
 pub returns-clause-lost : goal.returns-clause-lost
 returns-clause-lost c = lost_are_told
+
+pub returns-clause-lost_whole : goal.returns-clause-lost_whole
+returns-clause-lost_whole c = whole_lost
