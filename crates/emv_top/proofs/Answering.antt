@@ -18,11 +18,12 @@ use Rattle.emv_top.proofs.Going.{stopped_with, completes_with}
 use Rattle.emv_top.proofs.ReadRuns.{read_fair}
 use Rattle.emv_top.proofs.ReadSettled.{read_settled, read_calm}
 use Rattle.emv_top.proofs.Settled.{run_settled}
+use Rattle.kernel.specs.Laws.{ReadingCapturesNothing}
 use Rattle.kernel.specs.Tally.{Counts}
 use Rattle.scenario.specs.Plan.{ScenarioData, IsScenario}
 use Rattle.scenario_fields.specs.Line.{refused_line}
 use Rattle.scenario_fields.specs.declared.fault.ScenarioFault.{ScenarioFault}
-use Rattle.txn_replay.specs.Captured.{CapturesAreSent}
+use Rattle.txn_replay.specs.Captured.{CapturesAreSent, LostAreTold, WholeRunsTellLost}
 use Rattle.txn_replay.specs.Laws.{RunsAreFair, WholeRunsAreFair, IsFair}
 use Rattle.txn_replay.specs.Reading.{ReadRun, to_read}
 use Rattle.txn_replay.specs.Respelled.{WholeDialectsShow}
@@ -33,12 +34,12 @@ use Rattle.txn_replay.specs.Told.{RunsTellLosses, WholeRunsTellLosses}
 use Rattle.txn_replay.specs.World.{World}
 use Rattle.txn_replay.specs.Seen.{WorldSeen, WorldStands}
 
--- in a whole run purchases are decided, losses told, and dialects spelled, and a lane that shares nothing runs as if it were
--- alone; the laws are kept, and no decision is open
-pub decided_whole : (s : ScenarioData) (v : WorldSeen) (old new : Option (List ℕ)) → WholeRunsAreFair → RunsAreDecided → WholeRunsTellLosses → WholeDialectsShow
-    → CapturesAreSent → StoresAreEmptied → LanesStandAlone → IsScenario s → Completes (Run s) (WorldStands v) old new
+-- in a whole run purchases are decided, the losses of cards and terminals told, and dialects spelled, and a lane that shares
+-- nothing runs as if it were alone; the laws are kept, and no decision is open
+pub decided_whole : (s : ScenarioData) (v : WorldSeen) (old new : Option (List ℕ)) → WholeRunsAreFair → RunsAreDecided → WholeRunsTellLosses
+    → WholeRunsTellLost → WholeDialectsShow → CapturesAreSent → StoresAreEmptied → LanesStandAlone → IsScenario s → Completes (Run s) (WorldStands v) old new
     → Completes (DecidedRun s) (λ w. WorldStands v w × IsFair s w × AreSettled s w) old new
-decided_whole s v old new law decides losses dialects captures emptied alone fits whole =
+decided_whole s v old new law decides losses lost dialects captures emptied alone fits whole =
     let run : Run s whole.lines whole.world = whole.run in
     record {
       lines = whole.lines;
@@ -47,6 +48,7 @@ decided_whole s v old new law decides losses dialects captures emptied alone fit
         run = run;
         decided = decides s Finished run.count run.choices run.reported whole.world run.reached fits;
         losses = losses s whole.lines whole.world fits run;
+        lost = lost s whole.lines whole.world run;
         dialects = λ iso.
             (let other = dialects s iso whole.lines whole.world run in record { others = other.0; run = other.1; respelled = other.2 });
         captures = λ l on. captures s whole.lines whole.world l fits.tables.one_copy on run;
@@ -68,19 +70,19 @@ module _ (s : ScenarioData) (v : WorldSeen) (told : v.scenario ≡ s) (old new :
       completes_with (DecidedRun s) (λ w. WorldStands v w × IsFair s w × AreSettled s w) (λ w. Leaves s bank tally w × AreSettled s w) old new
       (λ ls w run stands. (left w stands.0 stands.1, stands.2)) whole
 
-  pub cut_replay : RunsAreFair → RunsTellLosses → IsScenario s → Stopped s all_lines (Replays s) (WorldStands v) old new → IsCut Replay s old new bank tally
-  cut_replay law losses fits stopped =
+  pub cut_replay : RunsAreFair → RunsTellLosses → LostAreTold → IsScenario s → Stopped s all_lines (Replays s) (WorldStands v) old new → IsCut Replay s old new bank tally
+  cut_replay law losses lost fits stopped =
       stopped_with s all_lines (Replays s) (ToldReplays s) (WorldStands v) (Leaves s bank tally) old new
-      (λ n cs ls w tail ends. (ends, losses s ends.0 n cs ls w fits ends.1))
+      (λ n cs ls w tail ends. (ends, losses s ends.0 n cs ls w fits ends.1, lost s ends.0 n cs ls w ends.1))
       (λ n cs ls w tail ends stands. left w stands (law s ends.0 n cs ls w ends.1)) stopped
 
-  pub whole_reading : (whole : ScenarioData) → s ≡ to_read whole → RunsAreFair → Completes (ReadRun whole) (WorldStands v) old new → IsWhole Read whole old new bank tally
-  whole_reading whole same law completes =
+  pub whole_reading : (whole : ScenarioData) → s ≡ to_read whole → RunsAreFair → ReadingCapturesNothing → Completes (ReadRun whole) (WorldStands v) old new → IsWhole Read whole old new bank tally
+  whole_reading whole same law nothing completes =
       let run : ReadRun whole completes.lines completes.world = completes.run in
       record {
         lines = completes.lines;
         world = completes.world;
-        run = read_calm whole completes.lines completes.world run;
+        run = read_calm whole nothing completes.lines completes.world run;
         stands = (
           subst (λ (t : ScenarioData). Leaves t bank tally completes.world) same
               (left completes.world completes.stands

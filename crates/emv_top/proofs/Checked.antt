@@ -1,5 +1,5 @@
 -- What answers a trace, and that bytes that are a trace's aren't refused.
-use Rattle.std.proofs.Common.{◌≡◌, ◌≢◌, ◌⊎◌, ℕ, ◌<◌, ◌≤◌, nat_lt, Bool, true, false, List, length, Option, Some, None, Result, Ok, Err, refl, sym, ap, ◌∙◌, subst, inl, inr, arith}
+use Rattle.std.proofs.Common.{◌≡◌, ◌≢◌, ◌⊎◌, ℕ, ◌<◌, ◌≤◌, nat_lt, Bool, true, false, List, length, Option, Some, None, Result, Ok, Err, refl, sym, ap, subst, inl, inr, arith}
 use Rattle.std.proofs.lemmas.Bool.Decides.{nat_tests}
 use Rattle.std.specs.Io.KnownBytes.{Appends}
 use Rattle.std.specs.Str.{IsUtf8}
@@ -7,13 +7,13 @@ use Rattle.toml.specs.Parse.{parse_document}
 use Rattle.emv_ports.specs.Causes.{Rose}
 use Rattle.emv_ports.specs.Memory.{Memory}
 use Rattle.emv_ports.specs.Reading.{ReadsUpTo}
-use Rattle.emv_top.specs.Answers.{Refuses, SinkCount, SourceCount, Unbegun}
+use Rattle.emv_top.specs.Answers.{Refuses, SinkCount, SourceCount}
 use Rattle.emv_top.specs.Checking.{Checks, ChecksRead, HasFault, HasVerdict, TellsFront, TellsVerdict}
 use Rattle.emv_top.specs.StatusCode.{code_of}
 use Rattle.emv_top.specs.declared.status.Status.{Status}
 use Rattle.emv_top.specs.declared.status.Status.TheVariants.{Done, Refused, Usage, ReadFault, WriteFault, OutOfMemory}
 use Rattle.emv_top.proofs.Accepting.{same_bytes}
-use Rattle.emv_top.proofs.Answering.{done_by, refused_by, usage_by, read_fault_by, write_fault_by, starved_by}
+use Rattle.emv_top.proofs.Answering.{done_by, refused_by, usage_by, write_fault_by, starved_by}
 use Rattle.kernel.specs.Tally.{Counts}
 use Rattle.scenario_fields.specs.Fault.{Gives}
 use Rattle.scenario_fields.specs.Line.{refused_line}

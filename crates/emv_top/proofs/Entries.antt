@@ -12,7 +12,6 @@ use Rattle.report_text.specs.Text.{line_text}
 use Rattle.terminal_state.specs.Marks.{Mark, moment, latest, card_of}
 use Rattle.terminal_state.specs.Terminal.{Deal}
 use Rattle.trace_check.specs.Dialogues.{end_text, entry_of_deed}
-use Rattle.trace_check.specs.declared.entry.Entry.{Entry}
 use Rattle.trace_check.specs.declared.entry.Entry.TheVariants as entries
 
 -- a word in two parts, with what stands behind the second

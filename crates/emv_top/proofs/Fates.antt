@@ -1,15 +1,15 @@
 -- What becomes of a purchase without a tear, of a card with applications, in one exchange: it goes on as its terminal was told, or ends.
-use Rattle.std.proofs.Common.{◌≡◌, ◌⊎◌, ℕ, ◌+◌, true, false, List, [], ◌∷◌, ◌++◌, length, slice_get, Option, Some, None, refl, sym, ap, ◌∙◌, subst, inl, inr}
+use Rattle.std.proofs.Common.{◌≡◌, ◌⊎◌, ℕ, ◌+◌, true, false, List, [], ◌∷◌, length, slice_get, Option, Some, None, refl, sym, ap, ◌∙◌, subst, inl, inr}
 use Rattle.std.proofs.lemmas.Option.{same_Some}
 use Rattle.capture_store.specs.StoreRow.{commit_next, opened_to_add}
 use Rattle.card_app.specs.Answering.{card_answer}
 use Rattle.card_files.specs.Kept.{IsImage}
-use Rattle.card_pages.specs.Cuts.{Cut, cut_of}
+use Rattle.card_pages.specs.Cuts.{cut_of}
 use Rattle.card_pages.specs.Pages.{found_of}
 use Rattle.card_state.specs.Decisions.{Decided}
 use Rattle.completeness.specs.Cards.{Now}
 use Rattle.completeness.specs.Laws.{PurchasesAreDecided, HostsAreLinked}
-use Rattle.completeness.specs.Told.{Told, begins, card as told_card, host as told_host, IsDecided, IsLinked}
+use Rattle.completeness.specs.Told.{Told, begins, card as told_card, host as told_host, IsLinked}
 use Rattle.completeness.specs.WellFormed.{WellFormed}
 use Rattle.emv_dict.specs.Settings.{IsSettings}
 use Rattle.emv_ports.specs.Cut.{is_named}

@@ -15,6 +15,7 @@ pub mod Closings
 pub mod ReadGoing
 pub mod Uncut
 pub mod Settled
+pub mod ReadStored
 pub mod ReadSettled
 pub mod Fates
 pub mod Deciding

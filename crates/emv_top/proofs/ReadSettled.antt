@@ -4,12 +4,13 @@ use Rattle.std.specs.List.{count_by, flat_map}
 use Rattle.std.proofs.lemmas.List.Sums.{sum_by-append}
 use Rattle.emv_dict.specs.declared.ending.Ending.{Ending}
 use Rattle.emv_top.specs.Answers.{AreSettled, CalmReading}
+use Rattle.emv_top.proofs.ReadStored.{read_stored}
 use Rattle.emv_top.proofs.Uncut.{Spares, lane_card}
 use Rattle.emv_top.proofs.Untorn.{untorn_next}
+use Rattle.kernel.specs.Laws.{ReadingCapturesNothing}
 use Rattle.object_lists.specs.CardRead.{ReadCard}
 use Rattle.report_text.specs.declared.line.Line.{Line}
 use Rattle.report_text.specs.declared.line.Line.TheVariants as line
-use Rattle.scenario.specs.Cards.{CardData}
 use Rattle.scenario.specs.Plan.{ScenarioData}
 use Rattle.txn_replay.specs.Laws.{is_torn}
 use Rattle.txn_replay.specs.Part.{Part, Moved}
@@ -129,11 +130,13 @@ module _ (whole : ScenarioData) where
   reading_tells_none None None = refl
   reading_tells_none None (Some ending) = refl
 
-  pub read_calm : (ls : List Line) (w : World) → ReadRun whole ls w → CalmReading whole ls w
-  read_calm ls w run = record {
+  pub read_calm : ReadingCapturesNothing → (ls : List Line) (w : World) → ReadRun whole ls w → CalmReading whole ls w
+  read_calm nothing ls w run = record {
     run = run;
     losses = λ i. (calm.0 i).1;
     untold = ap told run.whole ∙ none;
+    kept = λ l. (read_stored whole nothing run.count run.choices run.reported w run.reached l).kept;
+    emptied = λ l. (read_stored whole nothing run.count run.choices run.reported w run.reached l).emptied;
   }
     where
       calm : IsCalm w run.reported

@@ -67,7 +67,7 @@ none_ended (Some card) ending unread = cc
 none_ended None None unread = refl
 none_ended None (Some ending) unread = cc
 
-not_named : {A : Type 0} (tear : Option Tear) (n : ℕ) → tear ≡ None → is_named tear n ≡ true → A
+pub not_named : {A : Type 0} (tear : Option Tear) (n : ℕ) → tear ≡ None → is_named tear n ≡ true → A
 not_named None n none named = cc
 not_named (Some tear) n none named = cc
 

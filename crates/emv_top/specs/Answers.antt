@@ -1,5 +1,5 @@
 -- What answers the bytes that were read: the text, the pages and the tally of one run, or the line of a fault.
-use Rattle.std.specs.Prelude.{◌≡◌, ◌⊎◌, ℕ, ◌-◌, ◌≤◌, List, count_by, drop, length, slice_get, Option, Some, None, Ok, Err}
+use Rattle.std.specs.Prelude.{◌≡◌, ◌⊎◌, ℕ, List, count_by, length, slice_get, Option, Some, None, Ok, Err}
 use Rattle.std.specs.List.{All}
 use Rattle.std.specs.Io.KnownBytes.{Appends}
 use Rattle.emv_ports.specs.Causes.{Rose}
@@ -21,11 +21,13 @@ use Rattle.scenario.specs.Cards.{CardData}
 use Rattle.scenario.specs.Plan.{ScenarioData}
 use Rattle.scenario_fields.specs.Line.{refused_line}
 use Rattle.scenario_fields.specs.declared.fault.ScenarioFault.{ScenarioFault}
-use Rattle.txn_replay.specs.Counting.{counts}
+use Rattle.txn_replay.specs.Captured.{AreLostAsTold}
+use Rattle.txn_replay.specs.Counting.{counts, lost_count}
 use Rattle.txn_replay.specs.Laws.{IsFair, is_torn}
 use Rattle.txn_replay.specs.Reading.{ReadRun, to_read}
+use Rattle.txn_replay.specs.Stored.{IsEmptied}
 use Rattle.txn_replay.specs.Told.{HasLosses}
-use Rattle.txn_replay.specs.World.{World, card_at}
+use Rattle.txn_replay.specs.World.{World, card_at, lane_at}
 use Rattle.txn_replay.specs.Seen.{BankStands}
 
 -- no purchase has ended
@@ -59,15 +61,17 @@ pub record Completes (runs : List Line → World → Type 0) (holds : World → 
   pub stands : holds world
   pub written : Appends old new (text_of lines)
 
--- a run that was cut: its lines tell how often each card lost its power
+-- a run that was cut: its lines tell how often each card lost its power, and each terminal a purchase
 abbrev pub ToldReplays : ScenarioData → Ends
-ToldReplays s n choices lines w tail = Replays s n choices lines w tail × HasLosses s lines w
+ToldReplays s n choices lines w tail = Replays s n choices lines w tail × HasLosses s lines w × AreLostAsTold lines w
 
--- a card was read: no card lost its power, and no line tells that one did
+-- a card was read: no card lost its power, and no line tells that one did; no terminal lost a purchase, and each store is empty
 pub record CalmReading (s : ScenarioData) (lines : List Line) (w : World) : Type 0 where
   pub run : ReadRun s lines w
   pub losses : (i : ℕ) → (card_at w i).losses ≡ 0
   pub untold : count_by is_torn lines ≡ 0
+  pub kept : (l : ℕ) → lost_count (lane_at w l).ended ≡ 0
+  pub emptied : (l : ℕ) → IsEmptied (lane_at w l).store
 
 -- the runs that an order asks for, and the scenario whose cards, lanes and host they are of: in a whole run each purchase
 -- with a well-formed card is decided, and a card is read without its purchase's tear

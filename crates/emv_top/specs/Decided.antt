@@ -7,7 +7,7 @@ use Rattle.completeness.specs.WellFormed.{WellFormed}
 use Rattle.kernel.specs.Ended.{EndData}
 use Rattle.report_text.specs.declared.line.Line.{Line}
 use Rattle.scenario.specs.Plan.{ScenarioData, IsScenario}
-use Rattle.txn_replay.specs.Captured.{AreSent}
+use Rattle.txn_replay.specs.Captured.{AreSent, AreLostAsTold}
 use Rattle.txn_replay.specs.Payment.{Payment, payment_in, dialect_of, durable_of, deal_for}
 use Rattle.txn_replay.specs.Respelled.{AreRespelled, in_dialects}
 use Rattle.txn_replay.specs.Run.{Place, Reached, Run}
@@ -44,13 +44,14 @@ pub record RunInDialects (s : ScenarioData) (iso : ℕ → Bool) (lines : List L
   pub run : Run (in_dialects iso s) others w
   pub respelled : AreRespelled (dialect_of s) (dialect_of (in_dialects iso s)) lines others
 
--- a whole run: its purchases are decided, its lines tell how often each card lost its power, in other dialects of its lanes
--- it differs in the spelling of messages and replies alone, each store has sent its captures and is empty, and a lane that
--- shares no card and no account with others ran as if it were alone
+-- a whole run: its purchases are decided, its lines tell how often each card lost its power and each terminal a purchase, in
+-- other dialects of its lanes it differs in the spelling of messages and replies alone, each store has sent its captures and
+-- is empty, and a lane that shares no card and no account with others ran as if it were alone
 pub record DecidedRun (s : ScenarioData) (lines : List Line) (w : World) : Type 0 where
   pub run : Run s lines w
   pub decided : AreDecided s w
   pub losses : HasLosses s lines w
+  pub lost : AreLostAsTold lines w
   pub dialects : (iso : ℕ → Bool) → RunInDialects s iso lines w
   pub captures : (l : ℕ) → durable_of s l ≡ true → AreSent s lines w l
   pub emptied : (l : ℕ) → durable_of s l ≡ true → IsEmptied (lane_at w l).store

@@ -29,6 +29,7 @@ use crate::stop::Stop;
 use crate::words::{Order, asks_check, read_count, read_words, usage};
 use emv_ports::{Failed, Pages, ReadFault, Sink, Source, read_up_to, write_all};
 use kernel::Tally;
+use kernel::laws::reading_captures_nothing;
 use scenario::{MOST_BYTES, Scenario};
 use std::alloc::Global;
 use txn_replay::{NoWorld, World, runs_are_fair};
@@ -69,6 +70,7 @@ fn read_card<P: Pages, K: Sink>(
     ensures count { SinkCount (K.faults sink.old) (K.faults sink.new) result.status }
 {
     runs_are_fair();
+    reading_captures_nothing();
     match World::new(alloc, scenario, bank) {
         Ok(world) => {
             let mut world = world;
@@ -273,9 +275,10 @@ pub fn run<P: Pages, S: Source, K: Sink>(
     // 0: the bytes read are a scenario's, and of one run of it the sink got the text of its lines, the pages
     // stand for its cards' decisions and its stores' lists, and the tally is its count. No counter serves two
     // purchases, power-ups find prefixes, and no transaction is booked twice. In a whole run each purchase without
-    // a tear whose card has applications and was well-formed at its power-up is approved or declined, of a lane that
-    // keeps its captures durably those that weren't lost are sent, and its store is empty, and a lane that shares no
-    // card and no account with others runs as if it were alone.
+    // a tear whose card has applications and was well-formed at its power-up is approved or declined, the lines tell
+    // what cards and terminals lost, of a lane that keeps its captures durably those that weren't lost are sent, and
+    // its store is empty, and a lane that shares no card and no account with others runs as if it were alone. In a
+    // reading nothing is lost, and each store is empty.
     ensures done { generate_of (map string_bytes words.now) ≡ None → spec.asks_check (map string_bytes words.now) ≡ false → result.status ≡ 0
         → (order : Order) × (order_of (map string_bytes words.now) ≡ Some order) × (bytes : List ℕ)
         × ReadsUpTo 4194305 (S.left source.old) (S.left source.new) bytes

@@ -9,7 +9,7 @@ pub returns-in-Ok-read_through-clause-plays : goal.returns-in-Ok-read_through-cl
 returns-in-Ok-read_through-clause-plays g c = λ s same.
     subst (λ (st : Status). Plays Read s (g.K.Sink.held c.args.sink.now) (g.K.Sink.held c.read_through.new.sink)
     (map g.P.Pages.memory c.end_world.result.bank.items) c.end_world.result.tally st) (sym c.end_world.ensures.status)
-    (whole_reading c.args.scenario.now c.read_through.new.world c.read_through.ensures.told _ _ _ _ c.end_world.ensures.leaves s same c.runs_are_fair.ensures.reached (c.in-Ok-read_through.ensures.ok s same))
+    (whole_reading c.args.scenario.now c.read_through.new.world c.read_through.ensures.told _ _ _ _ c.end_world.ensures.leaves s same c.runs_are_fair.ensures.reached c.reading_captures_nothing.ensures (c.in-Ok-read_through.ensures.ok s same))
 
 pub returns-in-Err-Sink-clause-plays : goal.returns-in-Err-Sink-clause-plays
 returns-in-Err-Sink-clause-plays g c = λ s same.

@@ -1,4 +1,4 @@
-use Rattle.std.proofs.Common.{◌∙◌, ◌≡◌, ◌≢◌, ◌⊎◌, Bool, true, false, None, Some, inl, inr, refl, sym, subst, map, string_bytes, ◌≤◌, ℕ, arith}
+use Rattle.std.proofs.Common.{◌∙◌, ◌≡◌, ◌≢◌, ◌⊎◌, Bool, true, false, None, inl, inr, refl, sym, subst, map, string_bytes, ◌≤◌, ℕ, arith}
 use Rattle.emv_ports.specs.Causes.{Rose}
 use Rattle.emv_top.specs.Answers.{SourceCount, Unbegun}
 use Rattle.emv_top.specs.StatusCode.{code_of}
