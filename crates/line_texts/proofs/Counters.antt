@@ -1,5 +1,5 @@
 -- The counters of applications are read from the front of a text.
-use Rattle.std.proofs.Common.{◌≡◌, ℕ, ◌<◌, List, [], ◌∷◌, ◌++◌, refl, sym, ap, ◌∙◌, arith, append_assoc}
+use Rattle.std.proofs.Common.{◌≡◌, ◌≢◌, ℕ, ◌<◌, List, [], ◌∷◌, ◌++◌, refl, sym, ap, ◌∙◌, arith, append_assoc}
 use Rattle.std.specs.Prelude.{slice_index, decimal, length, Option, Some, None, IfSome}
 use Rattle.std.specs.List.{All}
 use Rattle.std.proofs.lemmas.List.Elements.{All-head, All-tail}
@@ -78,33 +78,34 @@ pub record Begun (text : List ℕ) : Type 0 where
   pub rest : List ℕ
   pub is : text ≡ first ∷ rest
   pub low : first < 33
-  pub digit : slice_index rest 0 < 58
+  pub digit : first ≢ 10 → slice_index rest 0 < 58
 
-pub begun : (apps : List Shown) → All AreCounters apps → Begun (all_shown apps ++ 10 ∷ [])
-begun [] all = record { first = 10; rest = []; is = refl; low = omega arith; digit = omega arith }
-begun (app ∷ apps) all =
+pub begun : (apps : List Shown) (r : List ℕ) → All AreCounters apps → Begun (all_shown apps ++ 10 ∷ r)
+begun [] r all = record { first = 10; rest = r; is = refl; low = omega arith; digit = λ other. absurd (other refl) }
+begun (app ∷ apps) r all =
     let told : AreCounters app = All-head AreCounters app apps all in
     record {
       first = 32;
-      rest = decimal app.counter ++ behind_first app (all_shown apps ++ 10 ∷ []);
-      is = append_assoc (shown_text app) (all_shown apps) (10 ∷ []) ∙ shown_flat app (all_shown apps ++ 10 ∷ []);
+      rest = decimal app.counter ++ behind_first app (all_shown apps ++ 10 ∷ r);
+      is = append_assoc (shown_text app) (all_shown apps) (10 ∷ r) ∙ shown_flat app (all_shown apps ++ 10 ∷ r);
       low = omega arith;
-      digit = decimal_first app.counter (behind_first app (all_shown apps ++ 10 ∷ [])) told.counter;
+      digit = λ other. decimal_first app.counter (behind_first app (all_shown apps ++ 10 ∷ r)) told.counter;
     }
 
-pub counters_same : (xs ys : List Shown) → all_shown xs ++ 10 ∷ [] ≡ all_shown ys ++ 10 ∷ [] → All AreCounters xs → All AreCounters ys → xs ≡ ys
-counters_same [] [] e tx ty = refl
-counters_same [] (y ∷ ys) e tx ty = let no : ◌≡◌ {A = ℕ} 10 32 = first_same 10 32 _ _ (e ∙ append_assoc (shown_text y) (all_shown ys) (10 ∷ []) ∙ shown_flat y (all_shown ys ++ 10 ∷ [])) in absurd (omega arith)
-counters_same (x ∷ xs) [] e tx ty = let no : ◌≡◌ {A = ℕ} 10 32 = first_same 10 32 _ _ (sym e ∙ append_assoc (shown_text x) (all_shown xs) (10 ∷ []) ∙ shown_flat x (all_shown xs ++ 10 ∷ [])) in absurd (omega arith)
-counters_same (x ∷ xs) (y ∷ ys) e tx ty =
-    let one = begun xs (All-tail AreCounters x xs tx) in
-    let two = begun ys (All-tail AreCounters y ys ty) in
-    let flat : shown_text x ++ (all_shown xs ++ 10 ∷ []) ≡ shown_text y ++ (all_shown ys ++ 10 ∷ []) = sym (append_assoc (shown_text x) _ _) ∙ e ∙ append_assoc (shown_text y) _ _ in
+pub counters_same : (xs ys : List Shown) (r s : List ℕ) → all_shown xs ++ 10 ∷ r ≡ all_shown ys ++ 10 ∷ s → All AreCounters xs → All AreCounters ys → (xs ≡ ys) × (r ≡ s)
+counters_same [] [] r s e tx ty = (refl, behind 1 e)
+counters_same [] (y ∷ ys) r s e tx ty = let no : ◌≡◌ {A = ℕ} 10 32 = first_same 10 32 _ _ (e ∙ append_assoc (shown_text y) (all_shown ys) (10 ∷ s) ∙ shown_flat y (all_shown ys ++ 10 ∷ s)) in absurd (omega arith)
+counters_same (x ∷ xs) [] r s e tx ty = let no : ◌≡◌ {A = ℕ} 10 32 = first_same 10 32 _ _ (sym e ∙ append_assoc (shown_text x) (all_shown xs) (10 ∷ r) ∙ shown_flat x (all_shown xs ++ 10 ∷ r)) in absurd (omega arith)
+counters_same (x ∷ xs) (y ∷ ys) r s e tx ty =
+    let one = begun xs r (All-tail AreCounters x xs tx) in
+    let two = begun ys s (All-tail AreCounters y ys ty) in
+    let flat : shown_text x ++ (all_shown xs ++ 10 ∷ r) ≡ shown_text y ++ (all_shown ys ++ 10 ∷ s) = sym (append_assoc (shown_text x) _ _) ∙ e ∙ append_assoc (shown_text y) _ _ in
     let joined : shown_text x ++ one.first ∷ one.rest ≡ shown_text y ++ two.first ∷ two.rest =
     ap (λ (t : List ℕ). shown_text x ++ t) (sym one.is) ∙ flat ∙ ap (λ (t : List ℕ). shown_text y ++ t) two.is in
     let low : one.first < 33 = one.low in
     let low' : two.first < 33 = two.low in
     let same = shown_front x y one.first two.first one.rest two.rest joined (All-head AreCounters x xs tx) (All-head AreCounters y ys ty) (omega arith) (omega arith) in
     let here : x ≡ y = same.0 in
-    let there : xs ≡ ys = counters_same xs ys (one.is ∙ same.1 ∙ sym two.is) (All-tail AreCounters x xs tx) (All-tail AreCounters y ys ty) in
-    cc
+    let more = counters_same xs ys r s (one.is ∙ same.1 ∙ sym two.is) (All-tail AreCounters x xs tx) (All-tail AreCounters y ys ty) in
+    let there : xs ≡ ys = more.0 in
+    (cc, more.1)

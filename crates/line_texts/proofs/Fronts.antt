@@ -84,12 +84,12 @@ number m n c d r s e hm hn hc hd =
 pub wide_high : (n : ℕ) → n < 10 ^ 64 → AtLeast 48 (decimal n)
 wide_high n h = from_digits (decimal n) (decimal_is_IsNumeral_wide n h).0.1
 
-pub wide_number : (m n c d : ℕ) (r s : List ℕ) → decimal m ++ c ∷ r ≡ decimal n ++ d ∷ s → m < 10 ^ 64 → n < 10 ^ 64 → c < 48 → d < 48 → m ≡ n
+pub wide_number : (m n c d : ℕ) (r s : List ℕ) → decimal m ++ c ∷ r ≡ decimal n ++ d ∷ s → m < 10 ^ 64 → n < 10 ^ 64 → c < 48 → d < 48 → (m ≡ n) × (c ∷ r ≡ d ∷ s)
 wide_number m n c d r s e hm hn hc hd =
     let fm = decimal_is_IsNumeral_wide m hm in
     let fn = decimal_is_IsNumeral_wide n hn in
     let same = word 48 (decimal m) (decimal n) c d r s e (wide_high m hm) (wide_high n hn) hc hd in
-    sym fm.1 ∙ ap (digits_value 10) same.0 ∙ fn.1
+    (sym fm.1 ∙ ap (digits_value 10) same.0 ∙ fn.1, same.1)
 
 -- bytes in hexadecimal
 digit_range : (c d : ℕ) → hex_digit_value c ≡ Some d → d < 16 → slice_index lower_digits d ≡ c → (48 ≤ c)
@@ -139,12 +139,14 @@ no_dash (b ∷ bytes) r s e all some =
     let high : 48 ≤ slice_index lower_digits (b / 16) = digit_high (b / 16) (omega arith) in
     omega arith
 
-pub dash : (xs ys : List ℕ) → hex_or_dash xs ++ 10 ∷ [] ≡ hex_or_dash ys ++ 10 ∷ [] → AreBytes xs → AreBytes ys → xs ≡ ys
+pub dash : (xs ys : List ℕ) {r s : List ℕ} → hex_or_dash xs ++ 10 ∷ r ≡ hex_or_dash ys ++ 10 ∷ s → AreBytes xs → AreBytes ys → (xs ≡ ys) × (r ≡ s)
 unfolding hex_or_dash
-dash [] [] e p q = refl
+dash [] [] e p q = (refl, behind 2 e)
 dash [] (y ∷ ys) e p q = absurd (no_dash (y ∷ ys) _ _ e q (omega arith))
 dash (x ∷ xs) [] e p q = absurd (no_dash (x ∷ xs) _ _ (sym e) p (omega arith))
-dash (x ∷ xs) (y ∷ ys) e p q = (hex (x ∷ xs) (y ∷ ys) 10 10 [] [] e p q (omega arith) (omega arith)).0
+dash (x ∷ xs) (y ∷ ys) {r} {s} e p q =
+    let same = hex (x ∷ xs) (y ∷ ys) 10 10 r s e p q (omega arith) (omega arith) in
+    (same.0, behind 1 same.1)
 
 pub dash_first : (bytes rest : List ℕ) → AreBytes bytes → slice_index (hex_or_dash bytes ++ rest) 0 < 103
 unfolding hex_or_dash encode_with

@@ -1,5 +1,5 @@
 -- Which kind of line a text is of, by its first words.
-use Rattle.std.proofs.Common.{◌≡◌, ℕ, ◌<◌, ◌≤◌, ◌==◌, nat_lt, true, false, List, [], ◌∷◌, ◌++◌, drop, refl, sym, ap, ◌∙◌, arith, append_assoc}
+use Rattle.std.proofs.Common.{◌≡◌, ◌≢◌, ℕ, ◌<◌, ◌≤◌, ◌==◌, nat_lt, Bool, true, false, List, [], ◌∷◌, ◌++◌, drop, refl, sym, ap, ◌∙◌, arith, append_assoc}
 use Rattle.std.specs.Prelude.{slice_index, if◌then◌else◌, codes, decimal, IsTrue}
 use Rattle.std.proofs.lemmas.Bool.Decides.{nat_tests}
 use Rattle.std.proofs.lemmas.List.Elements.{All-weaker}
@@ -63,7 +63,11 @@ kind (EndLost lane number) = 22
 
 -- behind `power` and a name
 power_mark : List ℕ → ℕ
-power_mark text = if slice_index text 1 == 99 then 2 else if slice_index text 1 == 116 then 3 else 1
+power_mark text =
+    if slice_index text 0 == 10 then 1
+    else if slice_index text 1 == 99 then 2
+    else if slice_index text 1 == 116 then 3
+    else 1
 
 -- by the first character of an answer
 answer_mark : ℕ → ℕ
@@ -126,9 +130,16 @@ end_line : (lane number : ℕ) (rest : List ℕ) → IsCount lane → IsCount nu
 unfolding lane_mark
 end_line lane number rest h few = lane_line lane _ h ∙ ap end_mark (rest_word 48 (decimal number) 32 rest (decimal_high number few) (omega arith))
 
-power_low : (text : List ℕ) → slice_index text 1 < 58 → power_mark text ≡ 1
+power_low_by : (c : ℕ) (rest : List ℕ) (ends : Bool) → (c == 10) ≡ ends → (c ≢ 10 → slice_index rest 0 < 58) → power_mark (c ∷ rest) ≡ 1
 unfolding power_mark
-power_low text low = grind (arith, nat_tests)
+power_low_by c rest true is digit = rw is refl
+power_low_by c rest false is digit =
+    let other : c ≢ 10 = λ (e : c ≡ 10). grind (arith, nat_tests) in
+    let low : slice_index rest 0 < 58 = digit other in
+    grind (arith, nat_tests)
+
+power_low : (c : ℕ) (rest : List ℕ) → (c ≢ 10 → slice_index rest 0 < 58) → power_mark (c ∷ rest) ≡ 1
+power_low c rest digit = power_low_by c rest (c == 10) refl digit
 
 answer_low : (c : ℕ) → c < 103 → answer_mark c ≡ 5
 unfolding answer_mark
@@ -138,12 +149,12 @@ reply_low : (c : ℕ) → c < 103 → reply_mark c ≡ 9
 unfolding reply_mark
 reply_low c low = grind (arith, nat_tests)
 
-ending_mark : (ending : Ending) → line_mark (codes "read " ++ (ending_text ending ++ 10 ∷ [])) ≡ 21
+ending_mark : (ending : Ending) (rest : List ℕ) → line_mark (codes "read " ++ (ending_text ending ++ rest)) ≡ 21
 unfolding line_mark read_mark ending_text
-ending_mark (ending.Approved online) = refl
-ending_mark (ending.Declined online) = refl
-ending_mark (ending.Terminated step cause) = refl
-ending_mark (ending.CutOff step) = refl
+ending_mark (ending.Approved online) rest = refl
+ending_mark (ending.Declined online) rest = refl
+ending_mark (ending.Terminated step cause) rest = refl
+ending_mark (ending.CutOff step) rest = refl
 
 end_parts_mark : (ending : Ending) (rest : List ℕ) → end_mark (32 ∷ (ending_text ending ++ rest)) ≡ 11
 unfolding end_mark ending_text
@@ -153,47 +164,47 @@ end_parts_mark (ending.Terminated step cause) rest = refl
 end_parts_mark (ending.CutOff step) rest = refl
 
 -- the parts begin with the ending
-parts_begin : (parts : EndParts) → (rest : List ℕ) × (parts_text parts ++ 10 ∷ [] ≡ ending_text parts.ending ++ rest)
+parts_begin : (parts : EndParts) (r : List ℕ) → (rest : List ℕ) × (parts_text parts ++ 10 ∷ r ≡ ending_text parts.ending ++ rest)
 unfolding parts_text
-parts_begin parts =
+parts_begin parts r =
     let rest : List ℕ =
     codes " tvr=" ++ (encode_lower (tvr_bytes parts.tvr.0) ++ (codes " tsi=" ++ (encode_lower (two_bytes parts.tsi.0)
-    ++ (codes " cvm=" ++ (encode_lower parts.cvm ++ (codes " arc=" ++ (arc_text parts.arc ++ (cryptogram_text parts.atc_ac ++ (codes " scripts=" ++ (scripts_text parts.scripts.items ++ 10 ∷ [])))))))))) in
+    ++ (codes " cvm=" ++ (encode_lower parts.cvm ++ (codes " arc=" ++ (arc_text parts.arc ++ (cryptogram_text parts.atc_ac ++ (codes " scripts=" ++ (scripts_text parts.scripts.items ++ 10 ∷ r)))))))))) in
     (rest, simp append_assoc)
 
-marked : (line : Line) → IsTold line → line_mark (flat_text line) ≡ kind line
+marked : (line : Line) (r : List ℕ) → IsTold line → line_mark (flat_text line r) ≡ kind line
 unfolding IsTold line_mark lane_mark settle_mark audit_mark answer_mark reply_mark read_mark power_mark end_mark
-marked (Power lane card apps) t =
-    let start = begun apps.items t.2 in
+marked (Power lane card apps) r t =
+    let start = begun apps.items r t.2 in
     let whole : line_mark (76 ∷ (decimal lane ++ (codes " power " ++ (card.items ++ start.first ∷ start.rest)))) ≡ power_mark (start.first ∷ start.rest) =
     power_line lane card.items start.first start.rest t.0 t.1 start.low in
-    rw start.is (whole ∙ power_low (start.first ∷ start.rest) start.digit)
-marked (PowerCanned lane card) t = power_line lane card.items 32 _ t.0 t.1 (omega arith)
-marked (PowerTorn lane card) t = power_line lane card.items 32 _ t.0 t.1 (omega arith)
-marked (ToCard lane bytes) t = lane_line lane _ t.0
-marked (FromCard lane bytes) t = lane_line lane _ t.0 ∙ answer_low _ (dash_first bytes.items (10 ∷ []) t.1)
-marked (Torn lane) t = lane_line lane _ t
-marked (Gone lane) t = lane_line lane _ t
-marked (ToHost lane bytes) t = lane_line lane _ t.0
-marked (FromHost lane bytes) t = lane_line lane _ t.0 ∙ reply_low _ (dash_first bytes.items (10 ∷ []) t.1)
-marked (NoReply lane) t = lane_line lane _ t
-marked (End lane number parts) t =
-    let begin = parts_begin parts in
-    end_line lane number (parts_text parts ++ 10 ∷ []) t.0 t.1
+    rw start.is (whole ∙ power_low start.first start.rest start.digit)
+marked (PowerCanned lane card) r t = power_line lane card.items 32 _ t.0 t.1 (omega arith)
+marked (PowerTorn lane card) r t = power_line lane card.items 32 _ t.0 t.1 (omega arith)
+marked (ToCard lane bytes) r t = lane_line lane _ t.0
+marked (FromCard lane bytes) r t = lane_line lane _ t.0 ∙ answer_low _ (dash_first bytes.items (10 ∷ r) t.1)
+marked (Torn lane) r t = lane_line lane _ t
+marked (Gone lane) r t = lane_line lane _ t
+marked (ToHost lane bytes) r t = lane_line lane _ t.0
+marked (FromHost lane bytes) r t = lane_line lane _ t.0 ∙ reply_low _ (dash_first bytes.items (10 ∷ r) t.1)
+marked (NoReply lane) r t = lane_line lane _ t
+marked (End lane number parts) r t =
+    let begin = parts_begin parts r in
+    end_line lane number (parts_text parts ++ 10 ∷ r) t.0 t.1
     ∙ ap (λ (text : List ℕ). end_mark (32 ∷ text)) begin.1 ∙ end_parts_mark parts.ending begin.0
-marked (EndLost lane number) t = end_line lane number _ t.0 t.1
-marked (SettleCall lane bytes) t = settle_line lane _ t.0
-marked (SettleReply lane bytes) t = settle_line lane _ t.0
-marked (AuditPower card apps) t = audit_line card.items _ t.0
-marked (AuditAsk card bytes) t = audit_line card.items _ t.0
-marked (AuditAnswer card bytes) t = audit_line card.items _ t.0
-marked (Balance pan amount) t = refl
-marked (Done number) t = refl
-marked (Object tag value) t = refl
-marked ReadOk t = refl
-marked (ReadEnded ending) t = ending_mark ending
+marked (EndLost lane number) r t = end_line lane number _ t.0 t.1
+marked (SettleCall lane bytes) r t = settle_line lane _ t.0
+marked (SettleReply lane bytes) r t = settle_line lane _ t.0
+marked (AuditPower card apps) r t = audit_line card.items _ t.0
+marked (AuditAsk card bytes) r t = audit_line card.items _ t.0
+marked (AuditAnswer card bytes) r t = audit_line card.items _ t.0
+marked (Balance pan amount) r t = refl
+marked (Done number) r t = refl
+marked (Object tag value) r t = refl
+marked ReadOk r t = refl
+marked (ReadEnded ending) r t = ending_mark ending (10 ∷ r)
 
-pub same_kind : (a b : Line) → flat_text a ≡ flat_text b → IsTold a → IsTold b → IsTrue (kind a == kind b)
-same_kind a b e ta tb =
-    let same : kind a ≡ kind b = sym (marked a ta) ∙ ap line_mark e ∙ marked b tb in
+pub same_kind : (a b : Line) (r s : List ℕ) → flat_text a r ≡ flat_text b s → IsTold a → IsTold b → IsTrue (kind a == kind b)
+same_kind a b r s e ta tb =
+    let same : kind a ≡ kind b = sym (marked a r ta) ∙ ap line_mark e ∙ marked b s tb in
     grind (arith, nat_tests)

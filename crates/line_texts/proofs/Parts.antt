@@ -93,9 +93,11 @@ results_same (x ∷ xs) (y ∷ ys) e p q =
     let there : xs ≡ ys = results_same xs ys same.1 (All-tail IsResult x xs p) (All-tail IsResult y ys q) in
     cc
 
-scripts_same : (xs ys : List (List ℕ)) → scripts_text xs ++ 10 ∷ [] ≡ scripts_text ys ++ 10 ∷ [] → All IsResult xs → All IsResult ys → xs ≡ ys
+scripts_same : (xs ys : List (List ℕ)) {r s : List ℕ} → scripts_text xs ++ 10 ∷ r ≡ scripts_text ys ++ 10 ∷ s → All IsResult xs → All IsResult ys → (xs ≡ ys) × (r ≡ s)
 unfolding joined
-scripts_same xs ys e p q = results_same xs ys (dash (joined xs) (joined ys) e (results_are_bytes xs p) (results_are_bytes ys q)) p q
+scripts_same xs ys e p q =
+    let same = dash (joined xs) (joined ys) e (results_are_bytes xs p) (results_are_bytes ys q) in
+    (results_same xs ys same.0 p q, same.1)
 
 -- the parts
 parts_of : Ending → ℕ → ℕ → List ℕ → Option (List ℕ) → Option (ℕ × List ℕ) → List (List ℕ) → EndParts
@@ -112,18 +114,18 @@ unfolding parts_of
 parts_equal a b p q r s t i j = parts_by p q r s t i j
 
 -- their text, with what follows each
-abbrev flat_parts : EndParts → List ℕ
-flat_parts p =
+abbrev flat_parts : EndParts → List ℕ → List ℕ
+flat_parts p r =
     ending_text p.ending ++ (codes " tvr=" ++ (encode_lower (tvr_bytes p.tvr.0) ++ (codes " tsi=" ++ (encode_lower (two_bytes p.tsi.0)
-    ++ (codes " cvm=" ++ (encode_lower p.cvm ++ (codes " arc=" ++ (arc_text p.arc ++ (cryptogram_text p.atc_ac ++ (codes " scripts=" ++ (scripts_text p.scripts.items ++ 10 ∷ [])))))))))))
+    ++ (codes " cvm=" ++ (encode_lower p.cvm ++ (codes " arc=" ++ (arc_text p.arc ++ (cryptogram_text p.atc_ac ++ (codes " scripts=" ++ (scripts_text p.scripts.items ++ 10 ∷ r)))))))))))
 
-flat_of : (p : EndParts) → parts_text p ++ 10 ∷ [] ≡ flat_parts p
+flat_of : (p : EndParts) (r : List ℕ) → parts_text p ++ 10 ∷ r ≡ flat_parts p r
 unfolding parts_text
-flat_of p = simp append_assoc
+flat_of p r = simp append_assoc
 
-pub parts_same : (a b : EndParts) → parts_text a ++ 10 ∷ [] ≡ parts_text b ++ 10 ∷ [] → ArePartsTold a → ArePartsTold b → a ≡ b
-parts_same a b e ta tb =
-    let flat : flat_parts a ≡ flat_parts b = sym (flat_of a) ∙ e ∙ flat_of b in
+pub parts_same : (a b : EndParts) {r s : List ℕ} → parts_text a ++ 10 ∷ r ≡ parts_text b ++ 10 ∷ s → ArePartsTold a → ArePartsTold b → (a ≡ b) × (r ≡ s)
+parts_same a b {r} {s} e ta tb =
+    let flat : flat_parts a r ≡ flat_parts b s = sym (flat_of a r) ∙ e ∙ flat_of b s in
     let one = ending_front a.ending b.ending 32 32 _ _ flat ta.ending tb.ending (omega arith) (omega arith) in
     let verified = five a.tvr.0 b.tvr.0 32 32 _ _ (behind 5 one.1) ta.tvr tb.tvr (omega arith) (omega arith) in
     let three = two a.tsi.0 b.tsi.0 32 32 _ _ (behind 5 verified.1) ta.tsi tb.tsi (omega arith) (omega arith) in
@@ -131,4 +133,4 @@ parts_same a b e ta tb =
     let code = code_front a.arc b.arc (behind 5 four.1) ta.code tb.code in
     let last = last_front a.atc_ac b.atc_ac _ _ code.1 ta.last tb.last in
     let scripts = scripts_same a.scripts.items b.scripts.items (behind 8 last.1) ta.scripts tb.scripts in
-    parts_equal a b one.0 verified.0 three.0 four.0 code.0 last.0 scripts
+    (parts_equal a b one.0 verified.0 three.0 four.0 code.0 last.0 scripts.0, scripts.1)

@@ -1,6 +1,6 @@
--- Lines tell what happened: two different lines have different texts.
+-- Lines tell what happened: two different lines have different texts, and so have two different reports.
 use Rattle.std.specs.Prelude.{◌≡◌, ◌≢◌, ℕ, ◌<◌, ◌^◌, List, length, codes, Option, Some, None, IfSome}
-use Rattle.std.specs.List.{All}
+use Rattle.std.specs.List.{All, flat_map}
 use Rattle.std.specs.Int.Signed.{mag}
 use Rattle.emv_dict.specs.declared.ending.Cause.{Cause}
 use Rattle.emv_dict.specs.declared.ending.Cause.TheVariants as cause
@@ -104,3 +104,7 @@ IsTold (ReadEnded ending) = IsEndingTold ending
 -- two lines of runs that have one text are one line
 abbrev pub LinesDiffer : Type 0
 LinesDiffer = (a b : Line) → IsTold a → IsTold b → line_text a ≡ line_text b → a ≡ b
+
+-- two reports of runs that have one text, which is that of their lines one behind the other, have the same lines
+abbrev pub ReportsDiffer : Type 0
+ReportsDiffer = (a b : List Line) → All IsTold a → All IsTold b → flat_map line_text a ≡ flat_map line_text b → a ≡ b

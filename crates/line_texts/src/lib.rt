@@ -1,7 +1,7 @@
-//! Lines of a report tell what happened: a law over the texts of all lines that runs make.
+//! Reports tell what happened: laws over the texts of all lines that runs make, each by itself and in a row.
 #![tactic(auto)]
 
-ghost use Rattle.line_texts.specs.Told.{LinesDiffer};
+ghost use Rattle.line_texts.specs.Told.{LinesDiffer, ReportsDiffer};
 
 /// Two different lines that runs of accepted scenarios make have different texts. What such lines keep to
 /// is the premise, and no more than the law needs: numbers fit 64 bits (an amount 128), bytes are bytes, a
@@ -12,4 +12,10 @@ ghost use Rattle.line_texts.specs.Told.{LinesDiffer};
 /// of a run keep to it is read off the types and the rules of a scenario, and isn't proved here.
 pub fn lines_differ()
     ensures { LinesDiffer }
+{}
+
+/// And two different reports of such lines have different texts: each text has its lines one behind the other, and
+/// where each of them ends is read from the text alone.
+pub fn reports_differ()
+    ensures { ReportsDiffer }
 {}
