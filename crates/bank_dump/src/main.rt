@@ -1,5 +1,5 @@
-//! A run as `emvrun replay` makes it, and then on standard error what it left: for `scripts/check-refusals`,
-//! which refuses it memory, and `scripts/check-tears`, which reads a card's log. Two lines for each of the bank's
+//! A run as `emvrun replay` makes it, and then on standard error what it left: for `checks/refusals`,
+//! which refuses it memory, and `checks/tears`, which reads a card's log. Two lines for each of the bank's
 //! page objects that isn't as a blank one, as a power-up finds it, the second with the bytes of its home, and a
 //! line for the tally. A page object is told by its place: the cards have the first ones, the lanes' stores the
 //! last ones.

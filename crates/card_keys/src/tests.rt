@@ -4,7 +4,7 @@ use sha1::Sha1;
 use triple_des::Key16;
 
 /// Issuer master keys, account numbers, sequence numbers and master keys. OpenSSL did each SHA-1 and each
-/// DES of those from 99.. on (scripts/make-key-vectors).
+/// DES of those from 99.. on (tools/make-key-vectors).
 const MASTERS: [(u128, &str, u8, u128); 14] = [
     (
         0xa84c_7a63_c467_21a0_7f5d_05fc_d16b_ce50,

@@ -1,4 +1,4 @@
-//! The work that `scripts/bench-des` times. `des_bench des COUNT` enciphers a block of zeros so many
+//! The work that `bench/des` times. `des_bench des COUNT` enciphers a block of zeros so many
 //! times over, `des_bench keys COUNT` does so under the block itself as the key, `des_bench mac COUNT`
 //! takes the code of so many blocks of zeros; each prints the last block.
 #![tactic(auto)]

@@ -1,4 +1,4 @@
-//! The work that `scripts/bench-host` times. `host_bench make ACCOUNTS ROUNDS` makes so many requests for each
+//! The work that `bench/host` times. `host_bench make ACCOUNTS ROUNDS` makes so many requests for each
 //! of so many accounts, at most 1,000, and prints the last one; `host_bench answer ACCOUNTS ROUNDS` lets a host
 //! answer all of them, and prints the last reply.
 #![tactic(auto)]

@@ -1,4 +1,4 @@
-//! A run as `emvrun replay` makes it, over pages whose unsure cells give any bytes: for `scripts/check-tears`.
+//! A run as `emvrun replay` makes it, over pages whose unsure cells give any bytes: for `checks/tears`.
 #![tactic(auto)]
 
 use emv_ports::{StdinSource, StdoutSink};

@@ -1,0 +1,1 @@
+"""What the launchers, the commands of `lab`, the gate's checks and the benchmarks share."""

@@ -1,0 +1,16 @@
+"""The rules of docs/profile.md, docs/formats.md and docs/scenario.md once more, in Python, for checks/model.
+
+Written from the rules and from the standards, and not from the program: it shares no table and no line with it, and has a
+way of its own where there is one. A dialogue is a generator that asks and is sent the replies; a card changes its counters
+as it goes, and keeps them in pages that tear; the issuer looks back over the messages that it kept.
+
+    ciphers    DES, authentication codes, keys, cryptograms, PIN blocks
+    objects    data objects, object lists, commands, the dictionary
+    selection  the terminal up to the card's data
+    terminal   the terminal's whole dialogue
+    memory     pages that tear, and the redo journal on them
+    card       a card's answers
+    issuer     the issuer's replies and balances
+    world      lanes, settlement, audit, and traces
+    document   a TOML document read as a scenario or a trace, or its first fault
+"""
