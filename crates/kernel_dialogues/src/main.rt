@@ -1,13 +1,11 @@
 //! `kernel_dialogues [AGAIN]` plays dialogues of a terminal, a line of standard input each, and says how many
 //! it played and which of them weren't as their line says. Each dialogue is played AGAIN times more in the
-//! same terminal, once where no number is given.
+//! same terminal, once where no number is given. A line that begins with `#` says what those below it are about.
 #![tactic(auto)]
 
 mod deal;
 mod names;
 mod play;
-#[cfg(test)]
-mod tests;
 
 use play::{Room, play};
 use std::{env, io};
@@ -21,6 +19,9 @@ fn main(rt: HostRuntime) -> io::Result<()> {
     let mut played = 0u64;
     for line in rt.lines(rt.alloc()) {
         let line = line?;
+        if line.as_str().starts_with("#") {
+            continue;
+        }
         if let Err(difference) = play(rt.alloc(), line.as_str(), again, &mut room) {
             println!(rt; "{difference:?} in {line}")?;
         }
