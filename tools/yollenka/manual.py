@@ -1,4 +1,4 @@
-"""What `emvrun --help` prints and what the man page docs/emvrun.1 says: one text."""
+"""What `emvrun --help` prints and what the man page docs/use/emvrun.1 says: one text."""
 import re
 import textwrap
 
@@ -56,10 +56,10 @@ SECTIONS = [
         ("5", "There was no memory."),
     ]),
     ("FILES", [
-        ("docs/scenario.md", "Every key of a scenario; docs/scenario.schema.json is the same for editors."),
-        ("docs/trace.md", "The document that `check` reads; docs/trace.schema.json is the same for editors."),
-        ("docs/report.md", "Every line of a report."),
-        ("docs/questions.md", "Four questions, each answered by one command."),
+        ("docs/use/scenario.md", "Every key of a scenario; docs/use/scenario.schema.json is the same for editors."),
+        ("docs/use/trace.md", "The document that `check` reads; docs/use/trace.schema.json is the same for editors."),
+        ("docs/use/report.md", "Every line of a report."),
+        ("docs/use/questions.md", "Four questions, each answered by one command."),
         ("examples/README.md", "The examples by what one wants to see."),
     ]),
     ("EXAMPLES", [

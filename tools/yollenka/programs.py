@@ -10,7 +10,7 @@ from pathlib import Path
 
 ROOT = Path(__file__).resolve().parents[2]
 TOOL = "rt"
-# What a clone needs, as measured on four processors (docs/performance.md has the tables).
+# What a clone needs, as measured on four processors (docs/inside/performance.md has the tables).
 BUILD_TIME = "from nothing one to two and a half hours of one processor, less where several are free; what is proved is kept"
 TRIAL_TIME = "one to two minutes"
 

@@ -1,6 +1,6 @@
 """respell.py SCENARIO REPORT: a report in which the messages of the scenario's lanes are spelled in their dialects.
 
-Written from docs/formats.md, section 8, and docs/report.md, section 7, and not from the program: a message to the issuer
+Written from docs/proof/formats.md, section 8, and docs/use/report.md, section 7, and not from the program: a message to the issuer
 and its reply as one object each ("tlv") and in the style of ISO 8583:1987 ("iso"), each read in one spelling and written
 in the other. REPORT may have each lane's messages in either: the type of the first byte tells them apart.
 """

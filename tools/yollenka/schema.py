@@ -1,9 +1,9 @@
-"""Whether a value keeps a JSON Schema: the words of draft 2020-12 that docs/scenario.schema.json uses, and no other."""
+"""Whether a value keeps a JSON Schema: the words of draft 2020-12 that docs/use/scenario.schema.json uses, and no other."""
 import json
 import re
 from pathlib import Path
 
-SCHEMA = Path(__file__).resolve().parents[2] / "docs" / "scenario.schema.json"
+SCHEMA = Path(__file__).resolve().parents[2] / "docs" / "use" / "scenario.schema.json"
 TYPES = {"object": dict, "array": list, "string": str, "boolean": bool}
 NOTES = {"$schema", "$id", "$defs", "title", "description", "default"}
 

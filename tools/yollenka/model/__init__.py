@@ -1,4 +1,4 @@
-"""The rules of docs/profile.md, docs/formats.md and docs/scenario.md once more, in Python, for checks/model.
+"""The rules of docs/proof/profile.md, docs/proof/formats.md and docs/use/scenario.md once more, in Python, for checks/model.
 
 Written from the rules and from the standards, and not from the program: it shares no table and no line with it, and has a
 way of its own where there is one. A dialogue is a generator that asks and is sent the replies; a card changes its counters

@@ -1,4 +1,4 @@
-"""A card: its state in bytes, its decisions, and its answers (docs/profile.md, docs/formats.md)."""
+"""A card: its state in bytes, its decisions, and its answers (docs/proof/profile.md, docs/proof/formats.md)."""
 from .ciphers import block_of, code_of, counted_key, decipher_two, pin_in, response_one, response_two, session_key
 from .memory import Store
 from .objects import command_in, entries, entry_in, has_digits, only, spelled, total

@@ -1,4 +1,4 @@
-"""A TOML document read as a scenario or a trace, or its first fault, by the order of docs/scenario.md and docs/trace.md.
+"""A TOML document read as a scenario or a trace, or its first fault, by the order of docs/use/scenario.md and docs/use/trace.md.
 
 A rule takes a value and its path, and gives what is kept or raises Refused.
 """

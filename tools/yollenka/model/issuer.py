@@ -1,4 +1,4 @@
-"""The issuer: its replies and balances, each read from the messages that it kept (docs/profile.md, docs/formats.md)."""
+"""The issuer: its replies and balances, each read from the messages that it kept (docs/proof/profile.md, docs/proof/formats.md)."""
 from .ciphers import (
     block_of, code_of, counted_key, encipher_two, master_key, online_pin, response_one, response_two, session_key,
 )
