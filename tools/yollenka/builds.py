@@ -63,9 +63,25 @@ def kept(name):
     return None
 
 
+def is_free(folder):
+    """Whether a folder is there, and nobody works in it."""
+    import fcntl
+    try:
+        number = os.open(folder, os.O_RDONLY)
+    except OSError:
+        return False
+    try:
+        fcntl.flock(number, fcntl.LOCK_SH | fcntl.LOCK_NB)
+        return True
+    except OSError:
+        return False
+    finally:
+        os.close(number)
+
+
 def quicken_behind(name, sources):
-    """Has the quick build made behind this run, where what it is made from is there."""
-    if os.path.isdir(parts_place(name, sources)):
+    """Has the quick build made behind this run, where what it is made from is there and nobody is at it."""
+    if is_free(parts_place(name, sources)):
         import atexit
         WAITING.add(name)
         atexit.register(quicken_waiting)

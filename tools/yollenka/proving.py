@@ -14,8 +14,9 @@ from concurrent.futures import FIRST_COMPLETED, ThreadPoolExecutor, wait
 from pathlib import Path
 
 from yollenka import seals
+from yollenka.builds import is_free
 from yollenka.seals import PARTS, crates_of, libraries
-from yollenka.trials import held, is_held, workroom
+from yollenka.trials import held, workroom
 
 CRATES = Path(seals.ROOT) / "crates"
 PREFIX = "proving-"
@@ -101,7 +102,7 @@ def recover(crate):
     """Takes back what stands in the room of a call that was killed."""
     out = CRATES / crate / "out"
     for room in out.glob(f"{PREFIX}*"):
-        if not is_held(room):
+        if is_free(room):
             move_left(room / "crates" / crate / "out", out)
             shutil.rmtree(room, ignore_errors=True)
 

@@ -18,8 +18,6 @@ from yollenka import builds, seals
 
 SECONDS = 1200
 DIE_WITH_PARENT = 1
-# A library of the trial that looks for bad accesses; the quick build is made without it.
-CHECKING = b"__asan_"
 
 
 def stay_below():
@@ -52,12 +50,6 @@ def compiler():
     return page and Path(page.decode().strip()).parent / "toolchain" / "bin" / "clang"
 
 
-def libraries(parts):
-    """The libraries that the program is linked with, but for the one that checks it."""
-    found = sorted(parts.glob("input-*"))
-    return [path for path in found if CHECKING not in path.read_bytes()]
-
-
 def answer(program):
     """What a program says and ends with, without words."""
     ended = subprocess.run([program], stdin=subprocess.DEVNULL, capture_output=True, timeout=SECONDS, preexec_fn=with_parent)
@@ -69,7 +61,7 @@ def make(parts, work, name):
     clang = compiler()
     code, program = work / "quick.o", work / "quick"
     compiled = clang and ran([clang, "-Os", "-march=x86-64-v2", "-x", "ir", "-c", parts / "module.bc", "-o", code], work)
-    linked = compiled is not None and ran(["cc", "-no-pie", "-o", program, code, *libraries(parts)], work)
+    linked = compiled is not None and ran(["cc", "-no-pie", "-o", program, code, *sorted(parts.glob("input-*"))], work)
     if not clang or linked is None or not program.exists():
         return False
     return answer(program) == answer(builds.trial_place(name))

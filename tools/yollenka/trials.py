@@ -12,6 +12,8 @@ from yollenka import builds, seals
 
 PREFIX = "making-"
 ARCHIVE = b"!<arch>"
+# What the library of a trial has that looks for bad accesses.
+CHECKING = b"__asan_"
 
 
 @contextmanager
@@ -19,25 +21,10 @@ def held(place, waiting=lambda: None):
     """Nobody else who asks has this folder or file meanwhile; where somebody has it, that is told and waited for."""
     number = os.open(place, os.O_RDONLY)
     try:
-        if is_held(place):
+        if not builds.is_free(place):
             waiting()
         fcntl.flock(number, fcntl.LOCK_EX)
         yield number
-    finally:
-        os.close(number)
-
-
-def is_held(folder):
-    """Whether somebody works in the folder."""
-    try:
-        number = os.open(folder, os.O_RDONLY)
-    except OSError:
-        return False
-    try:
-        fcntl.flock(number, fcntl.LOCK_SH | fcntl.LOCK_NB)
-        return False
-    except BlockingIOError:
-        return True
     finally:
         os.close(number)
 
@@ -46,7 +33,7 @@ def is_held(folder):
 def workroom(place, prefix):
     """A folder to work in, which goes with the work; one that a killed worker left goes too."""
     for left in place.glob(f"{prefix}*"):
-        if not is_held(left):
+        if builds.is_free(left):
             shutil.rmtree(left, ignore_errors=True)
     with tempfile.TemporaryDirectory(dir=place, prefix=prefix, ignore_cleanup_errors=True) as name, held(name):
         yield Path(name)
@@ -79,17 +66,17 @@ def keep_files(folder, into, ended):
         time.sleep(0.002)
 
 
-def is_archive(path):
-    """Whether a file is a library for the linker."""
-    with open(path, "rb") as file:
-        return file.read(len(ARCHIVE)) == ARCHIVE
+def is_library(path):
+    """Whether a file is a library that the program calls; the one that checks it is none."""
+    content = path.read_bytes()
+    return content.startswith(ARCHIVE) and CHECKING not in content
 
 
 def keep_parts(kept, name, sources):
     """Keeps what a quick build is made from: the program as the compiler's own code, and the libraries that it calls."""
     parts = Path(builds.parts_place(name, sources))
     for path in kept.glob("input-*"):
-        if not is_archive(path):
+        if not is_library(path):
             path.unlink()
     for old in parts.parent.glob(f"{name}-trial.parts-*"):
         shutil.rmtree(old, ignore_errors=True)
