@@ -1,12 +1,12 @@
-"""What the launchers `emvrun` and `explain` share: standard input that is read twice, warnings, hints on refusals."""
-import os
-import re
-import stat
-import subprocess
-import tempfile
+"""What the launchers `emvrun` and `explain` share: standard input that is read twice, warnings, hints on refusals.
 
-from yollenka.programs import say, silent
-from yollenka.refusals import hint
+A launcher answers at once, so what few runs need is imported where it is needed.
+"""
+import os
+import signal
+import stat
+
+from yollenka.builds import say, silent
 
 # The program reads no more of a document than one byte above its limit.
 LIMIT = 4_194_304
@@ -39,6 +39,7 @@ class Document:
 
 def spooled(number):
     """What comes on this file, up to the program's limit, as a file that can be read again."""
+    import tempfile
     file = tempfile.TemporaryFile()
     left = LIMIT + 1
     while left > 0 and (part := os.read(number, left)):
@@ -50,20 +51,24 @@ def spooled(number):
     return copy
 
 
+def document_on(number):
+    """The document on an open file, or what comes on a pipe."""
+    return Document(number if stat.S_ISREG(os.fstat(number).st_mode) else spooled(number))
+
+
 def standard_input():
     """The document on standard input; None where it can't be read, which is the program's to tell."""
     try:
-        if stat.S_ISREG(os.fstat(0).st_mode):
-            return Document(0)
         if os.isatty(0):
             say("the scenario is read from this terminal up to Ctrl-D; a file goes behind `<`")
-        return Document(spooled(0))
+        return document_on(0)
     except OSError:
         return None
 
 
 def seconds_of(text):
     """How long a trial build takes for this document, roughly."""
+    import re
     schedule = re.search(rb"^schedule\s*=\s*\[([^\]]*)\]", text, re.MULTILINE)
     turns = schedule[1].count(b",") + 1 if schedule else 0
     purchases = len(re.findall(rb"\bamount\s*=", text))
@@ -77,18 +82,36 @@ def warn(seconds, tell):
              "program; `./emvrun --build` makes that one")
 
 
-def run_on(program, words, document):
-    """Runs the program on the document; gives its status, as a shell would."""
-    document.rewind()
+def start(program, words, number, out=1):
+    """Starts the program with these files as its standard input and output; gives its number.
+
+    What Python ignores, as a reader that went, it ignores too: then its write fails, and its status says so.
+    """
+    files = [(os.POSIX_SPAWN_DUP2, number, 0), (os.POSIX_SPAWN_DUP2, out, 1)]
+    return os.posix_spawn(program, [str(program), *words], os.environ, file_actions=files)
+
+
+def status_of(child):
+    """Waits for a program; gives its status, as a shell would. Ctrl-C ends it too."""
     try:
-        status = subprocess.run([program, *words], stdin=document.number, restore_signals=False).returncode
+        status = os.waitstatus_to_exitcode(os.waitpid(child, 0)[1])
     except KeyboardInterrupt:
+        os.kill(child, signal.SIGTERM)
+        os.waitpid(child, 0)
         return 130
     return status if status >= 0 else 128 - status
 
 
+def run_on(program, words, document):
+    """Runs the program on the document; gives its status."""
+    document.rewind()
+    return status_of(start(program, words, document.number))
+
+
 def tell_place(program, words, document, tell):
     """Says where in a refused document the fault stands. It is run again for the line of its refusal."""
+    import subprocess
+    from yollenka.refusals import hint
     document.rewind()
     answer = subprocess.run([program, *words], stdin=document.number, stdout=subprocess.PIPE).stdout
     text = hint(document.bytes(), answer)

@@ -1,0 +1,235 @@
+"""Proves the crates of a program side by side, as many at a time as there are processors and memory, then builds it.
+
+The toolchain keeps a crate, and all crates below it, to one call at a time. So each crate is proved in a room of its own: a
+repository with second names of the files of those crates and of what was made of the lower ones. What the proof leaves goes
+back to the crate, also from the room of a call that was killed, and so the next call goes on where this one ended.
+"""
+import os
+import shutil
+import signal
+import subprocess
+import sys
+import time
+from concurrent.futures import FIRST_COMPLETED, ThreadPoolExecutor, wait
+from pathlib import Path
+
+from yollenka import seals
+from yollenka.builds import is_free
+from yollenka.seals import PARTS, crates_of, libraries
+from yollenka.trials import held, workroom
+
+CRATES = Path(seals.ROOT) / "crates"
+PREFIX = "proving-"
+# What a crate's proof leaves in out/ beside its program.
+LEFT = ("rlib", "incremental")
+# Bytes that a proof takes: at least, and for each line of the crates below and of the crate itself.
+LEAST, BELOW, OWN = 800_000_000, 150_000, 250_000
+# Lines that are proved in a second of one processor, roughly.
+PACE = 12
+# Seconds after which it is looked again whether there is room.
+LOOK = 20
+
+
+def minutes(start):
+    """The time since then, as minutes and seconds."""
+    return "{}:{:02}".format(*divmod(int(time.monotonic() - start), 60))
+
+
+def lines_in(crate):
+    """How many lines of code a crate has."""
+    files = [path for path in (CRATES / crate / "src").glob("**/*.rt")]
+    return sum(path.read_bytes().count(b"\n") for path in files)
+
+
+def free_memory():
+    """The bytes of memory that new work may take."""
+    for line in seals.text_of("/proc/meminfo").splitlines():
+        if line.startswith("MemAvailable:"):
+            return int(line.split()[1]) * 1024
+    return 1 << 62
+
+
+def taken_memory(session):
+    """The bytes that the processes of a session have now."""
+    total = 0
+    for pid in filter(str.isdigit, os.listdir("/proc")):
+        fields = seals.text_of(f"/proc/{pid}/stat").rpartition(")")[2].split()
+        if len(fields) > 21 and int(fields[3]) == session:
+            total += int(fields[21]) * os.sysconf("SC_PAGE_SIZE")
+    return total
+
+
+def copy_tree(old, new, copy):
+    """The files below a folder once more below the new one, where the old one is there."""
+    if old.is_dir():
+        shutil.copytree(old, new, copy_function=copy)
+
+
+class Room:
+    """A repository of a crate and those below it, in which the crate alone is proved."""
+
+    def __init__(self, folder, crate):
+        self.folder, self.crate = folder, crate
+        for one in crates_of(crate):
+            for part in PARTS:
+                copy_tree(CRATES / one / part, self.place(one) / part, shutil.copyfile)
+            if one != crate:
+                copy_tree(CRATES / one / "out" / "rlib", self.place(one) / "out" / "rlib", os.link)
+        listed = libraries()
+        rows = [f"{one}: {' '.join(listed[one])}\n" for one in crates_of(crate)]
+        (folder / "crates.txt").write_text("".join(rows))
+        move_left(CRATES / crate / "out", self.place(crate) / "out")
+
+    def place(self, crate):
+        """Where a crate stands in the room."""
+        return self.folder / "crates" / crate
+
+    def leave(self):
+        """Hands what the proof left back to the crate."""
+        move_left(self.place(self.crate) / "out", CRATES / self.crate / "out")
+
+
+def move_left(old, new):
+    """What an earlier proof left goes from one place to the other."""
+    new.mkdir(parents=True, exist_ok=True)
+    for name in LEFT:
+        if (old / name).exists():
+            shutil.rmtree(new / name, ignore_errors=True)
+            (old / name).replace(new / name)
+
+
+def recover(crate):
+    """Takes back what stands in the room of a call that was killed."""
+    out = CRATES / crate / "out"
+    for room in out.glob(f"{PREFIX}*"):
+        if is_free(room):
+            move_left(room / "crates" / crate / "out", out)
+            shutil.rmtree(room, ignore_errors=True)
+
+
+class Plan:
+    """Which crates are proved, which wait for which, and how long and large each may be."""
+
+    def __init__(self, name):
+        listed = libraries()
+        self.crates = [crate for crate in crates_of(name) if crate != name]
+        self.below = {crate: [one for one in crates_of(crate) if one != crate] for crate in self.crates}
+        self.lines = {crate: lines_in(crate) for crate in self.crates}
+        self.row = {}
+        for crate in reversed(self.crates):
+            above = [self.row[one] for one in self.crates if crate in listed[one]]
+            self.row[crate] = self.lines[crate] + max(above, default=0)
+
+    def memory(self, crate):
+        """The bytes that the proof of a crate takes, roughly."""
+        below = sum(self.lines[one] for one in self.below[crate])
+        return LEAST + BELOW * below + OWN * self.lines[crate]
+
+    def ready(self, todo, done):
+        """The crates that may begin: those with the longest row of waiting crates first."""
+        found = [crate for crate in todo if all(one in done for one in self.below[crate])]
+        return sorted(found, key=lambda crate: -self.row[crate])
+
+
+class Prover:
+    """The proofs that run, and what is left."""
+
+    def __init__(self, builder, plan):
+        self.builder, self.plan = builder, plan
+        self.todo, self.done = list(plan.crates), set()
+        self.running, self.sessions, self.told = {}, {}, []
+        self.start, self.tool = time.monotonic(), builder.tool()
+
+    def has_room(self, crate):
+        """Whether a processor and memory are free for a crate; one crate may always run."""
+        if not self.running:
+            return True
+        if len(self.running) >= len(os.sched_getaffinity(0)):
+            return False
+        still = sum(max(0, self.plan.memory(one) - taken_memory(self.sessions.get(one, -1))) for one in self.running.values())
+        return free_memory() - still >= self.plan.memory(crate)
+
+    def prove(self, crate):
+        """Proves a crate in a room of its own; gives the status and what the toolchain wrote."""
+        out = CRATES / crate / "out"
+        out.mkdir(exist_ok=True)
+        with held(CRATES / crate) as lock:
+            recover(crate)
+            with workroom(out, PREFIX) as folder:
+                room = Room(folder, crate)
+                # It keeps the lock as long as it runs, also where this process is killed.
+                process = subprocess.Popen([self.tool, "lib", "--jobs", "1"], cwd=room.place(crate), text=True, errors="replace",
+                                           stdin=subprocess.DEVNULL, stdout=subprocess.PIPE, stderr=subprocess.STDOUT,
+                                           start_new_session=True, pass_fds=[lock])
+                self.sessions[crate] = process.pid
+                said = process.communicate()[0]
+                room.leave()
+        return process.returncode, said
+
+    def begin(self, pool):
+        """Begins with as many crates as there is room for."""
+        for crate in self.plan.ready(self.todo, self.done):
+            if not self.has_room(crate):
+                break
+            self.todo.remove(crate)
+            self.running[pool.submit(self.prove, crate)] = crate
+        if self.told != list(self.running.values()):
+            self.told = list(self.running.values())
+            self.tell()
+
+    def tell(self):
+        """A line of what runs, what is left, and how long that may take."""
+        left = self.todo + list(self.running.values())
+        longest = max((self.plan.row[crate] for crate in left), default=0)
+        share = sum(self.plan.lines[crate] for crate in left) / max(1, len(self.running))
+        self.builder.tell(f"{minutes(self.start)}: {' '.join(self.running.values())}; {len(self.todo)} wait, "
+                          f"{len(self.done)} done; about {max(longest, share) / PACE / 60:.0f} min left")
+
+    def end(self, future):
+        """Notes a crate that has ended; where its proof failed, all is stopped and the end of what was written is shown."""
+        crate = self.running.pop(future)
+        status, said = future.result()
+        if status != 0:
+            self.stop()
+            self.builder.failed(f"the proof of {crate}", said)
+        self.done.add(crate)
+
+    def stop(self):
+        """Ends the proofs that still run."""
+        for crate in self.running.values():
+            if crate in self.sessions:
+                try:
+                    os.killpg(self.sessions[crate], signal.SIGTERM)
+                except ProcessLookupError:
+                    pass
+
+    def all(self):
+        """Proves all crates."""
+        with ThreadPoolExecutor(len(self.plan.crates)) as pool:
+            try:
+                while self.todo or self.running:
+                    self.begin(pool)
+                    for future in wait(self.running, LOOK, FIRST_COMPLETED)[0]:
+                        self.end(future)
+            except BaseException:
+                self.stop()
+                raise
+
+
+def prove(builder):
+    """Proves the crates below a program, then builds the program; gives the status."""
+    plan = Plan(builder.name)
+    builder.tell(f"{len(plan.crates)} crates are proved, then the program is built, on {len(os.sched_getaffinity(0))} processors; "
+                 "what is proved is kept")
+    signal.signal(signal.SIGTERM, lambda number, _: sys.exit(128 + number))
+    with held(CRATES.parent / "crates.txt", lambda: builder.tell("another --build works here: it is waited for")):
+        prover = Prover(builder, plan)
+        try:
+            prover.all()
+        except KeyboardInterrupt:
+            builder.tell("stopped: what is proved is kept, and the next call goes on from there")
+            return 130
+        builder.tell(f"{minutes(prover.start)}: {builder.name}, the program; 0 wait")
+        builder.build()
+    builder.tell(f"{minutes(prover.start)}: proved and built")
+    return 0
