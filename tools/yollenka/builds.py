@@ -34,6 +34,11 @@ def quick_place(name):
     return os.path.join(place(name), f"{name}-quick")
 
 
+def is_slow(program):
+    """Whether this is a plain trial build, which takes some 300 times as long as the proved program."""
+    return str(program).endswith("-trial")
+
+
 def parts_place(name, sources):
     """The folder with what a quick trial build is made from, while it isn't made."""
     return os.path.join(place(name), f"{name}-trial.parts-{sources[:12]}")

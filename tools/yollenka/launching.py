@@ -6,7 +6,7 @@ import os
 import signal
 import stat
 
-from yollenka.builds import say, silent
+from yollenka.builds import is_slow, say, silent
 
 # The program reads no more of a document than one byte above its limit.
 LIMIT = 4_194_304
@@ -75,9 +75,9 @@ def seconds_of(text):
     return BEGIN + PURCHASE * purchases + BYTE * len(text) + TURN * turns
 
 
-def warn(seconds, tell):
-    """Warns before long work on a trial build."""
-    if seconds > LONG:
+def warn(seconds, tell, program=None):
+    """Warns before long work on a trial build; of a program that is named, only where it is the plain one."""
+    if seconds > LONG and (program is None or is_slow(program)):
         tell(f"this takes about {seconds:.0f} s on a trial build, which is some {SLOWER} times slower than the proved "
              "program; `./emvrun --build` makes that one")
 
@@ -122,7 +122,7 @@ def tell_place(program, words, document, tell):
 def run(program, words, document, is_proved, tell):
     """Runs the program on the document, with a warning before and a hint behind it where there is something to say."""
     if not is_proved and tell is not silent:
-        warn(seconds_of(document.bytes()), tell)
+        warn(seconds_of(document.bytes()), tell, program)
     status = run_on(program, words, document)
     if status == REFUSED and tell is not silent:
         tell_place(program, words, document, tell)

@@ -6,10 +6,12 @@ import tomllib
 from itertools import zip_longest
 from pathlib import Path
 
+from yollenka.faults import Fault
+
 SECONDS = 600
 
 
-class NoDocument(Exception):
+class NoDocument(Fault):
     """A file that is no document, or none that Python reads."""
 
 
@@ -19,7 +21,7 @@ def read_document(path):
         return tomllib.loads(Path(path).read_bytes().decode("utf-8-sig"))
     except OSError as error:
         raise NoDocument(f"{path}: {error.strerror}") from None
-    except ValueError as error:
+    except (ValueError, RecursionError) as error:
         raise NoDocument(f"{path} is no document of TOML 1.0: {error}") from None
 
 

@@ -6,15 +6,18 @@ called, so that a command begins at once.
 """
 import argparse
 import importlib
-import os
-import sys
 
-from yollenka.faults import Fault
+from yollenka.commandline import carried_out, parser_of
 
 # The statuses of every command.
 PASSED, FAILED, WRONG_WORDS, INCONCLUSIVE = 0, 1, 2, 3
 # Each command with the line that `lab --help` has for it.
-COMMANDS = {}
+COMMANDS = {
+    "expect": "compares each scenario of a folder with the report beside it",
+    "sweep": "pulls the card out at every place of one purchase, and tabulates what came of it",
+    "trace": "the trace of one purchase, from its scenario and its report",
+    "tshark": "what Wireshark's dissector reads in messages in the style of ISO 8583",
+}
 
 
 def overview():
@@ -32,8 +35,7 @@ def overview():
 def carry_out(name, words):
     """Reads a command's own words, and carries it out; gives its status."""
     command = importlib.import_module(f"yollenka.lab.{name.replace('-', '_')}")
-    parser = argparse.ArgumentParser(
-        prog=f"lab {name}", formatter_class=argparse.RawDescriptionHelpFormatter, description=command.TEXT)
+    parser = parser_of(f"lab {name}", command.TEXT)
     command.arguments(parser)
     return command.run(parser.parse_args(words))
 
@@ -41,13 +43,4 @@ def carry_out(name, words):
 def main(words):
     """Does what the words say; gives the status."""
     name = overview().parse_args(words[:1]).command
-    try:
-        return carry_out(name, words[1:])
-    except Fault as fault:
-        print(f"lab {name}: {fault}", file=sys.stderr)
-        return WRONG_WORDS
-    except BrokenPipeError:
-        os.dup2(os.open(os.devnull, os.O_WRONLY), 1)
-        return FAILED
-    except KeyboardInterrupt:
-        return 130
+    return carried_out(f"lab {name}", carry_out, name, words[1:])

@@ -1,16 +1,4 @@
-#!/usr/bin/env python3
-"""expect FOLDER [--junit FILE] [-j N] [--shard I/N]: compares each scenario of a folder with the report beside it.
-
-A scenario is NAME.toml in the folder or in one within it; beside it stands NAME.report, or NAME.line where it is refused.
-The output is that of the Test Anything Protocol (TAP 13): a line for each scenario, and for one that differs the first
-differing line, both lines, and the words of `explain` that only one of them has, where that program is built.
-
---junit FILE   writes the results as JUnit XML besides
--j N           runs N scenarios at once
---shard I/N    takes every N-th scenario alone, beginning with the I-th, so that N machines share a folder
-
-The status is 0, or 1 where one differs, 2 for other words.
-"""
+"""`lab expect`: compares each scenario of a folder with the report beside it."""
 import argparse
 import os
 import re
@@ -19,13 +7,24 @@ import sys
 import time
 from concurrent.futures import ThreadPoolExecutor
 from itertools import zip_longest
-from pathlib import Path
 from xml.sax.saxutils import escape, quoteattr
 
-sys.dont_write_bytecode = True
+from yollenka.builds import kept
+from yollenka.commandline import a_folder, a_new_file, positive
+from yollenka.faults import Fault
 from yollenka.launching import seconds_of, warn
-from yollenka.programs import Builder, is_fresh, proved, say, trial
+from yollenka.programs import Builder, say
 from yollenka.scenarios import SECONDS, output, word_for
+
+TEXT = """\
+Compares each scenario of a folder with the report beside it.
+
+A scenario is NAME.toml in the folder or in one within it; beside it stands NAME.report, or NAME.line where it is refused.
+The output is that of the Test Anything Protocol (TAP 13): a line for each scenario, and for one that differs the first
+differing line, both lines, and the words of `explain` that only one of them has, where that program is built.
+
+The status is 0, or 1 where one differs, 2 for other words.
+"""
 
 COUNTERS = ("transaction counter", "last online", "offline approvals", "sum", "PIN tries", "flags", "second sum")
 
@@ -75,10 +74,10 @@ def field_of(old, new):
 
 def explained(report, number):
     """The words below a line of a report, by its number from 0; none where `explain` isn't built."""
-    program = next((path for path in (proved("explain"), trial("explain")) if is_fresh(path, "explain")), None)
-    if program is None or number >= len(report):
+    found = kept("explain")
+    if found is None or number >= len(report):
         return []
-    said = subprocess.run([program], input="\n".join([*report, ""]), capture_output=True, text=True).stdout.splitlines()
+    said = subprocess.run([found[0]], input="\n".join([*report, ""]), capture_output=True, text=True).stdout.splitlines()
     at = 0
     for line in report[:number]:
         at = said.index(line, at) + 1
@@ -142,21 +141,6 @@ def shard(text):
     return int(found[1]), int(found[2])
 
 
-def words_of(arguments):
-    """The words of the command line."""
-    parser = argparse.ArgumentParser(description=__doc__, formatter_class=argparse.RawDescriptionHelpFormatter)
-    parser.add_argument("folder", type=Path)
-    parser.add_argument("--junit", type=Path, metavar="FILE")
-    parser.add_argument("-j", type=int, default=os.cpu_count() or 1, metavar="N")
-    parser.add_argument("--shard", type=shard, default=(1, 1), metavar="I/N")
-    words = parser.parse_args(arguments)
-    if not words.folder.is_dir():
-        parser.error(f"{words.folder} is no folder")
-    if not any(words.folder.rglob("*.toml")):
-        parser.error(f"{words.folder} has no scenario")
-    return words
-
-
 def print_result(number, scenario, wrong):
     """The lines of one scenario."""
     print(f"{'not ok' if wrong else 'ok'} {number} - {scenario}")
@@ -165,27 +149,33 @@ def print_result(number, scenario, wrong):
     sys.stdout.flush()
 
 
-def main(arguments):
+def arguments(parser):
+    """The words of this command."""
+    parser.add_argument("folder", type=a_folder, metavar="FOLDER")
+    parser.add_argument("--junit", type=a_new_file, metavar="FILE", help="writes the results as JUnit XML besides")
+    parser.add_argument("-j", type=positive, default=os.cpu_count() or 1, metavar="N", help="runs N scenarios at once")
+    parser.add_argument("--shard", type=shard, default=(1, 1), metavar="I/N",
+                        help="takes every N-th scenario alone, beginning with the I-th, so that N machines share a folder")
+
+
+def run(options):
     """Runs the scenarios and prints a line for each."""
-    words = words_of(arguments)
-    part, parts = words.shard
-    scenarios = sorted(words.folder.rglob("*.toml"))[part - 1 :: parts]
-    program, is_proved = Builder("emvrun", say).program()
-    if not is_proved:
-        warn(sum(seconds_of(scenario.read_bytes()) for scenario in scenarios) / words.j, say)
+    part, parts = options.shard
+    scenarios = sorted(options.folder.rglob("*.toml"))
+    if not scenarios:
+        raise Fault(f"{options.folder} has no scenario")
+    scenarios = scenarios[part - 1 :: parts]
+    program, _ = Builder("emvrun", say).program()
+    warn(sum(seconds_of(scenario.read_bytes()) for scenario in scenarios) / options.j, say, program)
     print(f"TAP version 13\n1..{len(scenarios)}")
     results = []
-    with ThreadPoolExecutor(words.j) as pool:
+    with ThreadPoolExecutor(options.j) as pool:
         looks = pool.map(lambda scenario: look_at(program, scenario), scenarios)
         for number, (scenario, (wrong, seconds)) in enumerate(zip(scenarios, looks), 1):
             print_result(number, scenario, wrong)
             results.append((scenario, wrong, seconds))
     failed = sum(bool(wrong) for _, wrong, _ in results)
     print(f"# {len(results) - failed} as expected, {failed} not")
-    if words.junit:
-        words.junit.write_text("\n".join(junit(words.folder, results)) + "\n")
+    if options.junit:
+        options.junit.write_text("\n".join(junit(options.folder, results)) + "\n")
     return 1 if failed else 0
-
-
-if __name__ == "__main__":
-    sys.exit(main(sys.argv[1:]))

@@ -1,7 +1,20 @@
-#!/usr/bin/env python3
-"""sweep SCENARIO LANE PURCHASE [--csv] [-j N]: pulls the card out at every place of one purchase, and tabulates what came of it.
+"""`lab sweep`: pulls the card out at every place of one purchase."""
+import csv
+import os
+import sys
+import time
+from concurrent.futures import ThreadPoolExecutor
 
-LANE counts from 0, PURCHASE from 1, as in a report. The scenario is run once without the purchase's own tears, then with
+from yollenka.commandline import a_file, counted, positive
+from yollenka.faults import Fault
+from yollenka.launching import seconds_of, warn
+from yollenka.programs import Builder, say
+from yollenka.scenarios import document, output, purchase_lines, read_document
+
+TEXT = """\
+Pulls the card out at every place of one purchase, and tabulates what came of it.
+
+The scenario is run once without the purchase's own tears, then with
 a tear for commit 0, 1, 2 .. at the release, and before and within the writes 1 to 40, until a commit above 0 isn't
 reached; in a lane that keeps its captures durably then likewise with tears of its terminal. Places of one commit with
 equal results are one row:
@@ -16,21 +29,8 @@ settlement   the lane's presentments and reversals
 balances     of all accounts, in their order
 rest         equal letters for equal lines behind the purchase's end: it shows what no counter shows
 
---csv prints the same columns with commas. -j runs N at once. The status is 1 where the program refuses the scenario.
+The status is 1 where the program refuses the scenario.
 """
-import argparse
-import csv
-import os
-import sys
-import time
-from concurrent.futures import ThreadPoolExecutor
-from pathlib import Path
-
-sys.dont_write_bytecode = True
-from yollenka.launching import seconds_of, warn
-from yollenka.programs import Builder, say
-from yollenka.scenarios import NoDocument, document, output, purchase_lines, read_document
-
 COLUMNS = ("whose", "commit", "command", "pulled out", "ends", "next power-up", "settlement", "balances", "rest")
 COMMANDS = {
     "00a4": "SELECT", "80a8": "GET PROCESSING OPTIONS", "00b2": "READ RECORD", "0020": "VERIFY", "80ca": "GET DATA",
@@ -187,61 +187,49 @@ def print_table(rows):
         print("  ".join(text.ljust(width) for text, width in zip(row, widths)).rstrip())
 
 
-def words_of(arguments):
-    """The words of the command line."""
-    parser = argparse.ArgumentParser(description=__doc__, formatter_class=argparse.RawDescriptionHelpFormatter)
-    parser.add_argument("scenario", type=Path)
-    parser.add_argument("lane", type=int)
-    parser.add_argument("purchase", type=int)
-    parser.add_argument("--csv", action="store_true")
-    parser.add_argument("-j", type=int, default=os.cpu_count() or 1, metavar="N")
-    words = parser.parse_args(arguments)
-    if not words.scenario.is_file():
-        parser.error(f"{words.scenario} is no file")
-    return parser, words
+def arguments(parser):
+    """The words of this command."""
+    parser.add_argument("scenario", type=a_file, metavar="SCENARIO")
+    parser.add_argument("lane", type=counted, metavar="LANE", help="from 0, as in a report")
+    parser.add_argument("purchase", type=positive, metavar="PURCHASE", help="from 1, as in a report")
+    parser.add_argument("--csv", action="store_true", help="prints the same columns with commas")
+    parser.add_argument("-j", type=positive, default=os.cpu_count() or 1, metavar="N", help="runs N at once")
 
 
-def sweep_of(words, parser):
-    """The sweep that the words ask for; ends where the program refuses the scenario, or it has no such purchase."""
-    text = words.scenario.read_bytes()
-    program, is_proved = Builder("emvrun", say).program()
-    if not is_proved:
-        # Some six decisions, each with its places; those of a terminal's store are fewer.
-        warn(6 * len(PLACES) * seconds_of(text) / words.j, say)
+def sweep_of(options):
+    """The sweep that the words ask for; stops where the program refuses the scenario, or it has no such purchase."""
+    text = options.scenario.read_bytes()
+    program, _ = Builder("emvrun", say).program()
+    # Some six decisions, each with its places; those of a terminal's store are fewer.
+    warn(6 * len(PLACES) * seconds_of(text) / options.j, say, program)
     answer, status = output(program, "replay", text)
     if status != 0:
         raise Refused(answer.strip())
-    scenario = read_document(words.scenario)
+    scenario = read_document(options.scenario)
     lanes = scenario["lane"]
-    if not 0 <= words.lane < len(lanes) or not 1 <= words.purchase <= len(lanes[words.lane]["purchase"]):
-        parser.error("the scenario has no such purchase: lanes count from 0, purchases from 1")
-    return Sweep(program, scenario, words.lane, words.purchase)
+    if options.lane >= len(lanes) or options.purchase > len(lanes[options.lane]["purchase"]):
+        raise Fault(f"{options.scenario} has no purchase {options.purchase} of lane {options.lane}: "
+                    "lanes count from 0, purchases from 1")
+    return Sweep(program, scenario, options.lane, options.purchase)
 
 
-def main(arguments):
+def run(options):
     """Makes the runs and prints the table."""
-    parser, words = words_of(arguments)
     start = time.monotonic()
     try:
-        sweep = sweep_of(words, parser)
-        with ThreadPoolExecutor(words.j) as pool:
+        sweep = sweep_of(options)
+        with ThreadPoolExecutor(options.j) as pool:
             rows = sweep.rows(pool)
     except Refused as refused:
         print(refused)
         return 1
-    except NoDocument as fault:
-        parser.error(fault)
     finally:
         show("\r\033[K")
-    if words.csv:
+    if options.csv:
         csv.writer(sys.stdout, lineterminator="\n").writerows([COLUMNS, *rows])
         return 0
     card = sweep.purchase["card"]
-    print(f"{words.scenario.name}, lane {words.lane}, purchase {words.purchase}: card {card}, {sweep.runs} runs, "
+    print(f"{options.scenario.name}, lane {options.lane}, purchase {options.purchase}: card {card}, {sweep.runs} runs, "
           f"{time.monotonic() - start:.1f} s")
     print_table(rows)
     return 0
-
-
-if __name__ == "__main__":
-    sys.exit(main(sys.argv[1:]))

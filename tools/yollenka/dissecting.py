@@ -1,0 +1,101 @@
+"""Messages in the style of ISO 8583 as a capture of TCP segments, and what Wireshark's dissector reads in it.
+
+Field 55 has a length of four digits here and of three in the dissector's table, so the first of them, which has to be 0, is
+left out; messages of fewer bytes than the dissector takes are no part of a capture.
+"""
+import shutil
+import struct
+import subprocess
+import tempfile
+from pathlib import Path
+from xml.etree import ElementTree
+
+from yollenka.faults import Fault
+
+# The lengths of the fields that have a fixed one.
+LENGTHS = {3: 6, 4: 12, 11: 6, 37: 12, 39: 2, 41: 8, 49: 3, 52: 8}
+PORT = 8583
+# The dissector takes no message of fewer bytes, its length in front included.
+LEAST = 25
+OPTIONS = [
+    "-d", f"tcp.port=={PORT},iso8583",
+    "-o", "iso8583.len_endian:Little endian",
+    "-o", "iso8583.charset:Digits represented as ASCII Characters",
+    "-o", "iso8583.binencode:Bin data not encoded",
+    "-o", "tcp.desegment_tcp_streams:FALSE",
+]
+MISSING = "tshark isn't installed (Debian: apt-get install tshark)"
+
+
+def segment(number, message):
+    """An IPv4 packet with one TCP segment to the port: the length in two bytes, low byte first, then the message."""
+    data = struct.pack("<H", len(message)) + message
+    tcp = struct.pack(">HHIIBBHHH", 40000 + number % 20000, PORT, 1, 1, 0x50, 0x18, 8192, 0, 0)
+    total = 20 + len(tcp) + len(data)
+    ip = struct.pack(">BBHHHBBHII", 0x45, 0, total, number & 0xFFFF, 0, 64, 6, 0, 0x7F000001, 0x7F000002)
+    return ip + tcp + data
+
+
+def capture(messages):
+    """A capture of raw IPv4 packets, one a message, as a file of libpcap."""
+    parts = [struct.pack("<IHHiIII", 0xA1B2C3D4, 2, 4, 0, 0, 65535, 228)]
+    for number, message in enumerate(messages):
+        packet = segment(number, message)
+        parts.append(struct.pack("<IIII", number, 0, len(packet), len(packet)) + packet)
+    return b"".join(parts)
+
+
+def fields_of(packet):
+    """What the dissector read of a packet: the type, the bitmap, and the bytes of the fields that it found."""
+    found = {field.get("name"): field for field in packet.iter("field")}
+    fields = {n: bytes.fromhex(found[f"iso8583.bit{n}"].get("value")) for n in range(2, 65) if f"iso8583.bit{n}" in found}
+    kind, bits = (found[name].get("show") if name in found else "" for name in ("iso8583.mti", "iso8583.map1"))
+    return kind, bits, fields
+
+
+def dissected(messages):
+    """For each message what the dissector reads."""
+    if shutil.which("tshark") is None:
+        raise Fault(MISSING)
+    with tempfile.TemporaryDirectory() as folder:
+        path = Path(folder) / "messages.pcap"
+        path.write_bytes(capture(messages))
+        run = subprocess.run(["tshark", "-r", str(path), *OPTIONS, "-T", "pdml"], capture_output=True)
+    if run.returncode != 0:
+        raise Fault(f"tshark: {run.stderr.decode(errors='replace').strip()}")
+    return [fields_of(packet) for packet in ElementTree.fromstring(run.stdout).iter("packet")]
+
+
+def objects(data):
+    """The data objects of field 55, by tag: tags of one or two bytes."""
+    found, place = {}, 0
+    while place < len(data):
+        size = 2 if data[place] & 0x1F == 0x1F else 1
+        tag, length = data[place:place + size].hex(), data[place + size]
+        if length == 0x81:
+            length, size = data[place + size + 1], size + 1
+        elif length == 0x82:
+            length, size = int.from_bytes(data[place + size + 1:place + size + 3], "big"), size + 2
+        found[tag] = data[place + size + 1:place + size + 1 + length]
+        place += size + 1 + length
+    return found
+
+
+def named(message):
+    """The fields that the bitmap names."""
+    bits = int.from_bytes(message[4:12], "big")
+    return [n for n in range(1, 65) if bits >> (64 - n) & 1]
+
+
+def split_55(message):
+    """What stands before field 55, and what it holds; None where it doesn't end the message, or is too long for the dissector."""
+    place = 12
+    for number in named(message)[:-1]:
+        place += LENGTHS[number] if number != 2 else 2 + int(message[place:place + 2])
+    held = message[place + 4:]
+    return (message[:place], held) if len(held) == int(message[place:place + 4]) and len(held) < 1000 else None
+
+
+def as_dissected(front, held):
+    """A message as the dissector's table has it."""
+    return front + b"%03d" % len(held) + held
