@@ -8,6 +8,3 @@ pub mod status;
 
 pub use command::{ApduFault, Command, Out, read_command, write_command, write_record_command};
 pub use response::{Answer, Response, read_response, write_response};
-
-#[cfg(test)]
-mod tests;

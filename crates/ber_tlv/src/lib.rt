@@ -17,6 +17,3 @@ pub use item::{Item, TlvFault, place_or_zero, read_tag};
 pub use tag::{Tag, is_constructed, is_readable};
 pub use walk::deep_fault;
 pub use write::{Full, tag_bytes, write_item, written_length};
-
-#[cfg(test)]
-mod tests;

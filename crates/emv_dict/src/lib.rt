@@ -33,6 +33,3 @@ pub use purchase::{AidRow, Logged, Purchase, Settings};
 pub use tsi::Tsi;
 pub use tvr::Tvr;
 pub use verified::Verified;
-
-#[cfg(test)]
-mod tests;

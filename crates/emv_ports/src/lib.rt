@@ -28,6 +28,3 @@ pub use source::{Failed, Source};
 pub use standard::{StdinSource, StdoutSink};
 pub use tear::{Cut, Tear, TearAt};
 pub use transfer::{ReadFault, read_up_to, write_all};
-
-#[cfg(test)]
-mod tests;

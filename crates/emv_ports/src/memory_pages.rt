@@ -448,6 +448,3 @@ impl Pages for MemoryPages {
         }
     }
 }
-
-#[cfg(test)]
-mod tests;

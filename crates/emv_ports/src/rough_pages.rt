@@ -111,6 +111,3 @@ impl Pages for RoughPages {
         self.pages.release()
     }
 }
-
-#[cfg(test)]
-mod tests;

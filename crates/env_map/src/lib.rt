@@ -8,6 +8,3 @@ mod place;
 
 pub use env::{Env, EnvFault};
 pub use gathering::{GatherFault, gather};
-
-#[cfg(test)]
-mod tests;

@@ -10,6 +10,3 @@ pub use card_data::CardData;
 pub use checked::objects_fault;
 pub use dol::{Dol, DolFault, place, read_dol, total};
 pub use filling::{fill, fill_without_card};
-
-#[cfg(test)]
-mod tests;
