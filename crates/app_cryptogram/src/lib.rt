@@ -9,6 +9,3 @@ mod joining;
 
 pub use cryptograms::{ac, arpc_one, arpc_two, script_mac};
 pub use fields::AcFields;
-
-#[cfg(test)]
-mod tests;

@@ -13,6 +13,3 @@ pub use decimal::decimalise;
 pub use emv_dict::{PanFault, pan_digits};
 pub use master::master_key;
 pub use session::{session_ac, session_script};
-
-#[cfg(test)]
-mod tests;

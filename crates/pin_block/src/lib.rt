@@ -8,6 +8,3 @@ pub mod plain;
 
 pub use online::{online_block, read_online};
 pub use plain::{plain_block, read_plain};
-
-#[cfg(test)]
-mod tests;

@@ -14,6 +14,3 @@ pub use chaining::{mac, mac_joined, xor_blocks};
 pub use double::Key16;
 pub use rounds::merged;
 pub use single::Des;
-
-#[cfg(test)]
-mod tests;

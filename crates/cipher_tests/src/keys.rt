@@ -1,4 +1,5 @@
-use super::*;
+//! Master keys, session keys and the hashes behind them.
+use card_keys::{decimalise, master_key, session_ac, session_script};
 use emv_dict::Digits;
 use sha1::Sha1;
 use triple_des::Key16;
@@ -183,20 +184,19 @@ const HASHES: [([u8; 20], u64); 4] = [
 #[test]
 fn hashes_are_made_decimal(rt: HostRuntime) {
     for (hash, wanted) in HASHES {
-        assert_eq!(rt; decimalise(hash), wanted.to_be_bytes());
+        assert_eq!(rt; decimalise(hash), wanted.to_be_bytes(), "{wanted:x}");
     }
 }
 
 /// The messages of one and of two blocks whose hashes FIPS 180-4 gives.
 #[test]
 fn hashes_are_those_of_the_standard(rt: HostRuntime) {
-    assert_eq!(rt; Sha1::digest(b"abc"), HASHES[0].0);
     let long = b"abcdbcdecdefdefgefghfghighijhijkijkljklmklmnlmnomnopnopq";
     let hash = [
         0x84, 0x98, 0x3e, 0x44, 0x1c, 0x3b, 0xd2, 0x6e, 0xba, 0xae, 0x4a, 0xa1, 0xf9, 0x51, 0x29,
         0xe5, 0xe5, 0x46, 0x70, 0xf1,
     ];
-    assert_eq!(rt; Sha1::digest(long), hash);
+    assert!(rt; Sha1::digest(b"abc") == HASHES[0].0 && Sha1::digest(long) == hash);
 }
 
 #[test]
