@@ -108,6 +108,3 @@ fn joined(first: [u8; 5], second: [u8; 5]) -> [u8; 5]
     let [f, g, h, i, j] = second;
     [a | f, b | g, c | h, d | i, e | j]
 }
-
-#[cfg(test)]
-mod tests;

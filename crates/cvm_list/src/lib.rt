@@ -11,6 +11,3 @@ pub mod verifying;
 pub use emv_dict::Verified;
 pub use laws::{bits_are_own, entries_are_used_once, rules_behind_are_idle};
 pub use verifying::{VerifyNext, Verifying};
-
-#[cfg(test)]
-mod tests;

@@ -99,6 +99,3 @@ fn day_in(card: &CardData, tag: Tag) -> Option<Date>
         _ => None,
     }
 }
-
-#[cfg(test)]
-mod tests;

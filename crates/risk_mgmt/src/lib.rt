@@ -11,6 +11,3 @@ pub use emv_dict::Judged;
 pub use judging::{JudgeNext, Judging};
 pub use laws::bits_are_own;
 pub use selection::is_selected;
-
-#[cfg(test)]
-mod tests;

@@ -1,30 +1,17 @@
+//! Cardholder verification by rows: rules and PIN entries.
 ghost use Rattle.std.specs.Prelude.{IfOk};
 ghost use Rattle.std.specs.List.{All};
 ghost use Rattle.emv_dict.specs.Digits.{HasPinLength};
 
-mod card;
-
-use super::*;
+use crate::fixture::{self, card_with, settings};
 use apdu_core::Out;
 use arrayvec::ArrayVec;
-use card::card_with;
-use emv_dict::{Cause, Digits, Purchase, Settings, Verified};
+use cvm_list::{VerifyNext, Verifying};
+use emv_dict::{Cause, Digits, Purchase, Verified};
 use object_lists::CardData;
+use std::alloc::AllocGlobal;
 use std::process::Abort;
 use std::test::Fail;
-
-fn settings(rt: &(impl AllocGlobal + Abort), kind: u8, caps: u8) -> Settings {
-    Settings {
-        kind,
-        country: [0x08, 0x40],
-        caps: [0xe0, caps, 0xc8],
-        id: *b"TERM0001",
-        pin_key: [0; 16],
-        exceptions: Vec::new(rt.alloc()),
-        aids: Vec::new(rt.alloc()),
-        pse: false,
-    }
-}
 
 /// A purchase of 2500 with these PIN entries.
 fn purchase(
@@ -40,20 +27,11 @@ fn purchase(
         let pin = Digits::new(entry).ok_or("digits")?;
         pins.push(pin)?;
     }
-    Ok(Purchase {
-        amount: 2500,
-        other: 0,
-        currency,
-        trade,
-        services: false,
-        date: [0x24, 0x06, 0x15],
-        time: [0x12, 0x00, 0x00],
-        number: [1, 2, 3, 4],
-        word: 49,
-        pins,
-        forced: false,
-        confirm: false,
-    })
+    let mut purchase = fixture::purchase(rt);
+    purchase.trade = trade;
+    purchase.currency = currency;
+    purchase.pins = pins;
+    Ok(purchase)
 }
 
 /// A card that asks for verification, with amounts in dollars and these rules behind X and Y.
@@ -129,13 +107,8 @@ fn rules_are_tried_in_order(rt: HostRuntime) -> Result<(), Fail> {
     for (kind, caps, trade, x, y, rules, wanted) in RULES {
         let purchase = purchase(&rt, trade, [0x08, 0x40], &[])?;
         let card = ruled_card(&rt, x, y, rules);
-        match Verifying::begin(&card, &settings(&rt, kind, caps), &purchase) {
-            VerifyNext::Done(verified) => {
-                assert_eq!(rt; found(&verified), wanted, "{kind} {caps} {trade} {rules:?}");
-                assert!(rt; verified.performed);
-            }
-            _ => assert!(rt; false, "{kind} {caps} {trade} {rules:?}"),
-        }
+        let next = Verifying::begin(&card, &settings(&rt, kind, caps), &purchase);
+        assert!(rt; performs(&next, wanted), "{kind} {caps} {trade} {rules:?}");
     }
     Ok(())
 }
@@ -145,6 +118,14 @@ fn found(verified: &Verified) -> u32 {
     let [first, second, third] = verified.results;
     let [_, _, byte, _, _] = verified.tvr.bytes();
     u32::from_be_bytes([first, second, third, byte])
+}
+
+/// Whether verification is performed with these results.
+fn performs(next: &VerifyNext<'_>, wanted: u32) -> bool {
+    match next {
+        VerifyNext::Done(verified) => verified.performed && found(verified) == wanted,
+        _ => false,
+    }
 }
 
 /// Rules, PIN entries, the status words of VERIFY, and the results with the third byte of the
@@ -186,12 +167,7 @@ fn entries_are_verified_by_the_card(rt: HostRuntime) -> Result<(), Fail> {
         for (entry, status) in entries.iter().zip(statuses) {
             next = answered(&rt, next, *entry, &status.to_be_bytes());
         }
-        match next {
-            VerifyNext::Done(verified) => {
-                assert_eq!(rt; found(&verified), wanted, "{rules:?} {statuses:?}")
-            }
-            _ => assert!(rt; false, "{rules:?} {statuses:?}"),
-        }
+        assert!(rt; performs(&next, wanted), "{rules:?} {statuses:?}");
     }
     Ok(())
 }
@@ -225,41 +201,87 @@ fn answered<'s>(
         0xff,
         0xff,
     ];
-    assert_eq!(rt; out.as_slice(), wanted.as_slice());
+    assert!(rt; out.as_slice() == wanted.as_slice());
     verifying.take(reply)
+}
+
+/// X, the rules, the purchase's currency and its PIN entries; then the results, the verification results, whether
+/// verification is performed and the PIN that goes to the issuer, none where there is none. The terminal's second
+/// byte of capabilities has all methods.
+type OnlineRow = (
+    u16,
+    &'static [u8],
+    [u8; 2],
+    &'static [[u8; 4]],
+    ([u8; 3], [u8; 5], bool),
+    &'static [u8],
+);
+
+const ONLINE: [OnlineRow; 3] = [
+    (
+        0,
+        &[0x02, 0x00],
+        [0x08, 0x40],
+        ONE,
+        ([0x02, 0x00, 0x00], [0, 0, 0x04, 0, 0], true),
+        &[1, 2, 3, 4],
+    ),
+    (
+        2501,
+        &[0x1f, 0x06],
+        [0x09, 0x78],
+        &[],
+        ([0x3f, 0x00, 0x01], [0, 0, 0x80, 0, 0], true),
+        &[],
+    ),
+    (
+        0,
+        &[],
+        [0x08, 0x40],
+        ONE,
+        ([0x3f, 0x00, 0x00], [0x20, 0, 0, 0, 0], false),
+        &[],
+    ),
+];
+
+/// Whether verification comes to this, with this PIN for the issuer.
+fn comes_to(next: &VerifyNext<'_>, wanted: ([u8; 3], [u8; 5], bool), digits: &[u8]) -> bool {
+    let VerifyNext::Done(verified) = next else {
+        return false;
+    };
+    let has_pin = match &verified.online_pin {
+        Some(pin) => pin.as_slice() == digits,
+        None => digits.is_empty(),
+    };
+    has_pin && (verified.results, verified.tvr.bytes(), verified.performed) == wanted
 }
 
 #[test]
 fn verification_is_passed_over_or_goes_online(rt: HostRuntime) -> Result<(), Fail> {
-    let abroad = purchase(&rt, 0x00, [0x09, 0x78], &[])?;
-    let purchase = purchase(&rt, 0x00, [0x08, 0x40], &[[1, 2, 3, 4]])?;
-    let online = settings(&rt, 22, 0xf8);
-    match Verifying::begin(&ruled_card(&rt, 0, 0, &[0x02, 0x00]), &online, &purchase) {
-        VerifyNext::Done(verified) => {
-            assert_eq!(rt; verified.results, [0x02, 0x00, 0x00]);
-            assert_eq!(rt; verified.tvr.bytes(), [0, 0, 0x04, 0, 0]);
-            assert_eq!(rt; verified.online_pin, Digits::new(&[1, 2, 3, 4]));
-        }
-        _ => assert!(rt; false),
+    let settings = settings(&rt, 22, 0xf8);
+    for (x, rules, currency, entries, wanted, pin) in ONLINE {
+        let purchase = purchase(&rt, 0x00, currency, entries)?;
+        let next = Verifying::begin(&ruled_card(&rt, x, 0, rules), &settings, &purchase);
+        assert!(rt; comes_to(&next, wanted, pin), "{rules:?} {currency:?}");
     }
-    match Verifying::begin(&ruled_card(&rt, 2501, 0, &[0x1f, 0x06]), &online, &abroad) {
-        VerifyNext::Done(verified) => assert_eq!(rt; found(&verified), 0x3f000180),
-        _ => assert!(rt; false),
-    }
-    match Verifying::begin(&ruled_card(&rt, 0, 0, &[]), &online, &purchase) {
-        VerifyNext::Done(verified) => {
-            assert_eq!(rt; verified.results, [0x3f, 0x00, 0x00]);
-            assert_eq!(rt; verified.tvr.bytes(), [0x20, 0, 0, 0, 0]);
-            assert!(rt; !verified.performed);
-        }
-        _ => assert!(rt; false),
-    }
-    match Verifying::begin(&ruled_card(&rt, 0, 0, &[0x01, 0x00]), &online, &purchase) {
-        VerifyNext::Ask(verifying) => match verifying.take(&[0x90]) {
-            VerifyNext::Ended(cause) => assert_eq!(rt; cause, Cause::Answer),
-            _ => assert!(rt; false),
-        },
-        _ => assert!(rt; false),
-    }
+    Ok(())
+}
+
+#[test]
+fn bytes_that_are_no_answer_end_it(rt: HostRuntime) -> Result<(), Fail> {
+    let settings = settings(&rt, 22, 0xf8);
+    let purchase = purchase(&rt, 0x00, [0x08, 0x40], ONE)?;
+    let ended = match Verifying::begin(
+        &ruled_card(&rt, 0, 0, &[0x01, 0x00]),
+        &settings,
+        &purchase,
+    ) {
+        VerifyNext::Ask(verifying) => matches!(
+            verifying.take(&[0x90]),
+            VerifyNext::Ended(Cause::Answer)
+        ),
+        _ => false,
+    };
+    assert!(rt; ended);
     Ok(())
 }
