@@ -18,6 +18,3 @@ pub use naming::{Found, MOST_NAMES, is_longer, is_supported};
 pub use search::{Choice, Search, SearchNext};
 pub use select::{FIRST_OCCURRENCE, write_select};
 pub use selecting::{SelectNext, Selected, Selecting, steps_give_chosen};
-
-#[cfg(test)]
-mod tests;

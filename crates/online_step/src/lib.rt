@@ -18,6 +18,3 @@ pub use emv_dict::Ac;
 pub use generate::{fill_list, write_generate};
 pub use laws::answers_are_read_back;
 pub use online::request;
-
-#[cfg(test)]
-mod tests;

@@ -10,6 +10,3 @@ mod record;
 
 pub use laws::{first_names_are_kept, steps_give_chosen};
 pub use listing::{DirectoryNext, ListNext, Listing};
-
-#[cfg(test)]
-mod tests;

@@ -11,6 +11,3 @@ pub mod record;
 pub use initiating::{InitiateNext, Initiating, OptionsNext};
 pub use object_lists::CardData;
 pub use reading::{Course, CourseNext, CourseStep, ReadNext, Reading};
-
-#[cfg(test)]
-mod tests;

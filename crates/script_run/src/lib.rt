@@ -8,6 +8,3 @@ mod template;
 
 pub use laws::{commands_are_asked_in_turn, scripts_are_read_back};
 pub use running::{RunNext, Running};
-
-#[cfg(test)]
-mod tests;

@@ -1,12 +1,11 @@
-//! Dialogues with cards, many of which answer as they should not.
-ghost use Rattle.std.specs.Prelude.{◌≡◌, ◌≤◌};
-
-use crate::{InitiateNext, Initiating, ReadNext, Reading};
+//! Initiation and reading with cards, many of which answer as they should not.
+use crate::hexadecimal::{bytes, number};
 use apdu_core::Out;
 use arrayvec::ArrayVec;
 use ber_tlv::Tag;
 use emv_dict::Cause;
 use env_map::Env;
+use read_records::{InitiateNext, Initiating, ReadNext, Reading};
 use std::process::Abort;
 
 /// How a dialogue ends.
@@ -128,44 +127,13 @@ const LISTS: [(&str, &str); 6] = [
     ("9f33039f1a029f3501", "80a80000088306e0b8c808402200"),
 ];
 
-fn digit(letter: u8) -> u8
-    ensures { result ≤ 15 }
-{
-    match letter {
-        b'0'..=b'9' => letter - b'0',
-        b'a'..=b'f' => letter - b'a' + 10,
-        _ => 0,
-    }
-}
-
-fn bytes(text: &str) -> ArrayVec<u8, 261> {
-    let letters = text.as_bytes();
-    let mut bytes = ArrayVec::new();
-    for place in 0..letters.len() / 2 {
-        let byte = digit(letters[2 * place]) * 16 + digit(letters[2 * place + 1]);
-        let _ = bytes.try_push(byte);
-    }
-    bytes
-}
-
 fn answer(word: &str) -> ArrayVec<u8, 261> {
-    match word {
-        "first" => bytes(FIRST),
-        "second" => bytes(SECOND),
-        "third" => bytes(THIRD),
-        _ => bytes(word),
-    }
-}
-
-/// The number that hexadecimal digits write.
-fn number(text: &str) -> u32 {
-    let mut number = 0u32;
-    for letter in text.as_bytes() {
-        number = number
-            .wrapping_mul(16)
-            .wrapping_add(u32::from(digit(*letter)));
-    }
-    number
+    bytes(match word {
+        "first" => FIRST,
+        "second" => SECOND,
+        "third" => THIRD,
+        _ => word,
+    })
 }
 
 fn cause(words: &str) -> Cause {
@@ -210,7 +178,7 @@ fn end_of(rt: &impl Abort, exchanges: &str) -> End {
             },
             Some(current) => {
                 current.ask(&mut out);
-                assert_eq!(rt; out.as_slice(), bytes(command).as_slice(), "{exchanges}");
+                assert!(rt; out.as_slice() == bytes(command).as_slice(), "{exchanges}");
                 match current.take(&reply) {
                     ReadNext::Ask(next) => reading = Some(next),
                     ReadNext::Done(_) => return End::Done,
@@ -228,7 +196,7 @@ fn begun(rt: &impl Abort, command: &str, reply: &[u8]) -> InitiateNext {
     };
     let mut out = Out::new();
     initiating.ask(&mut out);
-    assert_eq!(rt; out.as_slice(), bytes(command).as_slice());
+    assert!(rt; out.as_slice() == bytes(command).as_slice(), "{command}");
     initiating.take(reply)
 }
 
@@ -236,8 +204,19 @@ fn begun(rt: &impl Abort, command: &str, reply: &[u8]) -> InitiateNext {
 fn dialogues_end(rt: HostRuntime) {
     for row in DIALOGUES.lines() {
         let (exchanges, words) = row.split_once(" = ").unwrap_or((row, ""));
-        assert_eq!(rt; end_of(&rt, exchanges), end_in(words), "{row}");
+        assert!(rt; end_of(&rt, exchanges) == end_in(words), "{row}");
     }
+}
+
+/// The command that a list is sent with; none where it can't be sent.
+fn command_with(list: &str, terminal: &Env) -> Option<Out> {
+    let mut out = Out::new();
+    match Initiating::begin(Some(bytes(list).as_slice()), terminal) {
+        Ok(initiating) => initiating.ask(&mut out),
+        Err(cause) if cause == Cause::Dol(Tag(0x9f38)) => (),
+        Err(_) => return None,
+    }
+    Some(out)
 }
 
 #[test]
@@ -247,11 +226,10 @@ fn lists_are_filled(rt: HostRuntime) {
         assert!(rt; terminal.put(Tag(tag), &bytes(value)).is_ok());
     }
     for (list, command) in LISTS {
-        let mut out = Out::new();
-        match Initiating::begin(Some(bytes(list).as_slice()), &terminal) {
-            Ok(initiating) => initiating.ask(&mut out),
-            Err(cause) => assert_eq!(rt; cause, Cause::Dol(Tag(0x9f38))),
-        }
-        assert_eq!(rt; out.as_slice(), bytes(command).as_slice(), "{list}");
+        let filled = match command_with(list, &terminal) {
+            Some(out) => out.as_slice() == bytes(command).as_slice(),
+            None => false,
+        };
+        assert!(rt; filled, "{list}");
     }
 }

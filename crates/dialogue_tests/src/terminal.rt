@@ -1,29 +1,51 @@
-//! A terminal's objects for the tests.
+//! The card and the terminal of the worked dialogues.
 ghost use Rattle.std.specs.Prelude.{◌≡◌, IsTrue, length};
 ghost use Rattle.auth_message.specs.Accepted.{AreDigits};
 ghost use Rattle.auth_message.specs.Field.{are_digits as all_digits};
 ghost use Rattle.emv_dict.specs.Settings.{is_code};
 ghost use Rattle.online_step.specs.TerminalData.{object, HasTerminalData};
 
-use super::bytes;
+use crate::hexadecimal::bytes;
 use ber_tlv::Tag;
 use emv_dict::has_digits;
 use env_map::Env;
+use object_lists::CardData;
 use std::process::Abort;
 
+/// The card's objects: its account number has the sequence number 01, and its lists ask for the fields of a
+/// cryptogram.
+const CARD: [(u32, &str); 7] = [
+    (0x82, "1c00"),
+    (0x94, "08010300"),
+    (0x5a, "4761739001010010"),
+    (0x5f34, "01"),
+    (0x5f24, "261231"),
+    (0x8c, "9f02069f03069f1a0295055f2a029a039c019f3704"),
+    (0x8d, "8a029f02069f03069f1a0295055f2a029a039c019f3704"),
+];
+
+/// The card of the worked dialogues.
+pub fn card(rt: &impl Abort) -> CardData {
+    let mut env = Env::new();
+    for (tag, value) in CARD {
+        let _ = env.put(Tag(tag), &bytes(value));
+    }
+    CardData::checked(env).expect(rt, "a card that is read")
+}
+
 /// The terminal's objects of the worked dialogues.
-pub(super) fn terminal(rt: &impl Abort) -> Env
+pub fn terminal(rt: &impl Abort) -> Env
     ensures { HasTerminalData result }
 {
     let mut env = Env::new();
-    for (tag, value) in OBJECTS {
+    for (tag, value) in TERMINAL {
         let _ = env.put(Tag(tag), &bytes(value));
     }
     assert!(rt; has_terminal_data(&env));
     env
 }
 
-const OBJECTS: [(u32, &str); 10] = [
+const TERMINAL: [(u32, &str); 10] = [
     (0x9f1c, "5445524d30303031"),
     (0x9f02, "000000002500"),
     (0x9f03, "000000000000"),

@@ -1,14 +1,11 @@
-//! Dialogues with cards, many of which answer as they should not.
-ghost use Rattle.std.specs.Prelude.{◌≤◌};
-ghost use Rattle.std.specs.List.{All};
-ghost use Rattle.emv_dict.specs.Settings.{IsSettings, IsAidRow};
+//! Selection by the directory with cards, many of which answer as they should not.
+ghost use Rattle.emv_dict.specs.Settings.{IsSettings};
 
-use crate::{ListNext, Listing};
+use crate::choosing::{ends, meant, selected, settings};
 use apdu_core::Out;
 use app_select::SelectNext;
-use arrayvec::ArrayVec;
-use emv_dict::{AidRow, Cause, Name, Settings};
-use std::alloc::AllocGlobal;
+use emv_dict::{Cause, Settings};
+use pse_directory::{ListNext, Listing};
 use std::process::Abort;
 
 /// In each row the terminal's AIDs (`+`: partial names too), whether an application can be confirmed, the
@@ -106,100 +103,12 @@ a0000000031010+ no: name dir > 00b2010c00 7081b861154f08a00000000310100150064352
 a0000000031010+ yes: name dir > 00b2010c00 7081b861154f08a000000003101001500643524544495487018161154f08a000000003101002500643524544495487018161154f08a000000003101003500643524544495487018161154f08a000000003101004500643524544495487018161154f08a000000003101005500643524544495487018161154f08a000000003101006500643524544495487018161154f08a000000003101007500643524544495487018161154f08a00000000310100850064352454449548701819000 > 00b2020c00 7081b861154f08a000000003101009500643524544495487018161154f08a00000000310100a500643524544495487018161154f08a00000000310100b500643524544495487018161154f08a00000000310100c500643524544495487018161154f08a00000000310100d500643524544495487018161154f08a00000000310100e500643524544495487018161154f08a00000000310100f500643524544495487018161154f08a00000000310101050064352454449548701819000 > 00b2030c00 701761154f08a00000000310101150064352454449548701019000 > 00b2040c00 6a83 > 00a4040008a00000000310100100 6f178408a000000003101001a50b50064352454449548701019000 = chosen a0000000031010 -
 a0000000031010+ yes: name dir > 00b2010c00 7081b861154f08a000000003101001500643524544495487010261154f08a000000003101002500643524544495487010261154f08a000000003101003500643524544495487010261154f08a000000003101004500643524544495487010261154f08a000000003101005500643524544495487010261154f08a000000003101006500643524544495487010261154f08a000000003101007500643524544495487010261154f08a00000000310100850064352454449548701029000 > 00b2020c00 7081b861154f08a000000003101001500643524544495487010f61154f08a000000003101002500643524544495487010f61154f08a000000003101003500643524544495487010f61154f08a000000003101004500643524544495487010f61154f08a000000003101005500643524544495487010f61154f08a000000003101006500643524544495487010f61154f08a000000003101007500643524544495487010f61154f08a000000003101008500643524544495487010f9000 > 00b2030c00 7081b861154f08a000000003101009500643524544495487010e61154f08a00000000310100a500643524544495487010e61154f08a00000000310100b500643524544495487010e61154f08a00000000310100c500643524544495487010e61154f08a00000000310100d500643524544495487010e61154f08a00000000310100e500643524544495487010e61154f08a00000000310100f500643524544495487010e61154f08a00000000310101050064352454449548701019000 > 00b2040c00 6a83 > 00a4040008a00000000310101000 6f178408a000000003101010a50b50064352454449548701019000 = chosen a0000000031010 -";
 
-/// SELECT of the directory, and its answer where the records stand in file 1.
-const NAME: &str = "00a404000e315041592e5359532e444446303100";
-
-const DIRECTORY: &str = "6f15840e315041592e5359532e4444463031a5038801019000";
-
-/// SELECT of the first application, and the answer of a plain card.
-const AID: &str = "00a4040007a000000003101000";
-
-const PLAIN: &str = "6f168407a0000000031010a50b50064352454449548701019000";
-
-fn digit(letter: u8) -> u8
-    ensures { result ≤ 15 }
-{
-    match letter {
-        b'0'..=b'9' => letter - b'0',
-        b'a'..=b'f' => letter - b'a' + 10,
-        _ => 0,
-    }
-}
-
-/// The bytes of hexadecimal digits, or of a text with a name.
-fn bytes(word: &str) -> ArrayVec<u8, 261> {
-    let text = match word {
-        "name" => NAME,
-        "dir" => DIRECTORY,
-        "aid" => AID,
-        "plain" => PLAIN,
-        _ => word,
-    };
-    let letters = text.as_bytes();
-    let mut bytes = ArrayVec::new();
-    for place in 0..letters.len() / 2 {
-        let byte = digit(letters[2 * place]) * 16 + digit(letters[2 * place + 1]);
-        let _ = bytes.try_push(byte);
-    }
-    bytes
-}
-
-fn row(rt: &impl Abort, word: &str) -> AidRow
-    ensures { IsAidRow result }
-{
-    let name = Name::new(&bytes(word)).expect(rt, word);
-    assert!(rt; name.as_slice().len() >= 5);
-    AidRow {
-        name,
-        partial: word.ends_with("+"),
-        version: [0x00, 0x96],
-        denial: [0; 5],
-        online: [0; 5],
-        fallback: [0; 5],
-        floor: 10000,
-        threshold: 5000,
-        target: 10,
-        max_target: 50,
-    }
-}
-
-/// The rows of one name, or of two with a comma between them.
-fn rows(rt: &(impl AllocGlobal + Abort), words: &str) -> Vec<AidRow>
-    ensures valid { All IsAidRow result.items }
-{
-    let mut rows = Vec::new(rt.alloc());
-    let Some((first, second)) = words.split_once(",") else {
-        rows.push(row(rt, words)).expect(rt, "memory");
-        return rows;
-    };
-    rows.push(row(rt, first)).expect(rt, "memory");
-    rows.push(row(rt, second)).expect(rt, "memory");
-    rows
-}
-
-fn settings(rt: &(impl AllocGlobal + Abort), words: &str) -> Settings
-    ensures { IsSettings result }
-{
-    let aids = rows(rt, words);
-    assert!(rt; !aids.is_empty() && aids.len() <= 16);
-    Settings {
-        kind: 22,
-        country: [0x08, 0x40],
-        caps: [0xe0, 0xb8, 0xc8],
-        id: *b"TERM0001",
-        pin_key: [0; 16],
-        exceptions: Vec::new(rt.alloc()),
-        aids,
-        pse: true,
-    }
-}
-
 /// The answer to the command that is as it must be.
 fn listed<'s>(rt: &impl Abort, listing: Listing<'s>, command: &[u8], word: &str) -> ListNext<'s> {
     let mut out = Out::new();
     listing.ask(&mut out);
-    assert_eq!(rt; out.as_slice(), command, "{word}");
-    listing.take(&bytes(word))
+    assert!(rt; out.as_slice() == command, "{word}");
+    listing.take(&meant(word))
 }
 
 /// The same of each record but the last one.
@@ -214,31 +123,11 @@ fn all_listed<'s>(rt: &impl Abort, listing: Listing<'s>, word: &str) -> ListNext
     next
 }
 
-fn selected<'s>(
-    rt: &impl Abort,
-    next: SelectNext<'s>,
-    command: &str,
-    word: &str,
-) -> SelectNext<'s> {
-    match next {
-        SelectNext::Ask(selecting) => {
-            let mut out = Out::new();
-            selecting.ask(&mut out);
-            assert_eq!(rt; out.as_slice(), bytes(command).as_slice(), "{word}");
-            selecting.take(&bytes(word))
-        }
-        SelectNext::Chosen(selected) => {
-            assert_eq!(rt; command, "refused");
-            selected.refuse()
-        }
-        SelectNext::Ended(cause) => SelectNext::Ended(cause),
-    }
-}
-
-fn answered<'s>(rt: &impl Abort, next: ListNext<'s>, command: &str, word: &str) -> ListNext<'s> {
+fn answered<'s>(rt: &impl Abort, next: ListNext<'s>, exchange: &str) -> ListNext<'s> {
+    let (command, word) = exchange.split_once(' ').unwrap_or((exchange, ""));
     match next {
         ListNext::Ask(listing) if command == "records" => all_listed(rt, listing, word),
-        ListNext::Ask(listing) => listed(rt, listing, &bytes(command), word),
+        ListNext::Ask(listing) => listed(rt, listing, &meant(command), word),
         other => other,
     }
 }
@@ -255,11 +144,10 @@ fn run_directory<'s>(
     let mut next = ListNext::Ask(Listing::begin(settings, confirm));
     let mut count = 0usize;
     for exchange in exchanges.split(" > ") {
-        let (command, word) = exchange.split_once(' ').unwrap_or((exchange, ""));
         if !matches!(&next, ListNext::Ask(_)) {
             break;
         }
-        next = answered(rt, next, command, word);
+        next = answered(rt, next, exchange);
         count = count.saturating_add(1);
     }
     let next = match next {
@@ -281,31 +169,9 @@ fn run<'s>(
 {
     let (mut next, count) = run_directory(rt, settings, confirm, exchanges);
     for exchange in exchanges.split(" > ").skip(count) {
-        let (command, word) = exchange.split_once(' ').unwrap_or((exchange, ""));
-        next = selected(rt, next, command, word);
+        next = selected(rt, next, exchange);
     }
     next
-}
-
-fn check(rt: &impl Abort, next: SelectNext<'_>, end: &str) {
-    match next {
-        SelectNext::Ask(_) => assert_eq!(rt; "asks", end),
-        SelectNext::Chosen(selected) => {
-            let (word, objects) = end.rsplit_once(' ').unwrap_or((end, ""));
-            let (_, aid) = word.split_once(' ').unwrap_or((word, ""));
-            assert_eq!(rt; selected.row().name.as_slice(), bytes(aid).as_slice());
-            match selected.pdol() {
-                None => assert_eq!(rt; "-", objects),
-                Some(list) => assert_eq!(rt; list, bytes(objects).as_slice()),
-            }
-        }
-        SelectNext::Ended(Cause::NoCandidate) => assert_eq!(rt; "no-candidate", end),
-        SelectNext::Ended(Cause::CardBlocked) => assert_eq!(rt; "card-blocked", end),
-        SelectNext::Ended(cause) => {
-            assert_eq!(rt; cause, Cause::Answer);
-            assert_eq!(rt; "answer", end);
-        }
-    }
 }
 
 #[test]
@@ -314,8 +180,8 @@ fn dialogues_end(rt: HostRuntime) {
         let (head, rest) = line.split_once(": ").unwrap_or((line, ""));
         let (words, confirm) = head.split_once(' ').unwrap_or((head, ""));
         let (exchanges, end) = rest.split_once(" = ").unwrap_or((rest, ""));
-        let settings = settings(&rt, words);
+        let settings = settings(&rt, words, true);
         let next = run(&rt, &settings, confirm == "yes", exchanges);
-        check(&rt, next, end);
+        assert!(rt; ends(next, end), "{line}");
     }
 }

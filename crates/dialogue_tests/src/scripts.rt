@@ -1,9 +1,7 @@
 //! Scripts with cards, some of which answer as they should not, and templates that hold no script.
-ghost use Rattle.std.specs.Prelude.{◌≤◌};
-
-use crate::{RunNext, Running};
+use crate::hexadecimal::bytes;
 use apdu_core::Out;
-use arrayvec::ArrayVec;
+use script_run::{RunNext, Running};
 use std::process::Abort;
 
 /// In each row the value of a template, then the commands with their answers, in hexadecimal digits, and the
@@ -43,26 +41,6 @@ const SCRIPTS: &str = "\
 8604841e0000860484180000 > 841e0000 9f3602000b9000 > 84180000 gone = 1200000000
 008604841e0000000086048418000000 > 841e0000 9000 > 84180000 9000 = 2000000000";
 
-fn digit(letter: u8) -> u8
-    ensures { result ≤ 15 }
-{
-    match letter {
-        b'0'..=b'9' => letter - b'0',
-        b'a'..=b'f' => letter - b'a' + 10,
-        _ => 0,
-    }
-}
-
-fn bytes(text: &str) -> ArrayVec<u8, 261> {
-    let letters = text.as_bytes();
-    let mut bytes = ArrayVec::new();
-    for place in 0..letters.len() / 2 {
-        let byte = digit(letters[2 * place]) * 16 + digit(letters[2 * place + 1]);
-        let _ = bytes.try_push(byte);
-    }
-    bytes
-}
-
 /// What follows an exchange, whose command is as it must be.
 fn behind(rt: &impl Abort, next: RunNext, exchange: &str) -> RunNext {
     let (command, answer) = exchange.split_once(' ').unwrap_or((exchange, ""));
@@ -72,7 +50,7 @@ fn behind(rt: &impl Abort, next: RunNext, exchange: &str) -> RunNext {
     };
     let mut out = Out::new();
     running.ask(&mut out);
-    assert_eq!(rt; out.as_slice(), bytes(command).as_slice());
+    assert!(rt; out.as_slice() == bytes(command).as_slice(), "{exchange}");
     if answer == "gone" {
         RunNext::Done(running.gone())
     } else {
@@ -80,43 +58,59 @@ fn behind(rt: &impl Abort, next: RunNext, exchange: &str) -> RunNext {
     }
 }
 
+/// What follows the exchanges of a row.
+fn run(rt: &impl Abort, template: &str, exchanges: &str) -> RunNext {
+    let mut next = Running::begin(&bytes(template));
+    if exchanges.is_empty() {
+        return next;
+    }
+    for exchange in exchanges.split(" > ") {
+        next = behind(rt, next, exchange);
+    }
+    next
+}
+
 #[test]
 fn scripts_run(rt: HostRuntime) {
     for row in SCRIPTS.lines() {
         let (exchanges, result) = row.split_once(" = ").unwrap_or((row, ""));
         let (template, exchanges) = exchanges.split_once(" > ").unwrap_or((exchanges, ""));
-        let mut next = Running::begin(&bytes(template));
-        if !exchanges.is_empty() {
-            for exchange in exchanges.split(" > ") {
-                next = behind(&rt, next, exchange);
-            }
-        }
-        let RunNext::Done(found) = next else {
-            assert!(rt; false, "{row}");
-            return;
+        let done = match run(&rt, template, exchanges) {
+            RunNext::Done(found) => found.as_slice() == bytes(result).as_slice(),
+            RunNext::Ask(_) => false,
         };
-        assert_eq!(rt; found.as_slice(), bytes(result).as_slice(), "{row}");
+        assert!(rt; done, "{row}");
     }
 }
 
-/// Of sixteen commands the one of a number from 1 fails, or none does. A result tells numbers up to 15.
+/// Sixteen commands.
+const SIXTEEN: &str =
+    "860484180000860484180000860484180000860484180000860484180000860484180000860484180000860484180000860484180000860484180000860484180000860484180000860484180000860484180000860484180000860484180000";
+
+/// Of sixteen commands the one of this number from 1 fails, or none does, and the first byte of the result. A
+/// result tells numbers up to 15.
+const FAILURES: [(u8, u8); 5] = [(1, 0x11), (14, 0x1e), (15, 0x1f), (16, 0x1f), (17, 0x20)];
+
+/// What follows where the command of this number fails.
+fn failed(number: u8) -> RunNext {
+    let mut next = Running::begin(&bytes(SIXTEEN));
+    for place in 1..17u8 {
+        next = match next {
+            RunNext::Ask(running) if place == number => running.take(&[0x69, 0x85]),
+            RunNext::Ask(running) => running.take(&[0x90, 0x00]),
+            RunNext::Done(result) => RunNext::Done(result),
+        };
+    }
+    next
+}
+
 #[test]
 fn numbers_are_told(rt: HostRuntime) {
-    let template =
-        "860484180000860484180000860484180000860484180000860484180000860484180000860484180000860484180000860484180000860484180000860484180000860484180000860484180000860484180000860484180000860484180000";
-    for (number, first) in [(1, 0x11), (14, 0x1e), (15, 0x1f), (16, 0x1f), (17, 0x20)] {
-        let mut next = Running::begin(&bytes(template));
-        for place in 1..17 {
-            next = match next {
-                RunNext::Ask(running) if place == number => running.take(&[0x69, 0x85]),
-                RunNext::Ask(running) => running.take(&[0x90, 0x00]),
-                RunNext::Done(result) => RunNext::Done(result),
-            };
-        }
-        let RunNext::Done(result) = next else {
-            assert!(rt; false);
-            return;
+    for (number, first) in FAILURES {
+        let told = match failed(number) {
+            RunNext::Done(result) => result == [first, 0, 0, 0, 0],
+            RunNext::Ask(_) => false,
         };
-        assert_eq!(rt; result, [first, 0, 0, 0, 0]);
+        assert!(rt; told, "{number}");
     }
 }

@@ -1,13 +1,9 @@
-//! Dialogues with cards, many of which answer as they should not.
-ghost use Rattle.std.specs.Prelude.{◌≡◌, ◌≤◌, IfSome, length};
-ghost use Rattle.std.specs.List.{All};
-ghost use Rattle.emv_dict.specs.Settings.{IsSettings, IsAidRow};
+//! Selection by a list of AIDs with cards, many of which answer as they should not.
+ghost use Rattle.emv_dict.specs.Settings.{IsSettings};
 
-use crate::{SelectNext, Selecting};
-use apdu_core::Out;
-use arrayvec::ArrayVec;
-use emv_dict::{AidRow, Cause, Name, Settings};
-use std::alloc::AllocGlobal;
+use crate::choosing::{ends, selected, settings};
+use app_select::{SelectNext, Selecting};
+use emv_dict::Settings;
 use std::process::Abort;
 
 /// In each row the terminal's AIDs (`+`: partial names too), whether an application can be confirmed, the
@@ -121,82 +117,6 @@ a0000000031010,a0000000041010 yes: 00a4040007a000000003101000 6a82 > 00a4040007a
 a0000000031010+,a0000000041010 yes: 00a4040007a000000003101000 plain > 00a4040007a000000004101000 6a81 = card-blocked
 a0000000031010+,a000000003101001 yes: 00a4040007a000000003101000 6f178408a000000003101001a50b50064352454449548701019000 > 00a4040207a000000003101000 6a82 > 00a4040008a00000000310100100 6f178408a000000003101001a50b50064352454449548701019000 > 00a4040008a00000000310100100 6f178408a000000003101001a50b50064352454449548701019000 = chosen a0000000031010 -";
 
-/// The answer of a plain card.
-const PLAIN: &str = "6f168407a0000000031010a50b50064352454449548701019000";
-
-fn digit(letter: u8) -> u8
-    ensures { result ≤ 15 }
-{
-    match letter {
-        b'0'..=b'9' => letter - b'0',
-        b'a'..=b'f' => letter - b'a' + 10,
-        _ => 0,
-    }
-}
-
-fn bytes(text: &str) -> ArrayVec<u8, 261> {
-    let letters = text.as_bytes();
-    let mut bytes = ArrayVec::new();
-    for place in 0..letters.len() / 2 {
-        let byte = digit(letters[2 * place]) * 16 + digit(letters[2 * place + 1]);
-        let _ = bytes.try_push(byte);
-    }
-    bytes
-}
-
-fn answer(word: &str) -> ArrayVec<u8, 261> {
-    match word {
-        "plain" => bytes(PLAIN),
-        _ => bytes(word),
-    }
-}
-
-fn row(rt: &impl Abort, word: &str) -> AidRow
-    ensures { IsAidRow result }
-{
-    let name = Name::new(&bytes(word)).expect(rt, word);
-    assert!(rt; name.as_slice().len() >= 5);
-    AidRow {
-        name,
-        partial: word.ends_with("+"),
-        version: [0x00, 0x96],
-        denial: [0; 5],
-        online: [0; 5],
-        fallback: [0; 5],
-        floor: 10000,
-        threshold: 5000,
-        target: 10,
-        max_target: 50,
-    }
-}
-
-fn rows(rt: &(impl AllocGlobal + Abort), words: &str) -> Vec<AidRow>
-    ensures valid { All IsAidRow result.items }
-{
-    let mut rows = Vec::new(rt.alloc());
-    for word in words.split(",") {
-        rows.push(row(rt, word)).expect(rt, "memory");
-    }
-    rows
-}
-
-fn settings(rt: &(impl AllocGlobal + Abort), words: &str) -> Settings
-    ensures { IsSettings result }
-{
-    let aids = rows(rt, words);
-    assert!(rt; !aids.is_empty() && aids.len() <= 16);
-    Settings {
-        kind: 22,
-        country: [0x08, 0x40],
-        caps: [0xe0, 0xb8, 0xc8],
-        id: *b"TERM0001",
-        pin_key: [0; 16],
-        exceptions: Vec::new(rt.alloc()),
-        aids,
-        pse: false,
-    }
-}
-
 /// Goes through a dialogue, in which each command is as it must be.
 fn run<'s>(
     rt: &impl Abort,
@@ -206,45 +126,11 @@ fn run<'s>(
 ) -> SelectNext<'s>
     requires { IsSettings settings.now }
 {
-    let mut out = Out::new();
     let mut next = SelectNext::Ask(Selecting::begin(settings, confirm));
     for exchange in exchanges.split(" > ") {
-        let (command, word) = exchange.split_once(' ').unwrap_or((exchange, ""));
-        next = match next {
-            SelectNext::Ask(selecting) => {
-                selecting.ask(&mut out);
-                assert_eq!(rt; out.as_slice(), bytes(command).as_slice(), "{exchanges}");
-                selecting.take(&answer(word))
-            }
-            SelectNext::Chosen(selected) => {
-                assert_eq!(rt; command, "refused");
-                selected.refuse()
-            }
-            SelectNext::Ended(cause) => SelectNext::Ended(cause),
-        };
+        next = selected(rt, next, exchange);
     }
     next
-}
-
-fn check(rt: &impl Abort, next: SelectNext<'_>, end: &str) {
-    match next {
-        SelectNext::Ask(_) => assert_eq!(rt; "asks", end),
-        SelectNext::Chosen(selected) => {
-            let (word, objects) = end.rsplit_once(' ').unwrap_or((end, ""));
-            let (_, aid) = word.split_once(' ').unwrap_or((word, ""));
-            assert_eq!(rt; selected.row().name.as_slice(), bytes(aid).as_slice());
-            match selected.pdol() {
-                None => assert_eq!(rt; "-", objects),
-                Some(list) => assert_eq!(rt; list, bytes(objects).as_slice()),
-            }
-        }
-        SelectNext::Ended(Cause::NoCandidate) => assert_eq!(rt; "no-candidate", end),
-        SelectNext::Ended(Cause::CardBlocked) => assert_eq!(rt; "card-blocked", end),
-        SelectNext::Ended(cause) => {
-            assert_eq!(rt; cause, Cause::Answer);
-            assert_eq!(rt; "answer", end);
-        }
-    }
 }
 
 #[test]
@@ -253,8 +139,8 @@ fn dialogues_end(rt: HostRuntime) {
         let (head, rest) = line.split_once(": ").unwrap_or((line, ""));
         let (words, confirm) = head.split_once(' ').unwrap_or((head, ""));
         let (exchanges, end) = rest.split_once(" = ").unwrap_or((rest, ""));
-        let settings = settings(&rt, words);
+        let settings = settings(&rt, words, false);
         let next = run(&rt, &settings, confirm == "yes", exchanges);
-        check(&rt, next, end);
+        assert!(rt; ends(next, end), "{line}");
     }
 }
