@@ -66,8 +66,8 @@ SECTIONS = [
         ("`./emvrun replay < examples/offline-approval.toml`", "Runs one purchase."),
         ("`./explain --ends examples/decline-by-action-code.toml`", "Says why a purchase was declined."),
         ("`./emvrun check < examples/traces/offline-approval.toml`", "Checks a trace."),
-        ("`tools/sweep examples/pin-tries.toml 0 1`", "Pulls the card out at every place of a purchase."),
-        ("`tools/expect FOLDER`", "Compares every scenario of a folder with the report beside it."),
+        ("`./lab sweep examples/pin-tries.toml 0 1`", "Pulls the card out at every place of a purchase."),
+        ("`./lab expect FOLDER`", "Compares every scenario of a folder with the report beside it."),
     ]),
 ]
 
