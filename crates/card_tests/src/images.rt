@@ -316,7 +316,10 @@ fn names_the_first_key(rt: HostRuntime) -> Result<(), Fail> {
     for number in 0..9 {
         let mut app = app_of(&rt, alloc)?;
         spoil_opening(&rt, &mut app, number);
-        assert!(rt; is_field(image_of(alloc, app)?, 0, "opening"), "at {number}");
+        assert!(rt;
+            is_field(image_of(alloc, app)?, 0, "opening"),
+            "at {number}"
+        );
     }
     Ok(())
 }

@@ -83,15 +83,7 @@ fn version_one_gains_the_limits_of_its_card(rt: HostRuntime) {
 }
 
 /// A place in the state of version 2, and a byte there that it can't have.
-const WRONG: [(usize, u8); 7] = [
-    (0, 3),
-    (0, 1),
-    (1, 5),
-    (2, 2),
-    (26, 4),
-    (52, 0),
-    (52, 11),
-];
+const WRONG: [(usize, u8); 7] = [(0, 3), (0, 1), (1, 5), (2, 2), (26, 4), (52, 0), (52, 11)];
 
 #[test]
 fn other_bytes_are_no_state(rt: HostRuntime) {

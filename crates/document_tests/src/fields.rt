@@ -107,7 +107,10 @@ fn reads_texts(rt: HostRuntime) {
     let owned = fields.owned_text("t", kind, 3, 9).expect(&rt, "t");
     for (name, is) in [
         ("str_at", fields.str_at("t").ok() == Some("ab1")),
-        ("text", fields.text("t", kind, 1, 3).ok() == Some(b"ab1".as_slice())),
+        (
+            "text",
+            fields.text("t", kind, 1, 3).ok() == Some(b"ab1".as_slice()),
+        ),
         (
             "text_array",
             fields.text_array::<3>("t", kind).ok() == Some(*b"ab1"),
@@ -154,7 +157,10 @@ fn reads_bytes(rt: HostRuntime) {
     for (name, is) in [
         ("bytes", bytes.as_slice() == wanted.as_slice()),
         ("few_bytes", few.as_slice() == wanted.as_slice()),
-        ("byte_array", fields.byte_array::<2>("h").ok() == Some(wanted)),
+        (
+            "byte_array",
+            fields.byte_array::<2>("h").ok() == Some(wanted),
+        ),
         (
             "optional_byte_array",
             fields.optional_byte_array::<2>("g").ok() == Some(None),

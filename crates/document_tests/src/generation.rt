@@ -39,7 +39,10 @@ fn first_purchase_of_one(rt: HostRuntime) -> Result<(), Fail> {
     let planned = purchase(&rt, &scenario, 0, 0);
     for (name, is) in [
         ("amount", planned.purchase.amount == 4_390),
-        ("number", planned.purchase.number == [0x41, 0xc6, 0x7e, 0xa6]),
+        (
+            "number",
+            planned.purchase.number == [0x41, 0xc6, 0x7e, 0xa6],
+        ),
         ("word", planned.purchase.word == 0x41c6),
         ("pins", planned.purchase.pins.len() == 1),
         ("card", planned.card == 0),
@@ -101,10 +104,7 @@ fn a_torn_purchase(rt: HostRuntime) -> Result<(), Fail> {
 }
 
 /// How many purchases, and how many of them each lane has.
-const COUNTS: [(u32, [usize; 4]); 2] = [
-    (10, [3, 3, 2, 2]),
-    (10_000, [2_500, 2_500, 2_500, 2_500]),
-];
+const COUNTS: [(u32, [usize; 4]); 2] = [(10, [3, 3, 2, 2]), (10_000, [2_500, 2_500, 2_500, 2_500])];
 
 #[test]
 fn purchases_of_each_lane(rt: HostRuntime) -> Result<(), Fail> {

@@ -96,11 +96,7 @@ const TRACES: [(&str, &[&str], Verdict); 9] = [
         &[OPENING, COUNTER, CRYPTOGRAM, END, END],
         Verdict::Differs(21),
     ),
-    (
-        "",
-        &[OPENING, ", \"host < none\""],
-        Verdict::Differs(17),
-    ),
+    ("", &[OPENING, ", \"host < none\""], Verdict::Differs(17)),
     ("", &[], Verdict::Differs(0)),
     // A terminal asks for the directory first.
     (
@@ -183,7 +179,10 @@ const REFUSED: [(&str, &str, &str); 9] = [
 fn a_document_that_is_no_trace_is_refused(rt: HostRuntime) -> Result<(), Fail> {
     for (rest, entries, wanted) in REFUSED {
         let line = refused(rt.alloc(), entries, rest)?;
-        assert!(rt; line.is_some_and(|line| line.as_str() == wanted), "{wanted}");
+        assert!(rt;
+            line.is_some_and(|line| line.as_str() == wanted),
+            "{wanted}"
+        );
     }
     Ok(())
 }

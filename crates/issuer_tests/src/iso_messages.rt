@@ -122,7 +122,12 @@ fn another_bitmap_is_a_fault(rt: HostRuntime) {
 }
 
 /// A message, other bytes at places of it, bytes behind it, and the first fault in the order of the bytes.
-type Row = (&'static [u8], &'static [(usize, u8)], &'static [u8], IsoFault);
+type Row = (
+    &'static [u8],
+    &'static [(usize, u8)],
+    &'static [u8],
+    IsoFault,
+);
 
 const SPOILT: [Row; 21] = [
     (&REVERSAL, &[(1, b'3')], &[], IsoFault::WrongType),
@@ -209,9 +214,7 @@ fn is_read_again(rt: &impl Abort, count: usize, block: Option<[u8; 8]>) -> bool 
     write_with(rt, count, block, &mut out);
     match read_iso_call(out.as_slice()) {
         Ok(Incoming::Request(fields)) => {
-            fields.named.pan.len() == count
-                && fields.named.t5f34.is_none()
-                && fields.tdf11 == block
+            fields.named.pan.len() == count && fields.named.t5f34.is_none() && fields.tdf11 == block
         }
         _ => false,
     }
@@ -265,7 +268,9 @@ fn same_reply(rt: &impl Abort, kind: CallKind, reply: &Reply, bytes: &[u8]) {
     };
     let mut out = Message::new();
     write_iso_reply(found, &read, &mut out);
-    let is_read = read.code == reply.code && read.auth == reply.auth && read.scripts == reply.scripts;
+    let is_read = read.code == reply.code
+        && read.auth == reply.auth
+        && read.scripts == reply.scripts;
     assert!(rt; found == kind && is_read && out.as_slice() == bytes);
 }
 

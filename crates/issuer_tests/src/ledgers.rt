@@ -43,7 +43,13 @@ type Row = (
 /// It holds what is there. A card of the same account with another sequence number has transactions of
 /// its own.
 const HOLDS: [Row; 7] = [
-    (Call::Hold, (&PAN, 1, 11), 3000, ("no funds", 2500), [2500, 10]),
+    (
+        Call::Hold,
+        (&PAN, 1, 11),
+        3000,
+        ("no funds", 2500),
+        [2500, 10],
+    ),
     (Call::Hold, (&PAN, 1, 11), 2500, ("done", 0), [0, 10]),
     (Call::Hold, (&PAN, 1, 11), 2500, ("held", 2500), [0, 10]),
     (Call::Hold, (&PAN, 1, 12), 1, ("no funds", 0), [0, 10]),
@@ -56,21 +62,39 @@ const HOLDS: [Row; 7] = [
 const BOOKS: [Row; 3] = [
     (Call::Hold, (&PAN, 1, 11), 2000, ("done", 0), [500, 10]),
     (Call::Book, (&PAN, 1, 11), 1500, ("done", 0), [1000, 10]),
-    (Call::Release, (&PAN, 1, 11), 1500, ("booked", 1500), [1000, 10]),
+    (
+        Call::Release,
+        (&PAN, 1, 11),
+        1500,
+        ("booked", 1500),
+        [1000, 10],
+    ),
 ];
 
 /// It releases once.
 const RELEASES: [Row; 3] = [
     (Call::Hold, (&PAN, 1, 12), 1000, ("done", 0), [1500, 10]),
     (Call::Release, (&PAN, 1, 12), 1000, ("done", 0), [2500, 10]),
-    (Call::Book, (&PAN, 1, 12), 1000, ("released", 1000), [2500, 10]),
+    (
+        Call::Book,
+        (&PAN, 1, 12),
+        1000,
+        ("released", 1000),
+        [2500, 10],
+    ),
 ];
 
 /// It books and releases what was not held.
 const UNHELD: [Row; 3] = [
     (Call::Book, (&PAN, 1, 13), 4000, ("done", 0), [-1500, 10]),
     (Call::Release, (&PAN, 1, 14), 4000, ("done", 0), [-1500, 10]),
-    (Call::Hold, (&PAN, 1, 14), 1, ("released", 4000), [-1500, 10]),
+    (
+        Call::Hold,
+        (&PAN, 1, 14),
+        1,
+        ("released", 4000),
+        [-1500, 10],
+    ),
 ];
 
 /// An answer in a word, with the balance or the amount that it names.

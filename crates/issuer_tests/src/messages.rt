@@ -131,7 +131,10 @@ fn the_first_fault_of_a_message_is_told(rt: HostRuntime) {
     }
     for (message, place, byte, expected) in SPOILT {
         let bytes = changed(message, &[(place, byte)], &[]);
-        assert!(rt; fault(bytes.as_slice()) == Some(expected), "{place}: {byte}");
+        assert!(rt;
+            fault(bytes.as_slice()) == Some(expected),
+            "{place}: {byte}"
+        );
     }
     assert!(rt; fault(&REVERSAL).is_none());
 }

@@ -67,11 +67,7 @@ fn words_order_commands(rt: HostRuntime) {
         ("amount bad", gives(b"amount 0 bad", Word::Amount(0), true)),
         (
             "amount",
-            gives(
-                b"amount 999999999999",
-                Word::Amount(999_999_999_999),
-                false,
-            ),
+            gives(b"amount 999999999999", Word::Amount(999_999_999_999), false),
         ),
     ] {
         assert!(rt; is, "{name}");

@@ -10,9 +10,11 @@ use std::test::Fail;
 /// The scenario of the document with these changes.
 pub fn read(alloc: Global, changes: &[(&str, &str)]) -> Result<Scenario, Fail> {
     let text = changed(alloc, BASE, changes)?;
-    Ok(read_scenario(alloc, text.as_bytes())
-        .ok()
-        .ok_or("a scenario")?)
+    Ok(
+        read_scenario(alloc, text.as_bytes())
+            .ok()
+            .ok_or("a scenario")?,
+    )
 }
 
 /// The document, refused.
@@ -98,10 +100,12 @@ fn bytes_are_refused(rt: HostRuntime) -> Result<(), Fail> {
 #[test]
 fn a_card_is_read_in_a_purchase(rt: HostRuntime) -> Result<(), Fail> {
     let lane = "id = \"TERM0001\"";
-    let text = changed(rt.alloc(), BASE, &[(lane, "id = \"TERM0001\"\npurchase = []")])?;
-    let (head, _) = text
-        .split_once("[[lane.purchase]]")
-        .ok_or("a purchase")?;
+    let text = changed(
+        rt.alloc(),
+        BASE,
+        &[(lane, "id = \"TERM0001\"\npurchase = []")],
+    )?;
+    let (head, _) = text.split_once("[[lane.purchase]]").ok_or("a purchase")?;
     let ended = run_of(rt.alloc(), &["read"], head.as_bytes(), (&[], &[]))?;
     let line = "refused 6 UnknownName lane[0].purchase[0]\n";
     assert!(rt; ended.status == 1 && ended.text.as_slice() == line.as_bytes());
@@ -132,7 +136,10 @@ fn scripts_are_read(rt: HostRuntime) -> Result<(), Fail> {
     let later = account.scripts.last().ok_or("a script")?;
     for (name, is) in [
         ("copies", scenario.copies == 3),
-        ("schedule", scenario.schedule.as_slice() == [0, 0].as_slice()),
+        (
+            "schedule",
+            scenario.schedule.as_slice() == [0, 0].as_slice(),
+        ),
         ("before", script.before && script.id == Some([0, 0, 0, 1])),
         ("commands", script.commands.len() == 2),
         ("first", first.word == Word::Count(9) && !first.bad),

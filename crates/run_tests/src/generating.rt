@@ -1,5 +1,5 @@
 //! Purchases that are generated and summed up.
-use crate::runs::{ANSWER, REFUSED, Row, play};
+use crate::runs::{ANSWER, REFUSED, Row, play, play_with};
 use std::test::Fail;
 
 pub const SUMMARY: &str = "generated 1\napproved 1 declined 0 other 0\nbooked 4390\n";
@@ -15,21 +15,8 @@ const ONE: Row = Row {
     ..ANSWER
 };
 
-/// Words that generate purchases, and a sink that fails at the summary: the run was made all the same.
-const GENERATED: [Row; 6] = [
-    ONE,
-    Row {
-        words: &["--", "generate", "1"],
-        ..ONE
-    },
-    Row {
-        words: &["generate", "--", "1"],
-        ..ONE
-    },
-    Row {
-        words: &["generate", "1", "--"],
-        ..ONE
-    },
+/// A hundred purchases, and a sink that fails at the summary of one: the run was made all the same.
+const OTHERS: [Row; 2] = [
     Row {
         words: &["generate", "100"],
         text: "generated 100\napproved 94 declined 3 other 3\nbooked 457669\n",
@@ -46,92 +33,37 @@ const GENERATED: [Row; 6] = [
     },
 ];
 
+/// Words that generate one purchase.
+const COUNTING: [&[&str]; 4] = [
+    &["generate", "1"],
+    &["--", "generate", "1"],
+    &["generate", "--", "1"],
+    &["generate", "1", "--"],
+];
+
 /// Words that give no count.
-const NO_COUNTS: [Row; 16] = [
-    Row {
-        words: &["generate", "0"],
-        document: "",
-        ..REFUSED
-    },
-    Row {
-        words: &["generate", "01"],
-        document: "",
-        ..REFUSED
-    },
-    Row {
-        words: &["generate", "10001"],
-        document: "",
-        ..REFUSED
-    },
-    Row {
-        words: &["generate", "18446744073709551617"],
-        document: "",
-        ..REFUSED
-    },
-    Row {
-        words: &["generate", "x"],
-        document: "",
-        ..REFUSED
-    },
-    Row {
-        words: &["generate", "1x"],
-        document: "",
-        ..REFUSED
-    },
-    Row {
-        words: &["generate", "+1"],
-        document: "",
-        ..REFUSED
-    },
-    Row {
-        words: &["generate", "-1"],
-        document: "",
-        ..REFUSED
-    },
-    Row {
-        words: &["generate", " 1"],
-        document: "",
-        ..REFUSED
-    },
-    Row {
-        words: &["generate", ""],
-        document: "",
-        ..REFUSED
-    },
-    Row {
-        words: &["generate", "1", "1"],
-        document: "",
-        ..REFUSED
-    },
-    Row {
-        words: &["generate", "--"],
-        document: "",
-        ..REFUSED
-    },
-    Row {
-        words: &["--", "generate"],
-        document: "",
-        ..REFUSED
-    },
-    Row {
-        words: &["--", "--", "generate", "1"],
-        document: "",
-        ..REFUSED
-    },
-    Row {
-        words: &["1", "generate"],
-        document: "",
-        ..REFUSED
-    },
-    Row {
-        words: &["Generate", "1"],
-        document: "",
-        ..REFUSED
-    },
+const NO_COUNTS: [&[&str]; 16] = [
+    &["generate", "0"],
+    &["generate", "01"],
+    &["generate", "10001"],
+    &["generate", "18446744073709551617"],
+    &["generate", "x"],
+    &["generate", "1x"],
+    &["generate", "+1"],
+    &["generate", "-1"],
+    &["generate", " 1"],
+    &["generate", ""],
+    &["generate", "1", "1"],
+    &["generate", "--"],
+    &["--", "generate"],
+    &["--", "--", "generate", "1"],
+    &["1", "generate"],
+    &["Generate", "1"],
 ];
 
 #[test]
 fn purchases_are_generated_and_summed_up(rt: HostRuntime) -> Result<(), Fail> {
-    play(&rt, rt.alloc(), &GENERATED)?;
-    play(&rt, rt.alloc(), &NO_COUNTS)
+    play(&rt, rt.alloc(), &OTHERS)?;
+    play_with(&rt, rt.alloc(), ONE, &COUNTING)?;
+    play_with(&rt, rt.alloc(), REFUSED, &NO_COUNTS)
 }

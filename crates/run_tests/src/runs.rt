@@ -163,10 +163,7 @@ const READ: Row = Row {
 /// whatever becomes of its terminal.
 const READ_AT_A_LOST_TERMINAL: Row = Row {
     changes: &[
-        (
-            "id = \"TERM0001\"\n",
-            "id = \"TERM0001\"\ndurable = true\n",
-        ),
+        ("id = \"TERM0001\"\n", "id = \"TERM0001\"\ndurable = true\n"),
         (
             "pins = [\"1234\"]\n",
             "pins = [\"1234\"]\nterminal_tear = { commit = 0, at = \"release\" }\n",
@@ -176,65 +173,47 @@ const READ_AT_A_LOST_TERMINAL: Row = Row {
     ..READ
 };
 
-const WORDS: [Row; 16] = [
-    REPLAYED,
-    READ,
-    Row {
-        words: &["--", "read"],
-        ..READ
-    },
-    Row {
-        words: &["read", "--"],
-        ..READ
-    },
-    READ_AT_A_LOST_TERMINAL,
-    Row {
-        words: &[],
-        ..REFUSED
-    },
-    Row {
-        words: &["--"],
-        ..REFUSED
-    },
-    Row {
-        words: &["replay", "x"],
-        ..REFUSED
-    },
-    Row {
-        words: &["read", "x"],
-        ..REFUSED
-    },
-    Row {
-        words: &["--", "--", "read"],
-        ..REFUSED
-    },
-    Row {
-        words: &["--help"],
-        ..REFUSED
-    },
-    Row {
-        words: &["Read"],
-        ..REFUSED
-    },
-    Row {
-        words: &["generate"],
-        ..REFUSED
-    },
-    Row {
-        words: &["Check"],
-        ..REFUSED
-    },
-    Row {
-        words: &["check", "x"],
-        ..REFUSED
-    },
-    Row {
-        words: &["check", "read"],
-        ..REFUSED
-    },
+/// Words that read a card.
+const READING: [&[&str]; 3] = [&["read"], &["--", "read"], &["read", "--"]];
+
+/// Words that are not in the grammar.
+const OTHER: [&[&str]; 11] = [
+    &[],
+    &["--"],
+    &["replay", "x"],
+    &["read", "x"],
+    &["--", "--", "read"],
+    &["--help"],
+    &["Read"],
+    &["generate"],
+    &["Check"],
+    &["check", "x"],
+    &["check", "read"],
 ];
+
+/// Makes the run with each of these words.
+pub fn play_with(
+    rt: &impl Abort,
+    alloc: Global,
+    row: Row,
+    words: &[&'static [&'static str]],
+) -> Result<(), Fail> {
+    for words in words {
+        play(
+            rt,
+            alloc,
+            &[Row {
+                words: *words,
+                ..row
+            }],
+        )?;
+    }
+    Ok(())
+}
 
 #[test]
 fn words_are_answered(rt: HostRuntime) -> Result<(), Fail> {
-    play(&rt, rt.alloc(), &WORDS)
+    play(&rt, rt.alloc(), &[REPLAYED, READ_AT_A_LOST_TERMINAL])?;
+    play_with(&rt, rt.alloc(), READ, &READING)?;
+    play_with(&rt, rt.alloc(), REFUSED, &OTHER)
 }

@@ -61,26 +61,22 @@ fn without_one(rt: &impl Abort, captures: Captures<MemoryPages>) -> Captures<Mem
     }
 }
 
+/// A list of the messages AA and BB CC.
+fn two_messages(rt: &impl Abort) -> Captures<MemoryPages> {
+    with_one(rt, with_one(rt, begun(rt), &[0xaa]), &[0xbb, 0xcc])
+}
+
 /// Two bytes of length stand before the state, and two before each message.
 #[test]
 fn the_pages_hold_the_messages_behind_their_lengths(rt: HostRuntime) {
     let none = first_page(prepare(MemoryPages::blank()));
-    assert_eq!(rt; none, page_of(&[0, 2, 1, 0]));
-
-    let two = with_one(&rt, with_one(&rt, begun(&rt), &[0xaa]), &[0xbb, 0xcc]);
-    assert_eq!(rt; two.count(), 2);
-    assert_eq!(rt;
-        first_page(two.power_off()),
-        page_of(&[0, 9, 1, 2, 0, 1, 0xaa, 0, 2, 0xbb, 0xcc])
-    );
-
-    let two = with_one(&rt, with_one(&rt, begun(&rt), &[0xaa]), &[0xbb, 0xcc]);
-    let one = without_one(&rt, two);
-    assert_eq!(rt; one.count(), 1);
-    assert_eq!(rt;
-        first_page(one.power_off()),
-        page_of(&[0, 6, 1, 1, 0, 2, 0xbb, 0xcc])
-    );
+    let two = two_messages(&rt);
+    let one = without_one(&rt, two_messages(&rt));
+    let are_counted = two.count() == 2 && one.count() == 1;
+    let are_held = none == page_of(&[0, 2, 1, 0])
+        && first_page(two.power_off()) == page_of(&[0, 9, 1, 2, 0, 1, 0xaa, 0, 2, 0xbb, 0xcc])
+        && first_page(one.power_off()) == page_of(&[0, 6, 1, 1, 0, 2, 0xbb, 0xcc]);
+    assert!(rt; are_counted && are_held);
 }
 
 /// With the first two the state has 175 bytes, and its length two.
@@ -91,7 +87,7 @@ const SECOND: [u8; 30] = [0x22; 30];
 const THIRD: [u8; 139] = [0x33; 139];
 
 /// A call, the home pages that it changes and the count and the first byte of the first message behind it.
-#[derive(Clone, Copy, Debug)]
+#[derive(Clone, Copy)]
 struct Change {
     adds: bool,
     pages: u8,
@@ -205,7 +201,7 @@ fn check<P: Pages>(rt: &impl Abort, pages: P, change: Change, at: TearAt)
     let (before, behind) = may_be_found(change, at);
     let is_before = before && found == (2, 0x11);
     let is_behind = behind && found == (change.count, change.first);
-    assert!(rt; is_before || is_behind, "{change:?}, {at:?}");
+    assert!(rt; is_before || is_behind, "{} pages, {at:?}", change.pages);
 }
 
 /// Before and within each write, before one more, and at the release.
@@ -246,19 +242,21 @@ fn wait(rt: &impl Abort, waiting: &mut Waiting, message: &[u8])
     }
 }
 
+const MESSAGES: [&[u8]; 4] = [&[0x11, 0x12], &[0x22; 2048], &[], &[0x33]];
+
 #[test]
 fn what_waits_keeps_its_length_and_its_order(rt: HostRuntime) {
     let mut waiting = Waiting::new(rt.alloc());
-    assert_eq!(rt; waiting.len(), 0);
-    wait(&rt, &mut waiting, &[0x11, 0x12]);
-    wait(&rt, &mut waiting, &[0x22; 2048]);
-    wait(&rt, &mut waiting, &[]);
-    wait(&rt, &mut waiting, &[0x33]);
-    assert_eq!(rt; waiting.len(), 4);
-    assert_eq!(rt; waiting.at(0), &[0x11, 0x12][..]);
-    assert_eq!(rt; waiting.at(1), &[0x22; 2048][..]);
-    assert_eq!(rt; waiting.at(2), &[][..]);
-    assert_eq!(rt; waiting.at(3), &[0x33][..]);
+    assert!(rt; waiting.len() == 0);
+    for message in MESSAGES {
+        assert!(rt; message.len() <= 2048);
+        wait(&rt, &mut waiting, message);
+    }
+    assert!(rt; waiting.len() == 4);
+    for (index, message) in MESSAGES.into_iter().enumerate() {
+        let is_kept = index < waiting.len() && waiting.at(index) == message;
+        assert!(rt; is_kept, "message {index}");
+    }
 }
 
 /// The room for the bytes grows more than once, and each message is found behind it.
@@ -268,10 +266,10 @@ fn what_waits_is_found_where_the_room_has_grown(rt: HostRuntime) {
     for count in 0..=255 {
         wait(&rt, &mut waiting, &[count; 100][..usize::from(count % 101)]);
     }
-    assert_eq!(rt; waiting.len(), 256);
+    assert!(rt; waiting.len() == 256);
     for count in 0..=255 {
         let index = usize::from(count);
-        assert!(rt; index < waiting.len());
-        assert_eq!(rt; waiting.at(index), &[count; 100][..index % 101]);
+        let is_kept = index < waiting.len() && waiting.at(index) == &[count; 100][..index % 101];
+        assert!(rt; is_kept, "message {index}");
     }
 }

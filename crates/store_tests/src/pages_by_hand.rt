@@ -52,14 +52,20 @@ fn open_gate<P: Pages>(rt: &impl Abort, pages: P) -> P
     pages
 }
 
-/// Stops unless the page begins with these bytes.
-fn check_page<P: Pages>(rt: &impl Abort, pages: &P, page: u8, front: &[u8])
-    requires on { (P.memory pages.now).on ≡ true }
-    requires page { page < 64 }
+/// Whether the page begins with these bytes.
+fn begins<P: Pages>(pages: &P, page: u8, front: &[u8]) -> bool
+    requires { (P.memory pages.now).on ≡ true }
 {
-    let bytes = pages.read(page);
-    assert!(rt; bytes.starts_with(front), "page {page}: {bytes:?}");
+    page < 64 && pages.read(page).starts_with(front)
 }
+
+/// What pages begin with once the open gate was found.
+const FOUND: [(u8, &[u8]); 4] = [
+    (0, &[0x00; 64]),
+    (1, &[0x00, 0x81, 0x1A, 0x00]),
+    (2, &[0x0B, 0x00]),
+    (3, &[0x1C, 0x1D, 0x00]),
+];
 
 #[test]
 fn an_open_gate_gives_the_home_under_the_journal(rt: HostRuntime) {
@@ -72,10 +78,9 @@ fn an_open_gate_gives_the_home_under_the_journal(rt: HostRuntime) {
     assert!(rt; store.state() == state.as_slice());
     let mut pages = store.into_pages();
     pages.power_up();
-    check_page(&rt, &pages, 0, &[0x00; 64]);
-    check_page(&rt, &pages, 1, &[0x00, 0x81, 0x1A, 0x00]);
-    check_page(&rt, &pages, 2, &[0x0B, 0x00]);
-    check_page(&rt, &pages, 3, &[0x1C, 0x1D, 0x00]);
+    for (page, front) in FOUND {
+        assert!(rt; begins(&pages, page, front), "page {page}");
+    }
 }
 
 /// What the home page of the state 03 03 begins with, and that of the state 07 08 09.
@@ -100,12 +105,12 @@ fn a_cut_commit_leaves_these_bytes(rt: HostRuntime) {
         let at = place_of(number, 5);
         let tear = Tear { commit: 1, at };
         let (pages, commit) = torn_pages(MemoryPages::blank(), &[3, 3], &[7, 8, 9], tear);
-        assert_eq!(rt; commit, 1, "{at:?}");
         let mut pages = pages;
         pages.power_up();
-        check_page(&rt, &pages, 0, &[gate; 64]);
-        check_page(&rt, &pages, 1, &home);
-        check_page(&rt, &pages, 18, &header);
-        check_page(&rt, &pages, 19, &NEW);
+        let are_left = begins(&pages, 0, &[gate; 64])
+            && begins(&pages, 1, &home)
+            && begins(&pages, 18, &header)
+            && begins(&pages, 19, &NEW);
+        assert!(rt; commit == 1 && are_left, "{at:?}");
     }
 }
