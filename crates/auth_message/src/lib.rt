@@ -24,6 +24,3 @@ pub use reply::{Reply, read_reply};
 pub use request::RequestFields;
 pub use reversal::ReversalFields;
 pub use write::{Message, write_presentment, write_reply, write_request, write_reversal};
-
-#[cfg(test)]
-mod tests;

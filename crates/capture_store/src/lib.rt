@@ -16,6 +16,3 @@ pub use laws::{lost_calls_leave_one_of_two, stores_have_room, stores_keep_what_i
 pub use shelf::Shelf;
 pub use stock::prepare;
 pub use waiting::Waiting;
-
-#[cfg(test)]
-mod tests;

@@ -16,6 +16,3 @@ pub use app::{AppImage, RecordImage};
 pub use control::DIRECTORY_NAME;
 pub use fault::ImageFault;
 pub use image::{Image, directory_fci};
-
-#[cfg(test)]
-mod tests;

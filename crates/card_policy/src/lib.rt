@@ -212,6 +212,3 @@ fn unauthenticated(issuer_auth: bool) -> Kind
 {
     if issuer_auth { Kind::Aac } else { Kind::Tc }
 }
-
-#[cfg(test)]
-mod tests;

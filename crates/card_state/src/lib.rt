@@ -15,6 +15,3 @@ pub use decoding::{decode, decode_one};
 pub use encoding::{encode, encode_one, flags};
 pub use state::{AppState, CardState, LogRow};
 pub use upgrade::with_limits;
-
-#[cfg(test)]
-mod tests;

@@ -1,9 +1,6 @@
 //! `emvrun`: terminals, cards and an issuer's host from one document, exchange by exchange.
 #![tactic(auto)]
 
-#[cfg(test)]
-mod tests;
-
 use emv_ports::{StdinSource, StdoutSink};
 use emv_top::run;
 use memory_bank::blank_bank;

@@ -45,6 +45,3 @@ pub fn generated(alloc: Global, count: u32) -> Result<Scenario, AllocError>
         copies: COPIES,
     })
 }
-
-#[cfg(test)]
-mod tests;

@@ -14,6 +14,3 @@ pub use entry::{Entry, EntryState};
 pub use fault::LedgerFault;
 pub use key::Key;
 pub use ledger::Ledger;
-
-#[cfg(test)]
-mod tests;

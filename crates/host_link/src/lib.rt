@@ -6,6 +6,3 @@ mod link;
 
 pub use dialect::{Wire, write_call, write_reply};
 pub use link::deliver;
-
-#[cfg(test)]
-mod tests;

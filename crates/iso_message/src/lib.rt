@@ -19,8 +19,3 @@ pub use fault::IsoFault;
 pub use kind::CallKind;
 pub use read::{read_iso_call, read_iso_reply};
 pub use write::{write_iso_call, write_iso_reply};
-
-#[cfg(test)]
-mod samples;
-#[cfg(test)]
-mod tests;

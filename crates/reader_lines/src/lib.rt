@@ -9,6 +9,3 @@ pub mod number;
 pub use document::{Given, read_given};
 pub use line::{Came, LineText, read_line};
 pub use number::number_of;
-
-#[cfg(test)]
-mod tests;

@@ -11,6 +11,3 @@ pub mod write;
 pub use line::{EndParts, Line, Shown};
 pub use packed::{LineAt, Lines, LinesLeft};
 pub use write::{Text, end_parts, write_line, write_packed};
-
-#[cfg(test)]
-mod tests;

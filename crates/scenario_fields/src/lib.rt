@@ -11,6 +11,3 @@ pub use fault::{Path, ScenarioFault};
 pub use fields::Fields;
 pub use place::{LaneAt, Place};
 pub use spot::{Characters, Spot};
-
-#[cfg(test)]
-mod tests;

@@ -10,6 +10,3 @@ pub mod script;
 pub use length::made_length;
 pub use order::read_order;
 pub use script::{Ordered, Script, Word};
-
-#[cfg(test)]
-mod tests;

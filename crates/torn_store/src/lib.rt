@@ -12,6 +12,3 @@ mod store;
 pub use convert::Convert;
 pub use place::{Place, Written};
 pub use store::{Lost, Settled, Store};
-
-#[cfg(test)]
-mod tests;

@@ -14,6 +14,3 @@ pub use ended::add_end_text;
 pub use entry::{Bytes, Entry};
 pub use read::{Trace, read_trace};
 pub use taking::take;
-
-#[cfg(test)]
-mod tests;

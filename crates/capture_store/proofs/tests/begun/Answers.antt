@@ -1,5 +1,0 @@
-use Rattle.std.proofs.Common.{[], None}
-use Rattle.capture_store.proofs.tests.begun.Goals as goal
-
-pub open-requires-clause-stands : goal.open-requires-clause-stands
-open-requires-clause-stands g c = ([], None, c.prepare.ensures.stands)
