@@ -356,7 +356,8 @@ fn stands(state: &CardState, wanted: [Counts; 2], blocked: bool) -> bool {
 
 #[test]
 fn totals_are_those_worked_out_by_hand(rt: HostRuntime) {
-    for (number, (decisions, want)) in HISTORIES.into_iter().enumerate() {
+    for (number, row) in HISTORIES.iter().enumerate() {
+        let (decisions, want) = *row;
         let mut state = opening();
         for decision in decisions {
             take(&rt, &mut state, 0, decision);
@@ -377,7 +378,8 @@ const STEERINGS: [(u8, u8, bool, bool); 5] = [
 
 #[test]
 fn a_steering_does_what_its_bits_say(rt: HostRuntime) {
-    for (byte, tries, blocked, card) in STEERINGS {
+    for row in &STEERINGS {
+        let (byte, tries, blocked, card) = *row;
         let steered = Some(Steered {
             status: [0xFF, byte, 0xFF, 0xFF],
             limit: 5,

@@ -25,12 +25,14 @@ const CHARACTERS: [(u8, bool); 4] = [(0x1f, false), (0x20, true), (0x7e, true), 
 #[test]
 fn keeps_to_the_limits_of_texts(rt: HostRuntime) {
     let bytes = [0x41; 260];
-    for (size, name, label, afl) in LENGTHS {
+    for row in &LENGTHS {
+        let (size, name, label, afl) = *row;
         let text = &bytes[..size];
         let is_kept = is_name(text) == name && is_label(text) == label && is_afl(text) == afl;
         assert!(rt; is_kept, "at {size}");
     }
-    for (character, is) in CHARACTERS {
+    for row in &CHARACTERS {
+        let (character, is) = *row;
         assert!(rt; is_label(&[0x41, character]) == is, "at {character}");
     }
 }
@@ -55,11 +57,13 @@ const SECOND_CODES: [(Option<[u8; 2]>, bool); 4] = [
 
 #[test]
 fn keeps_to_the_limits_of_numbers(rt: HostRuntime) {
-    for (number, format, tries) in NUMBERS {
+    for row in &NUMBERS {
+        let (number, format, tries) = *row;
         let is_kept = is_format(number) == format && is_tries(number) == tries;
         assert!(rt; is_kept, "at {number}");
     }
-    for (code, is) in SECOND_CODES {
+    for row in &SECOND_CODES {
+        let (code, is) = *row;
         assert!(rt; is_second_code([0x08, 0x40], code) == is, "{code:?}");
     }
     assert!(rt; is_sum_limit(999_999_999_999) && !is_sum_limit(1_000_000_000_000));
@@ -80,7 +84,8 @@ const BLOCKS: [([u8; 8], bool); 8] = [
 
 #[test]
 fn tells_a_reference_pin(rt: HostRuntime) {
-    for (block, is) in BLOCKS {
+    for row in &BLOCKS {
+        let (block, is) = *row;
         assert!(rt; is_reference_pin(block) == is, "at {block:?}");
     }
 }
@@ -106,18 +111,20 @@ const FIXED: [usize; 16] = [1, 2, 4, 5, 7, 8, 9, 10, 12, 13, 14, 15, 16, 17, 19,
 
 #[test]
 fn keeps_to_the_limits_of_lists(rt: HostRuntime) {
-    for (bytes, pdol, cdol2) in LISTS {
+    for row in &LISTS {
+        let (bytes, pdol, cdol2) = *row;
         let is_kept = is_pdol(bytes) == pdol && is_cdol2(bytes) == cdol2;
         assert!(rt; is_kept, "{bytes:?}");
     }
-    for (bytes, is) in SECOND_LISTS {
+    for row in &SECOND_LISTS {
+        let (bytes, is) = *row;
         assert!(rt; is_cdol2(bytes) == is, "{bytes:?}");
     }
     assert!(rt; is_cdol1(&CDOL1));
-    for place in FIXED {
+    for place in &FIXED {
         let mut other = CDOL1;
-        assert!(rt; place < 21);
-        other[place] += 1;
+        assert!(rt; *place < 21);
+        other[*place] += 1;
         assert!(rt; !is_cdol1(&other), "at {place}");
     }
 }
@@ -163,12 +170,14 @@ const LOGS: [(u8, u8, bool); 6] = [
 #[test]
 fn keeps_to_the_limits_of_records(rt: HostRuntime) -> Result<(), Fail> {
     let alloc = rt.alloc();
-    for (sfi, number, size, is) in RECORDS {
+    for row in &RECORDS {
+        let (sfi, number, size, is) = *row;
         let image = record_of(alloc, sfi, number, size)?;
         assert!(rt; are_records(&[image]) == is, "at {sfi} {number} {size}");
     }
     let images = [record_of(alloc, 11, 1, 1)?];
-    for (log, sfi, is) in LOGS {
+    for row in &LOGS {
+        let (log, sfi, is) = *row;
         assert!(rt; is_log_file(log, sfi, &images) == is, "at {log} {sfi}");
     }
     Ok(())

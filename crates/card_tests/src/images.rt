@@ -1,7 +1,7 @@
 //! The images of applications.
 use arrayvec::ArrayVec;
 use card_files::{AppImage, DIRECTORY_NAME, Image, ImageFault, RecordImage, directory_fci};
-use card_state::{AppState, CardState, LogRow};
+use card_state::{AppState, CardState};
 use emv_dict::{Digits, Name};
 use std::alloc::Global;
 use std::process::Abort;
@@ -18,11 +18,11 @@ pub const CDOL1: [u8; 21] = [
     0x9c, 0x01, 0x9f, 0x37, 0x04,
 ];
 
-const PAN: [u8; 16] = [4, 7, 6, 1, 7, 3, 9, 0, 0, 1, 0, 1, 0, 0, 1, 0];
+pub const PAN: [u8; 16] = [4, 7, 6, 1, 7, 3, 9, 0, 0, 1, 0, 1, 0, 0, 1, 0];
 
 pub const PIN_1234: [u8; 8] = [0x24, 0x12, 0x34, 0xff, 0xff, 0xff, 0xff, 0xff];
 
-fn name_of(rt: &impl Abort, bytes: &[u8]) -> Name {
+pub fn name_of(rt: &impl Abort, bytes: &[u8]) -> Name {
     Name::new(bytes).expect(rt, "a name")
 }
 
@@ -47,11 +47,11 @@ fn opening() -> AppState {
 }
 
 /// An application with records 1 and 2 of file 1 and record 1 of file 2.
-fn app_of(rt: &impl Abort, alloc: Global) -> Result<AppImage, Fail> {
+pub fn app_of(rt: &impl Abort, alloc: Global) -> Result<AppImage, Fail> {
     let mut records = Vec::new(alloc);
-    records.push(record_of(alloc, 1, 1, 1)?)?;
-    records.push(record_of(alloc, 1, 2, 2)?)?;
-    records.push(record_of(alloc, 2, 1, 256)?)?;
+    for row in &[(1, 1, 1), (1, 2, 2), (2, 1, 256)] {
+        records.push(record_of(alloc, row.0, row.1, row.2)?)?;
+    }
     Ok(AppImage {
         name: name_of(rt, &NAME),
         label: LABEL.to_vec(alloc)?,
@@ -79,7 +79,7 @@ fn app_of(rt: &impl Abort, alloc: Global) -> Result<AppImage, Fail> {
     })
 }
 
-fn image_of(alloc: Global, app: AppImage) -> Result<Result<Image, ImageFault>, Fail> {
+pub fn image_of(alloc: Global, app: AppImage) -> Result<Result<Image, ImageFault>, Fail> {
     let mut apps = Vec::new(alloc);
     apps.push(app)?;
     Ok(Image::new(apps, 2, None))
@@ -124,33 +124,60 @@ const WITH_LOG: [u8; 32] = [
 
 /// How an application differs from the one above.
 #[derive(Clone, Copy)]
-enum Change {
-    Nothing,
-    EmptyList,
-    NoPriority,
-    Log,
-    /// The longest name, label and object list.
-    Long,
-    LongWithLog,
-    /// An object list that is a byte shorter, and a log.
-    LessLongWithLog,
+struct Change {
+    /// Whether its name and its label are the longest.
+    long: bool,
+    /// Of its object list: how many entries 9A 02 of two bytes, and what is behind them.
+    list: Option<(u8, &'static [u8])>,
+    priority: Option<u8>,
+    /// The rows of its log.
+    rows: u8,
 }
+
+const NOTHING: Change = Change {
+    long: false,
+    list: None,
+    priority: Some(1),
+    rows: 0,
+};
+
+const EMPTY_LIST: Change = Change {
+    list: Some((0, &[])),
+    ..NOTHING
+};
+
+const NO_PRIORITY: Change = Change {
+    priority: None,
+    ..NOTHING
+};
+
+const LOG: Change = Change { rows: 5, ..NOTHING };
+
+/// The longest name, label and object list.
+const LONG: Change = Change {
+    long: true,
+    list: Some((100, &[])),
+    ..NOTHING
+};
+
+const LONG_WITH_LOG: Change = Change { rows: 10, ..LONG };
+
+/// An object list that is a byte shorter, and a log.
+const LESS_LONG_WITH_LOG: Change = Change {
+    list: Some((98, &[0x9f, 0x02, 0x06])),
+    ..LONG_WITH_LOG
+};
 
 /// An application's control information: its length, its first and its last bytes. A log has just so room
 /// beside an object list of 199 bytes.
 const CONTROLS: [(Change, usize, &[u8], &[u8]); 6] = [
-    (Change::Nothing, 24, &CONTROL, &[]),
-    (Change::EmptyList, 27, &WITH_LIST, &[]),
-    (Change::NoPriority, 21, &WITHOUT_PRIORITY, &[]),
-    (Change::Log, 32, &WITH_LOG, &[]),
+    (NOTHING, 24, &CONTROL, &[]),
+    (EMPTY_LIST, 27, &WITH_LIST, &[]),
+    (NO_PRIORITY, 21, &WITHOUT_PRIORITY, &[]),
+    (LOG, 32, &WITH_LOG, &[]),
+    (LONG, 249, &[0x6f, 0x81, 0xf6, 0x84, 0x10], &[0x9a, 0x02]),
     (
-        Change::Long,
-        249,
-        &[0x6f, 0x81, 0xf6, 0x84, 0x10],
-        &[0x9a, 0x02],
-    ),
-    (
-        Change::LessLongWithLog,
+        LESS_LONG_WITH_LOG,
         256,
         &[],
         &[0xbf, 0x0c, 0x05, 0x9f, 0x4d, 0x02, 0x0b, 0x0a],
@@ -172,37 +199,19 @@ pub fn long_list(alloc: Global) -> Result<Vec<u8>, Fail> {
     list_of(alloc, 100, &[])
 }
 
-/// Gives the application a log of so many rows.
-fn log_rows(app: &mut AppImage, rows: u8) {
-    app.log = rows;
-    app.opening.log_max = rows;
-}
-
-/// An application with the longest name and label, this object list and a log of so many rows.
-fn long_app(rt: &impl Abort, alloc: Global, list: Vec<u8>, rows: u8) -> Result<AppImage, Fail> {
-    let mut app = app_of(rt, alloc)?;
-    app.name = name_of(rt, &[0xa0; 16]);
-    app.label = vec![in alloc; 0x41; 16]?;
-    app.pdol = Some(list);
-    log_rows(&mut app, rows);
-    Ok(app)
-}
-
 /// The application with this change.
 fn changed(rt: &impl Abort, alloc: Global, change: Change) -> Result<AppImage, Fail> {
     let mut app = app_of(rt, alloc)?;
-    match change {
-        Change::Nothing => {}
-        Change::EmptyList => app.pdol = Some(Vec::new(alloc)),
-        Change::NoPriority => app.priority = None,
-        Change::Log => log_rows(&mut app, 5),
-        Change::Long => return long_app(rt, alloc, long_list(alloc)?, 0),
-        Change::LongWithLog => return long_app(rt, alloc, long_list(alloc)?, 10),
-        Change::LessLongWithLog => {
-            let list = list_of(alloc, 98, &[0x9f, 0x02, 0x06])?;
-            return long_app(rt, alloc, list, 10);
-        }
+    if change.long {
+        app.name = name_of(rt, &[0xa0; 16]);
+        app.label = vec![in alloc; 0x41; 16]?;
     }
+    if let Some((entries, more)) = change.list {
+        app.pdol = Some(list_of(alloc, entries, more)?);
+    }
+    app.priority = change.priority;
+    app.log = change.rows;
+    app.opening.log_max = change.rows;
     Ok(app)
 }
 
@@ -210,71 +219,25 @@ fn changed(rt: &impl Abort, alloc: Global, change: Change) -> Result<AppImage, F
 fn gives_control_information(rt: HostRuntime) -> Result<(), Fail> {
     let alloc = rt.alloc();
     let mut out = ArrayVec::new();
-    for (change, length, front, back) in CONTROLS {
+    for row in &CONTROLS {
+        let (change, length, front, back) = *row;
         control_of(&rt, alloc, changed(&rt, alloc, change)?, &mut out)?;
         let bytes = out.as_slice();
         let is_given = bytes.len() == length && bytes.starts_with(front) && bytes.ends_with(back);
         assert!(rt; is_given, "{length}");
     }
-    // A log has no room beside the longest list.
-    let app = changed(&rt, alloc, Change::LongWithLog)?;
-    assert!(rt; is_field(image_of(alloc, app)?, 0, "log"));
     Ok(())
 }
 
-/// The keys that have a rule, in their order.
-const KEYS: [&str; 20] = [
-    "name",
-    "label",
-    "pdol",
-    "afl",
-    "gpo_format",
-    "ac_format",
-    "cdol1",
-    "cdol2",
-    "record",
-    "pan",
-    "sequence",
-    "currency",
-    "sum_limit",
-    "pin",
-    "tries",
-    "currency_two",
-    "limit_two",
-    "log",
-    "log_sfi",
-    "opening",
-];
-
-/// Puts a value against its rule at the key.
-fn spoil(rt: &impl Abort, alloc: Global, app: &mut AppImage, key: &str) -> Result<(), Fail> {
-    match key {
-        "name" => app.name = name_of(rt, &[0xa0; 4]),
-        "label" => app.label = Vec::new(alloc),
-        "pdol" => app.pdol = Some([0x9f].to_vec(alloc)?),
-        "afl" => app.afl = vec![in alloc; 0; 249]?,
-        "gpo_format" => app.gpo_format = 0,
-        "ac_format" => app.ac_format = 3,
-        "cdol1" => app.cdol1 = [0x8a, 0x02].to_vec(alloc)?,
-        "cdol2" => app.cdol2 = CDOL1.to_vec(alloc)?,
-        "record" => app.records.push(record_of(alloc, 1, 2, 1)?)?,
-        "pan" => app.pan = Digits::new(&PAN[..12]).expect(rt, "digits"),
-        "sequence" => app.sequence = 0x1a,
-        "currency" => app.currency = [0x18, 0x40],
-        "sum_limit" => app.opening.sum_limit = 1_000_000_000_000,
-        "pin" => app.opening.pin = [0x00, 0, 0, 0, 0, 0, 0, 1],
-        "tries" => app.tries = 16,
-        "currency_two" => app.currency_two = Some(app.currency),
-        "limit_two" => app.limit_two = 1_000_000_000_000,
-        "log" => app.log = 11,
-        "log_sfi" => app.log_sfi = 31,
-        _ => app.opening.count = 1,
-    }
+#[test]
+fn a_log_has_no_room_beside_the_longest_list(rt: HostRuntime) -> Result<(), Fail> {
+    let app = changed(&rt, rt.alloc(), LONG_WITH_LOG)?;
+    assert!(rt; is_field(image_of(rt.alloc(), app)?, 0, "log"));
     Ok(())
 }
 
 /// Whether the answer is this key of the application of this number.
-fn is_field(answer: Result<Image, ImageFault>, number: u8, name: &str) -> bool {
+pub fn is_field(answer: Result<Image, ImageFault>, number: u8, name: &str) -> bool {
     match answer {
         Ok(_image) => false,
         Err(fault) => is_key(&fault, number, name),
@@ -288,44 +251,8 @@ fn is_key(fault: &ImageFault, number: u8, name: &str) -> bool {
     }
 }
 
-/// Puts a value against its rule into the opening state, by its number, or beside it.
-fn spoil_opening(rt: &impl Abort, app: &mut AppImage, number: u8) {
-    match number {
-        0 => app.opening.count = 1,
-        1 => app.opening.sum = 1,
-        2 => app.opening.auth_failed = true,
-        3 => app.opening.tries = 2,
-        4 => app.opening.sum_two = 1,
-        5 => app.opening.limit_two = 1,
-        6 => app.opening.log_max = 1,
-        7 => assert!(rt; app.opening.log.try_push(LogRow::default()).is_ok()),
-        _ => app.tries = 4,
-    }
-}
-
-#[test]
-fn names_the_first_key(rt: HostRuntime) -> Result<(), Fail> {
-    let alloc = rt.alloc();
-    for k in 0..KEYS.len() {
-        let mut app = app_of(&rt, alloc)?;
-        for key in &KEYS[k..] {
-            spoil(&rt, alloc, &mut app, key)?;
-        }
-        assert!(rt; is_field(image_of(alloc, app)?, 0, KEYS[k]), "at {k}");
-    }
-    for number in 0..9 {
-        let mut app = app_of(&rt, alloc)?;
-        spoil_opening(&rt, &mut app, number);
-        assert!(rt;
-            is_field(image_of(alloc, app)?, 0, "opening"),
-            "at {number}"
-        );
-    }
-    Ok(())
-}
-
 /// Applications with these names' last bytes.
-fn apps_of(rt: &impl Abort, alloc: Global, ends: &[u8]) -> Result<Vec<AppImage>, Fail> {
+pub fn apps_of(rt: &impl Abort, alloc: Global, ends: &[u8]) -> Result<Vec<AppImage>, Fail> {
     let mut apps = Vec::new(alloc);
     for end in ends {
         let mut app = app_of(rt, alloc)?;
@@ -333,41 +260,6 @@ fn apps_of(rt: &impl Abort, alloc: Global, ends: &[u8]) -> Result<Vec<AppImage>,
         apps.push(app)?;
     }
     Ok(apps)
-}
-
-/// An answer in a word, with the number that it names.
-fn told(answer: Result<Image, ImageFault>) -> (&'static str, usize) {
-    match answer {
-        Ok(_image) => ("an image", 0),
-        Err(ImageFault::Count(count)) => ("count", count),
-        Err(ImageFault::SameName { app }) => ("same name", usize::from(app)),
-        Err(_) => ("another", 0),
-    }
-}
-
-/// The last bytes of the names of a card's applications, and what becomes of it.
-const NAMES: [(&[u8], &str, usize); 6] = [
-    (&[], "count", 0),
-    (&[1, 2, 3, 4], "an image", 0),
-    (&[1, 2, 3, 4, 5], "count", 5),
-    (&[1, 1], "same name", 1),
-    (&[1, 2, 3, 2], "same name", 3),
-    (&[1, 2, 2, 1], "same name", 2),
-];
-
-#[test]
-fn counts_applications_and_compares_names(rt: HostRuntime) -> Result<(), Fail> {
-    let alloc = rt.alloc();
-    for (ends, word, number) in NAMES {
-        let (found, of) = told(Image::new(apps_of(&rt, alloc, ends)?, 1, Some(10)));
-        assert!(rt; found == word && of == number, "{ends:?}");
-    }
-    // The key of a later application comes before the second name of an earlier one.
-    let mut apps = apps_of(&rt, alloc, &[1, 1, 2])?;
-    assert!(rt; apps.len() == 3);
-    apps[2].tries = 99;
-    assert!(rt; is_field(Image::new(apps, 1, Some(1)), 2, "tries"));
-    Ok(())
 }
 
 /// The control information of a directory in file 1.
@@ -411,7 +303,8 @@ const HIDDEN: [(u8, Option<u8>, bool); 3] = [
 /// No application has the directory's name, or one that begins with it, behind all other faults.
 #[test]
 fn no_application_is_hidden_by_the_directory(rt: HostRuntime) -> Result<(), Fail> {
-    for (end, directory, is_hidden) in HIDDEN {
+    for row in &HIDDEN {
+        let (end, directory, is_hidden) = *row;
         let mut apps = apps_of(&rt, rt.alloc(), &[1, 2])?;
         assert!(rt; apps.len() == 2);
         let mut name = [0; 15];
@@ -444,21 +337,33 @@ const FILES: [(u8, u8, bool); 5] = [
     (9, 1, false),
 ];
 
-#[test]
-fn finds_records_and_opens(rt: HostRuntime) -> Result<(), Fail> {
-    let alloc = rt.alloc();
-    let mut apps = apps_of(&rt, alloc, &[1, 2])?;
+/// Two applications, of which the second one has no records and another counter.
+fn two_apps(rt: &impl Abort, alloc: Global) -> Result<Image, Fail> {
+    let mut apps = apps_of(rt, alloc, &[1, 2])?;
     assert!(rt; apps.len() == 2);
     apps[1].records = Vec::new(alloc);
     apps[1].opening.counter = 77;
-    let image = Image::new(apps, 2, None).expect(&rt, "an image");
-    for (app, sfi, number, size) in RECORDS {
+    Ok(Image::new(apps, 2, None).expect(rt, "an image"))
+}
+
+#[test]
+fn finds_records(rt: HostRuntime) -> Result<(), Fail> {
+    let image = two_apps(&rt, rt.alloc())?;
+    for row in &RECORDS {
+        let (app, sfi, number, size) = *row;
         let found = image.record(app, sfi, number).map(|bytes| bytes.len());
         assert!(rt; found == size, "{app} {sfi} {number}");
     }
-    for (app, sfi, is_there) in FILES {
+    for row in &FILES {
+        let (app, sfi, is_there) = *row;
         assert!(rt; image.has_file(app, sfi) == is_there, "{app} {sfi}");
     }
+    Ok(())
+}
+
+#[test]
+fn opens_each_application(rt: HostRuntime) -> Result<(), Fail> {
+    let image = two_apps(&rt, rt.alloc())?;
     let mut state = CardState::default();
     state.blocked = true;
     state.apps.push(AppState::default());

@@ -5,6 +5,8 @@
 #[cfg(test)]
 mod decisions;
 #[cfg(test)]
+mod image_faults;
+#[cfg(test)]
 mod image_limits;
 #[cfg(test)]
 mod images;

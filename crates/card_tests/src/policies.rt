@@ -135,8 +135,8 @@ const FIRSTS: [(Kind, Counts, bool, Which, u64, Kind); 16] = [
 
 #[test]
 fn first_cryptograms_by_the_policy(rt: HostRuntime) {
-    for (number, row) in FIRSTS.into_iter().enumerate() {
-        let (asked, counts, blocked, which, amount, wanted) = row;
+    for (number, row) in FIRSTS.iter().enumerate() {
+        let (asked, counts, blocked, which, amount, wanted) = *row;
         let made = first(asked, &state_of(counts), blocked, which, amount);
         assert!(rt; made == wanted, "row {number}");
     }
@@ -323,8 +323,8 @@ const SECONDS: [(Kind, Counts, bool, u64, Auth, [u8; 2], bool, (Kind, How)); 17]
 
 #[test]
 fn second_cryptograms_by_the_policy(rt: HostRuntime) {
-    for (number, row) in SECONDS.into_iter().enumerate() {
-        let (asked, counts, blocked, amount, auth, code, issuer_auth, wanted) = row;
+    for (number, row) in SECONDS.iter().enumerate() {
+        let (asked, counts, blocked, amount, auth, code, issuer_auth, wanted) = *row;
         let online = OnlineResult {
             auth,
             code,
@@ -345,7 +345,8 @@ const OTHER_CURRENCIES: [(Which, u64, Kind); 3] = [
 
 #[test]
 fn second_cryptograms_in_other_currencies(rt: HostRuntime) {
-    for (which, amount, wanted) in OTHER_CURRENCIES {
+    for row in &OTHER_CURRENCIES {
+        let (which, amount, wanted) = *row;
         let online = OnlineResult {
             auth: Auth::Absent,
             code: *b"Y3",

@@ -92,7 +92,8 @@ fn other_bytes_are_no_state(rt: HostRuntime) {
     for bytes in [&LOGGED[..66], &longer, &BLOCKED[..34], &[1, 0]] {
         assert!(rt; decode(bytes).is_none(), "{bytes:?}");
     }
-    for (place, byte) in WRONG {
+    for row in &WRONG {
+        let (place, byte) = *row;
         let mut wrong = LOGGED;
         assert!(rt; place < 67);
         wrong[place] = byte;

@@ -1,4 +1,5 @@
 //! Reading a scenario's keys.
+use crate::facts::agree;
 use scenario_fields::place::{item_text, path_text};
 use scenario_fields::{Characters, Fields, LaneAt, Path, Place, ScenarioFault};
 use std::alloc::Global;
@@ -37,11 +38,13 @@ const PLACES_OF_ONE: [(Place, &str, &str); 2] = [
 
 #[test]
 fn a_path_names_each_table_with_its_index(rt: HostRuntime) -> Result<(), Fail> {
-    for (place, wanted) in PLACES {
+    for row in &PLACES {
+        let (place, wanted) = *row;
         let text = path_text(rt.alloc(), place, "copies")?;
         assert!(rt; text.as_str() == wanted, "{wanted}");
     }
-    for (place, key, wanted) in PLACES_OF_ONE {
+    for row in &PLACES_OF_ONE {
+        let (place, key, wanted) = *row;
         let text = path_text(rt.alloc(), place, key)?;
         assert!(rt; text.as_str() == wanted, "{wanted}");
     }
@@ -83,20 +86,21 @@ fn format(fields: &Fields) -> Result<u64, ScenarioFault> {
 fn reads_numbers_and_flags(rt: HostRuntime) {
     let table = document(rt.alloc(), "n = 99\nb = true\na = [7]\n").expect(&rt, "a document");
     let fields = fields(rt.alloc(), &table);
-    for (name, is) in [
-        ("number", fields.number("n", 0, 99).ok() == Some(99)),
-        ("number_or", fields.number_or(5, "m", 0, 99).ok() == Some(5)),
-        (
-            "optional_number",
-            fields.optional_number("n", 99, 99).ok() == Some(Some(99)),
-        ),
-        ("listed_or", format(&fields).ok() == Some(1)),
-        ("flag_or", fields.flag_or(false, "b").ok() == Some(true)),
-        ("absent", fields.absent("m").is_ok()),
-        ("not absent", fields.absent("a").is_err()),
-    ] {
-        assert!(rt; is, "{name}");
-    }
+    agree(
+        &rt,
+        &[
+            ("number", fields.number("n", 0, 99).ok() == Some(99)),
+            ("number_or", fields.number_or(5, "m", 0, 99).ok() == Some(5)),
+            (
+                "optional_number",
+                fields.optional_number("n", 99, 99).ok() == Some(Some(99)),
+            ),
+            ("listed_or", format(&fields).ok() == Some(1)),
+            ("flag_or", fields.flag_or(false, "b").ok() == Some(true)),
+            ("absent", fields.absent("m").is_ok()),
+            ("not absent", fields.absent("a").is_err()),
+        ],
+    );
 }
 
 #[test]
@@ -105,20 +109,21 @@ fn reads_texts(rt: HostRuntime) {
     let fields = fields(rt.alloc(), &table);
     let kind = Characters::LowercaseOrDigit;
     let owned = fields.owned_text("t", kind, 3, 9).expect(&rt, "t");
-    for (name, is) in [
-        ("str_at", fields.str_at("t").ok() == Some("ab1")),
-        (
-            "text",
-            fields.text("t", kind, 1, 3).ok() == Some(b"ab1".as_slice()),
-        ),
-        (
-            "text_array",
-            fields.text_array::<3>("t", kind).ok() == Some(*b"ab1"),
-        ),
-        ("owned_text", owned.as_slice() == b"ab1".as_slice()),
-    ] {
-        assert!(rt; is, "{name}");
-    }
+    agree(
+        &rt,
+        &[
+            ("str_at", fields.str_at("t").ok() == Some("ab1")),
+            (
+                "text",
+                fields.text("t", kind, 1, 3).ok() == Some(b"ab1".as_slice()),
+            ),
+            (
+                "text_array",
+                fields.text_array::<3>("t", kind).ok() == Some(*b"ab1"),
+            ),
+            ("owned_text", owned.as_slice() == b"ab1".as_slice()),
+        ],
+    );
 }
 
 #[test]
@@ -128,23 +133,24 @@ fn reads_digits(rt: HostRuntime) {
     let fields = fields(rt.alloc(), &table);
     let pan = fields.digits("pan", 4, 4).expect(&rt, "pan");
     let pin = fields.optional_digits("pin", 4, 4).expect(&rt, "pin");
-    for (name, is) in [
-        ("digits", pan.as_slice() == [1, 2, 3, 4].as_slice()),
-        ("optional_digits", pin.is_none()),
-        ("code", fields.code("c").ok() == Some([0x08, 0x40])),
-        (
-            "optional_code",
-            fields.optional_code("c").ok() == Some(Some([0x08, 0x40])),
-        ),
-        ("no code", fields.optional_code("e").ok() == Some(None)),
-        ("day", fields.day("d").ok() == Some([0x24, 0x06, 0x15])),
-        (
-            "six_digits_or",
-            fields.six_digits_or([0, 0, 0], "time").ok() == Some([0, 0, 0]),
-        ),
-    ] {
-        assert!(rt; is, "{name}");
-    }
+    agree(
+        &rt,
+        &[
+            ("digits", pan.as_slice() == [1, 2, 3, 4].as_slice()),
+            ("optional_digits", pin.is_none()),
+            ("code", fields.code("c").ok() == Some([0x08, 0x40])),
+            (
+                "optional_code",
+                fields.optional_code("c").ok() == Some(Some([0x08, 0x40])),
+            ),
+            ("no code", fields.optional_code("e").ok() == Some(None)),
+            ("day", fields.day("d").ok() == Some([0x24, 0x06, 0x15])),
+            (
+                "six_digits_or",
+                fields.six_digits_or([0, 0, 0], "time").ok() == Some([0, 0, 0]),
+            ),
+        ],
+    );
 }
 
 #[test]
@@ -154,28 +160,29 @@ fn reads_bytes(rt: HostRuntime) {
     let wanted = [0x0A, 0xFF];
     let bytes = fields.bytes("h", 0, 2).expect(&rt, "h");
     let few = fields.few_bytes::<2>("h", 2).expect(&rt, "h");
-    for (name, is) in [
-        ("bytes", bytes.as_slice() == wanted.as_slice()),
-        ("few_bytes", few.as_slice() == wanted.as_slice()),
-        (
-            "byte_array",
-            fields.byte_array::<2>("h").ok() == Some(wanted),
-        ),
-        (
-            "optional_byte_array",
-            fields.optional_byte_array::<2>("g").ok() == Some(None),
-        ),
-        (
-            "optional_bytes",
-            matches!(fields.optional_bytes("h", 1, 2), Ok(Some(_))),
-        ),
-        (
-            "optional",
-            fields.optional("h").is_some() && fields.required("h").is_ok(),
-        ),
-    ] {
-        assert!(rt; is, "{name}");
-    }
+    agree(
+        &rt,
+        &[
+            ("bytes", bytes.as_slice() == wanted.as_slice()),
+            ("few_bytes", few.as_slice() == wanted.as_slice()),
+            (
+                "byte_array",
+                fields.byte_array::<2>("h").ok() == Some(wanted),
+            ),
+            (
+                "optional_byte_array",
+                fields.optional_byte_array::<2>("g").ok() == Some(None),
+            ),
+            (
+                "optional_bytes",
+                matches!(fields.optional_bytes("h", 1, 2), Ok(Some(_))),
+            ),
+            (
+                "optional",
+                fields.optional("h").is_some() && fields.required("h").is_ok(),
+            ),
+        ],
+    );
 }
 
 #[test]
@@ -189,19 +196,20 @@ fn reads_arrays_and_tables(rt: HostRuntime) {
     let last = digits.last().expect(&rt, "digits");
     let inner = fields.inner("t", Place::Issuer).expect(&rt, "t");
     let absent = fields.optional_inner("s", Place::Issuer).expect(&rt, "s");
-    for (name, is) in [
-        ("array", array.len() == 2),
-        ("array_or_none", none.is_empty()),
-        (
-            "digits_list",
-            digits.len() == 2 && last.as_slice() == [3, 4, 5].as_slice(),
-        ),
-        ("inner", inner.table.len() == 1),
-        ("optional_inner", absent.is_none()),
-        ("only", fields.only(&["a", "t"]).is_ok()),
-    ] {
-        assert!(rt; is, "{name}");
-    }
+    agree(
+        &rt,
+        &[
+            ("array", array.len() == 2),
+            ("array_or_none", none.is_empty()),
+            (
+                "digits_list",
+                digits.len() == 2 && last.as_slice() == [3, 4, 5].as_slice(),
+            ),
+            ("inner", inner.table.len() == 1),
+            ("optional_inner", absent.is_none()),
+            ("only", fields.only(&["a", "t"]).is_ok()),
+        ],
+    );
 }
 
 /// A document, and the fault at its key `k`.
@@ -243,7 +251,8 @@ fn is_refused<X: Drop>(alloc: Global, read: Result<X, ScenarioFault>, fault: &st
 
 #[test]
 fn tells_the_first_rule_of_a_text(rt: HostRuntime) {
-    for (text, fault) in TEXT_FAULTS {
+    for row in &TEXT_FAULTS {
+        let (text, fault) = *row;
         let table = document(rt.alloc(), text).expect(&rt, "a document");
         let read = fields(rt.alloc(), &table).text("k", Characters::LowercaseOrDigit, 1, 4);
         assert!(rt; is_refused(rt.alloc(), read, fault), "{text}");
@@ -252,7 +261,8 @@ fn tells_the_first_rule_of_a_text(rt: HostRuntime) {
 
 #[test]
 fn tells_the_first_rule_of_bytes(rt: HostRuntime) {
-    for (text, fault) in BYTE_FAULTS {
+    for row in &BYTE_FAULTS {
+        let (text, fault) = *row;
         let table = document(rt.alloc(), text).expect(&rt, "a document");
         let read = fields(rt.alloc(), &table).bytes("k", 1, 2);
         assert!(rt; is_refused(rt.alloc(), read, fault), "{text}");
@@ -261,7 +271,8 @@ fn tells_the_first_rule_of_bytes(rt: HostRuntime) {
 
 #[test]
 fn tells_the_first_rule_of_a_number(rt: HostRuntime) {
-    for (text, fault) in NUMBER_FAULTS {
+    for row in &NUMBER_FAULTS {
+        let (text, fault) = *row;
         let table = document(rt.alloc(), text).expect(&rt, "a document");
         let read = fields(rt.alloc(), &table).number("k", 1, 3);
         assert!(rt; is_refused(rt.alloc(), read, fault), "{text}");
@@ -277,15 +288,16 @@ fn tells_items_and_unknown_keys(rt: HostRuntime) {
     let name: Result<(), ScenarioFault> = Err(fields.spot("k").unknown_name());
     let item = fields.digits_list("k", 2, 1, 2);
     let many = fields.digits_list("k", 1, 1, 2);
-    for (fault, is) in [
-        ("item", is_refused(alloc, item, "3 BadValue issuer.k[1]")),
-        (
-            "least",
-            is_refused(alloc, fields.only(&["k"]), "5 UnknownKey issuer.y"),
-        ),
-        ("many", is_refused(alloc, many, "4 OutOfLimit issuer.k")),
-        ("name", is_refused(alloc, name, "6 UnknownName issuer.k")),
-    ] {
-        assert!(rt; is, "{fault}");
-    }
+    agree(
+        &rt,
+        &[
+            ("item", is_refused(alloc, item, "3 BadValue issuer.k[1]")),
+            (
+                "least",
+                is_refused(alloc, fields.only(&["k"]), "5 UnknownKey issuer.y"),
+            ),
+            ("many", is_refused(alloc, many, "4 OutOfLimit issuer.k")),
+            ("name", is_refused(alloc, name, "6 UnknownName issuer.k")),
+        ],
+    );
 }

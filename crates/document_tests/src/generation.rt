@@ -1,4 +1,5 @@
 //! A generated scenario.
+use crate::facts::agree;
 use card_files::Image;
 use emv_ports::{Tear, TearAt};
 use generated::generated;
@@ -37,20 +38,21 @@ fn image<'a>(rt: &impl Abort, scenario: &'a Scenario, number: usize) -> &'a Imag
 fn first_purchase_of_one(rt: HostRuntime) -> Result<(), Fail> {
     let scenario = generated(rt.alloc(), 1)?;
     let planned = purchase(&rt, &scenario, 0, 0);
-    for (name, is) in [
-        ("amount", planned.purchase.amount == 4_390),
-        (
-            "number",
-            planned.purchase.number == [0x41, 0xc6, 0x7e, 0xa6],
-        ),
-        ("word", planned.purchase.word == 0x41c6),
-        ("pins", planned.purchase.pins.len() == 1),
-        ("card", planned.card == 0),
-        ("link", planned.link == Link::Sound),
-        ("tear", planned.tear.is_none()),
-    ] {
-        assert!(rt; is, "{name}");
-    }
+    agree(
+        &rt,
+        &[
+            ("amount", planned.purchase.amount == 4_390),
+            (
+                "number",
+                planned.purchase.number == [0x41, 0xc6, 0x7e, 0xa6],
+            ),
+            ("word", planned.purchase.word == 0x41c6),
+            ("pins", planned.purchase.pins.len() == 1),
+            ("card", planned.card == 0),
+            ("link", planned.link == Link::Sound),
+            ("tear", planned.tear.is_none()),
+        ],
+    );
     Ok(())
 }
 
@@ -61,7 +63,8 @@ const OF_A_HUNDRED: [(usize, usize, usize); 4] = [(0, 2, 1), (1, 2, 1), (2, 1, 0
 #[test]
 fn lost_replies_and_tears_of_a_hundred(rt: HostRuntime) -> Result<(), Fail> {
     let scenario = generated(rt.alloc(), 100)?;
-    for (number, replies, tears) in OF_A_HUNDRED {
+    for row in &OF_A_HUNDRED {
+        let (number, replies, tears) = *row;
         let purchases = &lane(&rt, &scenario, number).purchases;
         let lost = purchases
             .iter()
@@ -88,18 +91,19 @@ fn a_torn_purchase(rt: HostRuntime) -> Result<(), Fail> {
         commit: 4,
         at: TearAt::Before(1),
     };
-    for (name, is) in [
-        (
-            "number",
-            torn.purchase.number == 1_194_874_924u32.to_be_bytes(),
-        ),
-        ("card", torn.card == 7),
-        ("tear", torn.tear == Some(cut)),
-        ("link", lost.link == Link::ReplyLost),
-        ("tear of the lost one", lost.tear == Some(cut)),
-    ] {
-        assert!(rt; is, "{name}");
-    }
+    agree(
+        &rt,
+        &[
+            (
+                "number",
+                torn.purchase.number == 1_194_874_924u32.to_be_bytes(),
+            ),
+            ("card", torn.card == 7),
+            ("tear", torn.tear == Some(cut)),
+            ("link", lost.link == Link::ReplyLost),
+            ("tear of the lost one", lost.tear == Some(cut)),
+        ],
+    );
     Ok(())
 }
 
@@ -108,7 +112,8 @@ const COUNTS: [(u32, [usize; 4]); 2] = [(10, [3, 3, 2, 2]), (10_000, [2_500, 2_5
 
 #[test]
 fn purchases_of_each_lane(rt: HostRuntime) -> Result<(), Fail> {
-    for (count, wanted) in COUNTS {
+    for row in &COUNTS {
+        let (count, wanted) = *row;
         assert!(rt; 1 <= count && count <= 10_000);
         let scenario = generated(rt.alloc(), count)?;
         assert!(rt; scenario.lanes.len() == 4);

@@ -23,7 +23,8 @@ const COMING: [(Came, &str); 5] = [
 fn lines_come_one_by_one(rt: HostRuntime) -> Result<(), Fail> {
     let mut source = source_of(rt.alloc(), b"power\n\n00a4\r\nrest", &[])?;
     let mut line = LineText::new();
-    for (came, wanted) in COMING {
+    for row in &COMING {
+        let (came, wanted) = *row;
         let found = read_line(&mut source, &mut line);
         let is_line = line.as_slice() == wanted.as_bytes();
         assert!(rt; found == Ok(came) && is_line, "{wanted}");
@@ -68,7 +69,8 @@ const NUMBERS: [(u32, &str, Option<u32>); 15] = [
 
 #[test]
 fn numbers_are_digits(rt: HostRuntime) {
-    for (most, text, wanted) in NUMBERS {
+    for row in &NUMBERS {
+        let (most, text, wanted) = *row;
         assert!(rt; most <= MOST_GIVEN);
         assert!(rt; number_of(most, text.as_bytes()) == wanted, "{text}");
     }
@@ -98,7 +100,8 @@ const GIVEN: [(&[u8], &[u32], &str); 12] = [
 
 #[test]
 fn a_document_stands_first(rt: HostRuntime) -> Result<(), Fail> {
-    for (text, fails, wanted) in GIVEN {
+    for row in &GIVEN {
+        let (text, fails, wanted) = *row;
         let found = match given_in(rt.alloc(), text, fails)? {
             Ok(Given::Document(bytes)) => {
                 if bytes.as_slice() == b"a\nb\n".as_slice() {

@@ -1,4 +1,5 @@
 //! The lines of reports.
+use crate::facts::agree;
 use arrayvec::ArrayVec;
 use ber_tlv::Tag;
 use emv_dict::{Cause, Digits, Ending, Step, Tsi, Tvr};
@@ -78,22 +79,23 @@ fn power_lines(rt: HostRuntime) {
         card: some(b"x"),
     };
     let four = [opened(), greatest(), opened(), greatest()];
-    for (want, is) in [
-        told(power(0, b"c1", &[opened()]), "L0 power c1 10,9,0,0,3,0\n"),
-        told(power(15, b"abcdefghijklmnop", &four), FOUR_APPLICATIONS),
-        told(
-            power(0, b"c1", &[with_second(2500)]),
-            "L0 power c1 11,9,1,0,3,0,2500\n",
-        ),
-        told(
-            power(0, b"c1", &[with_second(0), opened()]),
-            "L0 power c1 11,9,1,0,3,0,0 10,9,0,0,3,0\n",
-        ),
-        told(torn, "L0 power c1 torn\n"),
-        told(canned, "L1 power x canned\n"),
-    ] {
-        assert!(rt; is, "{want}");
-    }
+    agree(
+        &rt,
+        &[
+            told(power(0, b"c1", &[opened()]), "L0 power c1 10,9,0,0,3,0\n"),
+            told(power(15, b"abcdefghijklmnop", &four), FOUR_APPLICATIONS),
+            told(
+                power(0, b"c1", &[with_second(2500)]),
+                "L0 power c1 11,9,1,0,3,0,2500\n",
+            ),
+            told(
+                power(0, b"c1", &[with_second(0), opened()]),
+                "L0 power c1 11,9,1,0,3,0,0 10,9,0,0,3,0\n",
+            ),
+            told(torn, "L0 power c1 torn\n"),
+            told(canned, "L1 power x canned\n"),
+        ],
+    );
 }
 
 const FOUR_APPLICATIONS: &str =
@@ -115,25 +117,26 @@ fn from_card(lane: u8, bytes: &[u8]) -> Line {
 
 #[test]
 fn lines_of_a_card(rt: HostRuntime) {
-    for (want, is) in [
-        told(
-            to_card(0, &[0x80, 0xca, 0x9f, 0x36, 0x00]),
-            "L0 > 80ca9f3600\n",
-        ),
-        told(from_card(3, &[0x6a, 0x82]), "L3 < 6a82\n"),
-        told(from_card(0, &[]), "L0 < -\n"),
-        told(Line::Torn { lane: 0 }, "L0 < torn\n"),
-        told(Line::Gone { lane: 2 }, "L2 < gone\n"),
-        told(
-            Line::EndLost {
-                lane: 15,
-                number: 10_000,
-            },
-            "L15 end 10000 lost\n",
-        ),
-    ] {
-        assert!(rt; is, "{want}");
-    }
+    agree(
+        &rt,
+        &[
+            told(
+                to_card(0, &[0x80, 0xca, 0x9f, 0x36, 0x00]),
+                "L0 > 80ca9f3600\n",
+            ),
+            told(from_card(3, &[0x6a, 0x82]), "L3 < 6a82\n"),
+            told(from_card(0, &[]), "L0 < -\n"),
+            told(Line::Torn { lane: 0 }, "L0 < torn\n"),
+            told(Line::Gone { lane: 2 }, "L2 < gone\n"),
+            told(
+                Line::EndLost {
+                    lane: 15,
+                    number: 10_000,
+                },
+                "L15 end 10000 lost\n",
+            ),
+        ],
+    );
 }
 
 #[test]
@@ -154,15 +157,16 @@ fn lines_of_a_host(rt: HostRuntime) {
         lane: 1,
         bytes: some(&[0xe2, 0xff]),
     };
-    for (want, is) in [
-        told(asked, "L0 host > e100\n"),
-        told(answered, "L0 host < e2048a023030\n"),
-        told(Line::NoReply { lane: 2 }, "L2 host < none\n"),
-        told(settled, "S0 > e3\n"),
-        told(accepted, "S1 < e2ff\n"),
-    ] {
-        assert!(rt; is, "{want}");
-    }
+    agree(
+        &rt,
+        &[
+            told(asked, "L0 host > e100\n"),
+            told(answered, "L0 host < e2048a023030\n"),
+            told(Line::NoReply { lane: 2 }, "L2 host < none\n"),
+            told(settled, "S0 > e3\n"),
+            told(accepted, "S1 < e2ff\n"),
+        ],
+    );
 }
 
 #[test]
@@ -179,13 +183,14 @@ fn lines_of_an_audit(rt: HostRuntime) {
         card: some(b"z9"),
         bytes: some(&[0x90, 0x00]),
     };
-    for (want, is) in [
-        told(powered, "A c1 power 10,9,0,0,3,0\n"),
-        told(asked, "A c1 > 00a4\n"),
-        told(answered, "A z9 < 9000\n"),
-    ] {
-        assert!(rt; is, "{want}");
-    }
+    agree(
+        &rt,
+        &[
+            told(powered, "A c1 power 10,9,0,0,3,0\n"),
+            told(asked, "A c1 > 00a4\n"),
+            told(answered, "A z9 < 9000\n"),
+        ],
+    );
 }
 
 fn object(tag: u32, value: &[u8]) -> Line {
@@ -197,14 +202,15 @@ fn object(tag: u32, value: &[u8]) -> Line {
 
 #[test]
 fn lines_of_a_reading(rt: HostRuntime) {
-    for (want, is) in [
-        told(object(0x5a, &[0x47, 0x61]), "object 5a 4761\n"),
-        told(object(0x9f0d, &[]), "object 9f0d -\n"),
-        told(object(0x9f8101, &[0xab]), "object 9f8101 ab\n"),
-        told(Line::ReadOk, "read ok\n"),
-    ] {
-        assert!(rt; is, "{want}");
-    }
+    agree(
+        &rt,
+        &[
+            told(object(0x5a, &[0x47, 0x61]), "object 5a 4761\n"),
+            told(object(0x9f0d, &[]), "object 9f0d -\n"),
+            told(object(0x9f8101, &[0xab]), "object 9f8101 ab\n"),
+            told(Line::ReadOk, "read ok\n"),
+        ],
+    );
 }
 
 #[test]
@@ -215,16 +221,17 @@ fn lines_of_accounts(rt: HostRuntime) -> Result<(), Fail> {
         pan: other,
         amount: -1,
     };
-    for (want, is) in [
-        told(
-            Line::Balance { pan, amount: 97500 },
-            "balance 4761739001010010 97500\n",
-        ),
-        told(overdrawn, "balance 909 -1\n"),
-        told(Line::Done { number: 10000 }, "done 10000\n"),
-    ] {
-        assert!(rt; is, "{want}");
-    }
+    agree(
+        &rt,
+        &[
+            told(
+                Line::Balance { pan, amount: 97500 },
+                "balance 4761739001010010 97500\n",
+            ),
+            told(overdrawn, "balance 909 -1\n"),
+            told(Line::Done { number: 10000 }, "done 10000\n"),
+        ],
+    );
     Ok(())
 }
 
@@ -306,7 +313,8 @@ const ENDINGS: [(Ending, &str); 21] = [
 
 #[test]
 fn every_ending_step_and_cause(rt: HostRuntime) {
-    for (ending, want) in ENDINGS {
+    for row in &ENDINGS {
+        let (ending, want) = *row;
         assert!(rt; same_text(&Line::ReadEnded { ending }, want), "{want}");
     }
 }
@@ -339,16 +347,17 @@ fn end_lines(rt: HostRuntime) {
         atc_ac: None,
         scripts: some(&[[0x12, 0, 0, 0, 1]; 8]),
     };
-    for (want, is) in [
-        told(
-            ended(1, approved),
-            "L0 end 1 approved offline tvr=8000000000 tsi=6800 cvm=410302 arc=Y1 atc=000b ac=0123456789abcdef scripts=-\n",
-        ),
-        told(
-            ended(10000, cut),
-            "L0 end 10000 cut first tvr=123456789a tsi=bcde cvm=000000 arc=-- atc=---- ac=---------------- scripts=12000000011200000001120000000112000000011200000001120000000112000000011200000001\n",
-        ),
-    ] {
-        assert!(rt; is, "{want}");
-    }
+    agree(
+        &rt,
+        &[
+            told(
+                ended(1, approved),
+                "L0 end 1 approved offline tvr=8000000000 tsi=6800 cvm=410302 arc=Y1 atc=000b ac=0123456789abcdef scripts=-\n",
+            ),
+            told(
+                ended(10000, cut),
+                "L0 end 10000 cut first tvr=123456789a tsi=bcde cvm=000000 arc=-- atc=---- ac=---------------- scripts=12000000011200000001120000000112000000011200000001120000000112000000011200000001\n",
+            ),
+        ],
+    );
 }

@@ -118,8 +118,8 @@ const TRACES: [(&str, &[&str], Verdict); 9] = [
 
 #[test]
 fn the_first_entry_that_differs_is_told(rt: HostRuntime) -> Result<(), Fail> {
-    for (number, row) in TRACES.into_iter().enumerate() {
-        let (lane, parts, verdict) = row;
+    for (number, row) in TRACES.iter().enumerate() {
+        let (lane, parts, verdict) = *row;
         let text = document(rt.alloc(), lane, parts)?;
         let trace = read_trace(rt.alloc(), text.as_bytes())?;
         assert!(rt; check(&trace) == verdict, "trace {number}");
@@ -177,7 +177,8 @@ const REFUSED: [(&str, &str, &str); 9] = [
 
 #[test]
 fn a_document_that_is_no_trace_is_refused(rt: HostRuntime) -> Result<(), Fail> {
-    for (rest, entries, wanted) in REFUSED {
+    for row in &REFUSED {
+        let (rest, entries, wanted) = *row;
         let line = refused(rt.alloc(), entries, rest)?;
         assert!(rt;
             line.is_some_and(|line| line.as_str() == wanted),

@@ -64,7 +64,8 @@ const REPLIES: [(&[u8], CallKind, &[u8]); 2] = [
 #[test]
 fn a_worked_reversal_and_short_replies_are_read(rt: HostRuntime) {
     assert!(rt; is_reversal_read());
-    for (bytes, kind, scripts) in REPLIES {
+    for row in &REPLIES {
+        let (bytes, kind, scripts) = *row;
         let is_read = match read_iso_reply(bytes) {
             Ok((found, reply)) => {
                 found == kind
@@ -101,17 +102,17 @@ const BITS: [u8; 8] = [0x80, 0x40, 0x20, 0x10, 0x08, 0x04, 0x02, 0x01];
 #[test]
 fn another_bitmap_is_a_fault(rt: HostRuntime) {
     for place in 4..12 {
-        for bit in BITS {
+        for bit in &BITS {
             let mut presentment = PRESENTMENT;
-            presentment[place] ^= bit;
+            presentment[place] ^= *bit;
             let mut reversal = REVERSAL;
-            reversal[place] ^= bit;
+            reversal[place] ^= *bit;
             let mut reply = PLAIN_REPLY;
-            reply[place] ^= bit;
+            reply[place] ^= *bit;
             // Bit 52 of a request names the block of a PIN.
             let mut request = REQUEST;
-            request[place] ^= bit;
-            let is_pin = place == 10 && bit == 0x10;
+            request[place] ^= *bit;
+            let is_pin = place == 10 && *bit == 0x10;
             let are_told = fault(&presentment) == Some(IsoFault::Bitmap)
                 && fault(&reversal) == Some(IsoFault::Bitmap)
                 && reply_fault(&reply) == Some(IsoFault::Bitmap)
@@ -194,14 +195,16 @@ const NO_REPLIES: [(&[u8], IsoFault); 2] = [
 
 #[test]
 fn the_first_fault_in_the_order_of_the_bytes_is_told(rt: HostRuntime) {
-    for (message, changes, more, expected) in SPOILT {
+    for row in &SPOILT {
+        let (message, changes, more, expected) = *row;
         let bytes = changed(message, changes, more);
         assert!(rt;
             fault(bytes.as_slice()) == Some(expected),
             "{changes:?} {more:?}"
         );
     }
-    for (bytes, expected) in NO_REPLIES {
+    for row in &NO_REPLIES {
+        let (bytes, expected) = *row;
         assert!(rt; reply_fault(bytes) == Some(expected), "{bytes:?}");
     }
     // A reply is no call.

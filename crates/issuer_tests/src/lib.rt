@@ -5,6 +5,8 @@
 #[cfg(test)]
 mod changes;
 #[cfg(test)]
+mod facts;
+#[cfg(test)]
 mod iso_messages;
 #[cfg(test)]
 mod iso_samples;

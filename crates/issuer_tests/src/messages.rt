@@ -1,5 +1,6 @@
 //! Messages to the host and its replies.
 use crate::changes::changed;
+use crate::facts::agree;
 use auth_message::{
     Incoming, Message, MessageFault, ReversalFields, read_message, read_reply, write_reply,
     write_reversal,
@@ -85,9 +86,7 @@ fn are_read() -> [(&'static str, bool); 3] {
 
 #[test]
 fn messages_of_another_implementation_are_read(rt: HostRuntime) {
-    for (name, is_read) in are_read() {
-        assert!(rt; is_read, "{name}");
-    }
+    agree(&rt, &are_read());
 }
 
 /// Bytes that are no message, and the first fault, which is the one of the least place. A cut object within an
@@ -126,10 +125,12 @@ const SPOILT: [(&[u8], usize, u8, MessageFault); 8] = [
 
 #[test]
 fn the_first_fault_of_a_message_is_told(rt: HostRuntime) {
-    for (bytes, expected) in FAULTS {
+    for row in &FAULTS {
+        let (bytes, expected) = *row;
         assert!(rt; fault(bytes) == Some(expected), "{bytes:?}");
     }
-    for (message, place, byte, expected) in SPOILT {
+    for row in &SPOILT {
+        let (message, place, byte, expected) = *row;
         let bytes = changed(message, &[(place, byte)], &[]);
         assert!(rt;
             fault(bytes.as_slice()) == Some(expected),
@@ -212,7 +213,8 @@ const REFUSED: [(&[u8], MessageFault); 7] = [
 
 #[test]
 fn other_replies_are_not_read(rt: HostRuntime) {
-    for (bytes, expected) in REFUSED {
+    for row in &REFUSED {
+        let (bytes, expected) = *row;
         assert!(rt; reply_fault(bytes) == Some(expected), "{bytes:?}");
     }
     // Two scripts of 1,024 bytes together with a byte 00 between them.

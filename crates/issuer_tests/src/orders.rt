@@ -1,4 +1,5 @@
 //! The words that order commands of a script.
+use crate::facts::agree;
 use emv_dict::Digits;
 use script_words::{Ordered, Script, Word, made_length, read_order};
 use std::process::Abort;
@@ -48,36 +49,37 @@ const REFUSED: [&[u8]; 36] = [
 fn words_order_commands(rt: HostRuntime) {
     let short = digits(&rt, &[0, 1, 2, 3]);
     let long = digits(&rt, &[1, 2, 3, 4, 5, 6, 7, 8, 9, 0, 1, 2]);
-    for (name, is) in [
-        ("block", gives(b"block", Word::Block, false)),
-        ("block bad", gives(b"block bad", Word::Block, true)),
-        ("unblock", gives(b"unblock", Word::Unblock, false)),
-        ("card_block", gives(b"card_block", Word::CardBlock, false)),
-        (
-            "pin_unblock",
-            gives(b"pin_unblock bad", Word::PinUnblock, true),
-        ),
-        ("pin", gives(b"pin 0123", Word::Pin(short), false)),
-        (
-            "pin bad",
-            gives(b"pin 123456789012 bad", Word::Pin(long), true),
-        ),
-        ("count", gives(b"count 0", Word::Count(0), false)),
-        ("count bad", gives(b"count 255 bad", Word::Count(255), true)),
-        ("amount bad", gives(b"amount 0 bad", Word::Amount(0), true)),
-        (
-            "amount",
-            gives(b"amount 999999999999", Word::Amount(999_999_999_999), false),
-        ),
-    ] {
-        assert!(rt; is, "{name}");
-    }
+    agree(
+        &rt,
+        &[
+            ("block", gives(b"block", Word::Block, false)),
+            ("block bad", gives(b"block bad", Word::Block, true)),
+            ("unblock", gives(b"unblock", Word::Unblock, false)),
+            ("card_block", gives(b"card_block", Word::CardBlock, false)),
+            (
+                "pin_unblock",
+                gives(b"pin_unblock bad", Word::PinUnblock, true),
+            ),
+            ("pin", gives(b"pin 0123", Word::Pin(short), false)),
+            (
+                "pin bad",
+                gives(b"pin 123456789012 bad", Word::Pin(long), true),
+            ),
+            ("count", gives(b"count 0", Word::Count(0), false)),
+            ("count bad", gives(b"count 255 bad", Word::Count(255), true)),
+            ("amount bad", gives(b"amount 0 bad", Word::Amount(0), true)),
+            (
+                "amount",
+                gives(b"amount 999999999999", Word::Amount(999_999_999_999), false),
+            ),
+        ],
+    );
 }
 
 #[test]
 fn other_texts_order_nothing(rt: HostRuntime) {
-    for text in REFUSED {
-        assert!(rt; read_order(text).is_none(), "{text:?}");
+    for text in &REFUSED {
+        assert!(rt; read_order(*text).is_none(), "{text:?}");
     }
 }
 
@@ -99,7 +101,8 @@ const LENGTHS: [(&str, usize, bool, usize); 9] = [
 
 #[test]
 fn scripts_have_their_length(rt: HostRuntime) -> Result<(), Fail> {
-    for (text, count, named, length) in LENGTHS {
+    for row in &LENGTHS {
+        let (text, count, named, length) = *row;
         let mut commands = Vec::new(rt.alloc());
         for _ in 0..count {
             commands.push(order(&rt, text))?;

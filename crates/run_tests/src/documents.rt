@@ -1,4 +1,5 @@
 //! Documents that are refused, and what is read of one.
+use crate::facts::agree;
 use crate::rows::BASE;
 use crate::runs::{ANSWER, Row, changed, play, run_of};
 use emv_ports::{Tear, TearAt};
@@ -51,12 +52,12 @@ const REFUSALS: [Row; 4] = [
 
 #[test]
 fn a_document_is_refused_at_its_first_fault(rt: HostRuntime) -> Result<(), Fail> {
-    for row in REFUSALS {
+    for row in &REFUSALS {
         let replayed = Row {
             words: &["replay"],
-            ..row
+            ..*row
         };
-        play(&rt, rt.alloc(), &[row, replayed])?;
+        play(&rt, rt.alloc(), &[*row, replayed])?;
     }
     Ok(())
 }
@@ -86,10 +87,12 @@ const BLANKS: [(usize, &str); 2] = [
 
 #[test]
 fn bytes_are_refused(rt: HostRuntime) -> Result<(), Fail> {
-    for (bytes, line) in BYTES {
+    for row in &BYTES {
+        let (bytes, line) = *row;
         assert!(rt; is_refused(rt.alloc(), bytes, line)?, "{line}");
     }
-    for (count, line) in BLANKS {
+    for row in &BLANKS {
+        let (count, line) = *row;
         let mut blanks = Vec::new(rt.alloc());
         blanks.resize(count, b' ')?;
         assert!(rt; is_refused(rt.alloc(), blanks.as_slice(), line)?, "{line}");
@@ -134,21 +137,22 @@ fn scripts_are_read(rt: HostRuntime) -> Result<(), Fail> {
     let first = script.commands.first().ok_or("a command")?;
     let last = script.commands.last().ok_or("a command")?;
     let later = account.scripts.last().ok_or("a script")?;
-    for (name, is) in [
-        ("copies", scenario.copies == 3),
-        (
-            "schedule",
-            scenario.schedule.as_slice() == [0, 0].as_slice(),
-        ),
-        ("before", script.before && script.id == Some([0, 0, 0, 1])),
-        ("commands", script.commands.len() == 2),
-        ("first", first.word == Word::Count(9) && !first.bad),
-        ("last", last.word == Word::Block && last.bad),
-        ("later", !later.before && later.id.is_none()),
-        ("scripts", account.scripts.len() == 2),
-    ] {
-        assert!(rt; is, "{name}");
-    }
+    agree(
+        &rt,
+        &[
+            ("copies", scenario.copies == 3),
+            (
+                "schedule",
+                scenario.schedule.as_slice() == [0, 0].as_slice(),
+            ),
+            ("before", script.before && script.id == Some([0, 0, 0, 1])),
+            ("commands", script.commands.len() == 2),
+            ("first", first.word == Word::Count(9) && !first.bad),
+            ("last", last.word == Word::Block && last.bad),
+            ("later", !later.before && later.id.is_none()),
+            ("scripts", account.scripts.len() == 2),
+        ],
+    );
     Ok(())
 }
 
@@ -162,18 +166,19 @@ fn tears_and_links_are_read(rt: HostRuntime) -> Result<(), Fail> {
         commit: 4,
         at: TearAt::Within(2),
     };
-    for (name, is) in [
-        ("tear", planned.tear == Some(cut)),
-        ("link", planned.link == Link::ReplyLost),
-        ("pins", purchase.pins.is_empty()),
-        ("other", purchase.other == 500),
-        ("trade", purchase.trade == 9),
-        ("services", purchase.services),
-        ("forced", purchase.forced),
-        ("confirm", !purchase.confirm),
-    ] {
-        assert!(rt; is, "{name}");
-    }
+    agree(
+        &rt,
+        &[
+            ("tear", planned.tear == Some(cut)),
+            ("link", planned.link == Link::ReplyLost),
+            ("pins", purchase.pins.is_empty()),
+            ("other", purchase.other == 500),
+            ("trade", purchase.trade == 9),
+            ("services", purchase.services),
+            ("forced", purchase.forced),
+            ("confirm", !purchase.confirm),
+        ],
+    );
     Ok(())
 }
 
@@ -192,7 +197,8 @@ fn first_link(scenario: &Scenario) -> Option<Link> {
 
 #[test]
 fn each_link_has_its_word(rt: HostRuntime) -> Result<(), Fail> {
-    for (line, link) in LINKS {
+    for row in &LINKS {
+        let (line, link) = *row;
         let scenario = read(rt.alloc(), &[("pins = [\"1234\"]", line)])?;
         assert!(rt; first_link(&scenario) == Some(link), "{line}");
     }

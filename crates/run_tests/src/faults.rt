@@ -181,7 +181,8 @@ const SUMMARIES: [(u32, u8, &str); 2] = [(20, 4, "generated 1\napprove"), (1_000
 
 #[test]
 fn a_sink_may_fail_within_the_summary(rt: HostRuntime) -> Result<(), Fail> {
-    for (call, status, text) in SUMMARIES {
+    for row in &SUMMARIES {
+        let (call, status, text) = *row;
         let asked: Asked = (&["generate", "1"], "");
         let wanted = (status, text.as_bytes());
         play_slowly(&rt, rt.alloc(), asked, (1, call), wanted)?;

@@ -7,6 +7,8 @@ mod checking;
 #[cfg(test)]
 mod documents;
 #[cfg(test)]
+mod facts;
+#[cfg(test)]
 mod faults;
 #[cfg(test)]
 mod generating;

@@ -1,9 +1,9 @@
 //! What each key of a scenario gives.
 use crate::documents::read;
+use crate::facts::agree;
 use card_files::{AppImage, Image, RecordImage};
 use issuer_host::Method;
 use scenario::{Link, Scenario};
-use std::process::Abort;
 use std::test::Fail;
 
 /// The issuer's keys.
@@ -72,13 +72,6 @@ const RECORD_3: [u8; 50] = [
     0x00, 0x00, 0x9F, 0x0F, 0x05, 0x70, 0x68, 0xBC, 0x98, 0x00, 0x9F, 0x14, 0x01, 0x05, 0x9F, 0x23,
     0x01, 0x09,
 ];
-
-/// What keys give, each with whether it does.
-fn agree(rt: &impl Abort, keys: &[(&str, bool)]) {
-    for (key, is) in keys {
-        assert!(rt; *is, "{key}");
-    }
-}
 
 #[test]
 fn the_document_has_one_of_each(rt: HostRuntime) -> Result<(), Fail> {

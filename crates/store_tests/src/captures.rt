@@ -248,13 +248,13 @@ const MESSAGES: [&[u8]; 4] = [&[0x11, 0x12], &[0x22; 2048], &[], &[0x33]];
 fn what_waits_keeps_its_length_and_its_order(rt: HostRuntime) {
     let mut waiting = Waiting::new(rt.alloc());
     assert!(rt; waiting.len() == 0);
-    for message in MESSAGES {
+    for message in &MESSAGES {
         assert!(rt; message.len() <= 2048);
-        wait(&rt, &mut waiting, message);
+        wait(&rt, &mut waiting, *message);
     }
     assert!(rt; waiting.len() == 4);
-    for (index, message) in MESSAGES.into_iter().enumerate() {
-        let is_kept = index < waiting.len() && waiting.at(index) == message;
+    for (index, message) in MESSAGES.iter().enumerate() {
+        let is_kept = index < waiting.len() && waiting.at(index) == *message;
         assert!(rt; is_kept, "message {index}");
     }
 }

@@ -78,7 +78,8 @@ fn an_open_gate_gives_the_home_under_the_journal(rt: HostRuntime) {
     assert!(rt; store.state() == state.as_slice());
     let mut pages = store.into_pages();
     pages.power_up();
-    for (page, front) in FOUND {
+    for row in &FOUND {
+        let (page, front) = *row;
         assert!(rt; begins(&pages, page, front), "page {page}");
     }
 }
@@ -101,7 +102,8 @@ const CUTS: [(u8, u8, [u8; 6], [u8; 2]); 5] = [
 
 #[test]
 fn a_cut_commit_leaves_these_bytes(rt: HostRuntime) {
-    for (number, gate, home, header) in CUTS {
+    for row in &CUTS {
+        let (number, gate, home, header) = *row;
         let at = place_of(number, 5);
         let tear = Tear { commit: 1, at };
         let (pages, commit) = torn_pages(MemoryPages::blank(), &[3, 3], &[7, 8, 9], tear);
