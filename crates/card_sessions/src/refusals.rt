@@ -189,9 +189,9 @@ fn refuse_all<'i, P: Pages>(rt: &impl Abort, chip: &mut Chip<'i, P>, phase: usiz
                     } else {
                         CONDITIONS_NOT_SATISFIED
                     };
-                    assert_eq!(rt;
-                        out.as_slice(),
-                        status.to_be_bytes().as_slice(),
+                    let wanted = status.to_be_bytes();
+                    assert!(rt;
+                        out.as_slice() == wanted.as_slice(),
                         "to {command} in phase {phase}"
                     );
                     refuse_all(rt, chip, phase, rest)
@@ -221,8 +221,9 @@ fn refuse_in<P: Pages>(rt: &impl Abort, image: &Image, pages: P, phase: usize, b
 #[test]
 fn refusals_come_in_the_order_of_the_checks(rt: HostRuntime) -> Result<(), Fail> {
     let alloc = rt.alloc();
-    for phase in 0..6 {
-        let (variant, before) = PHASES[phase];
+    for (phase, row) in PHASES.iter().enumerate() {
+        let (variant, before) = *row;
+        assert!(rt; phase < 6);
         let image = image_of(&rt, alloc, variant)?;
         let pages = Held::new(alloc, MemoryPages::blank())?;
         refuse_in(&rt, &image, pages, phase, before);

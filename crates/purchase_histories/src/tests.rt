@@ -84,9 +84,9 @@ fn replay(rt: &impl Abort, alloc: Global, history: &History) -> Result<(), Fail>
     let mut source = MemorySource::new(document.as_bytes().to_vec(alloc)?, Vec::new(alloc));
     let mut sink = MemorySink::new(alloc, 100_000, Vec::new(alloc))?;
     let finished = run(alloc, &words, blank_bank(alloc)?, &mut source, &mut sink);
-    assert_eq!(rt; finished.status, 0);
-    assert_eq!(rt; told_by(alloc, sink.bytes())?.as_str(), history.told);
-    assert_eq!(rt; finished.tally.counts(), history.counts);
+    let told = told_by(alloc, sink.bytes())?;
+    let is_counted = finished.status == 0 && finished.tally.counts() == history.counts;
+    assert!(rt; is_counted && told.as_str() == history.told, "{told}");
     let [first, second] = history.marks;
     for (place, pages) in finished.bank.into_iter().enumerate() {
         let marks = match place {
@@ -95,7 +95,8 @@ fn replay(rt: &impl Abort, alloc: Global, history: &History) -> Result<(), Fail>
             63 => history.stored,
             _ => 0,
         };
-        assert_eq!(rt; pages.into_inner().marks(), marks, "pages {place}");
+        let found = pages.into_inner().marks();
+        assert!(rt; found == marks, "pages {place} of {told}");
     }
     Ok(())
 }
