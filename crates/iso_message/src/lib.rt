@@ -1,6 +1,6 @@
 //! The messages between a terminal and the issuer's host in the style of ISO 8583:1987: a type, a bitmap
 //! and fields in rising order. Which fields a message has, and what they hold, is this project's own
-//! profile: docs/formats.md.
+//! profile: docs/proof/formats.md.
 #![tactic(auto)]
 
 mod bits;

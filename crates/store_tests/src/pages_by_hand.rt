@@ -1,4 +1,4 @@
-//! Pages that are written and read byte by byte, in the layout that docs/formats.md gives them.
+//! Pages that are written and read byte by byte, in the layout that docs/proof/formats.md gives them.
 ghost use Rattle.std.specs.Prelude.{◌≡◌, ◌<◌, ◌≤◌, ℕ, List, length, true, false};
 ghost use Rattle.emv_ports.specs.Memory.{IsBlank, written};
 ghost use Rattle.torn_store.specs.Layout.{filled, recover};
