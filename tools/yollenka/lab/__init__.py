@@ -14,6 +14,7 @@ PASSED, FAILED, WRONG_WORDS, INCONCLUSIVE = 0, 1, 2, 3
 # Each command with the line that `lab --help` has for it.
 COMMANDS = {
     "expect": "compares each scenario of a folder with the report beside it",
+    "judge": "a terminal, by logs of what it said to cards",
     "sweep": "pulls the card out at every place of one purchase, and tabulates what came of it",
     "trace": "the trace of one purchase, from its scenario and its report",
     "tshark": "what Wireshark's dissector reads in messages in the style of ISO 8583",

@@ -1,12 +1,20 @@
 """Logs of what was said between a terminal, a card and a host, of any make: read into purchases.
 
 A log is told by its content: a trace's document, a report, and what loggers and card clients write (docs/lab.md lists them).
+A reader of a form gives events, and one assembler makes exchanges and purchases of them.
 """
-from dataclasses import dataclass, field
+import re
+import tomllib
+from dataclasses import dataclass, field, replace
 
 from yollenka.faults import Fault
 
 CARD, HOST = "card", "host"
+# What an event of a log may be: a command or message, an answer or reply, how the purchase ended, a card that is powered up.
+ASK, REPLY, END, BEGIN = "ask", "reply", "end", "begin"
+GENERATE, SELECT, GET_RESPONSE = b"\x80\xae", b"\x00\xa4", b"\x00\xc0\x00\x00"
+# Up to so many bytes a command and an answer have.
+LONGEST = 261
 
 
 @dataclass(frozen=True)
@@ -47,9 +55,335 @@ class Purchase:
     is_byte_protocol: bool = False
 
 
+@dataclass(frozen=True)
+class Event:
+    """What a line of a log tells: `what` of the words above, the side, the bytes (None for gone or none) or a text, the line."""
+
+    what: str
+    side: str
+    value: object
+    line: int
+
+
 def read_log(text):
     """The purchases of a log's text, in their order (of a report by lane, then by number).
 
     Raises Fault, with the line, where nothing is understood, or where a line of a form that was recognised isn't.
     """
-    raise Fault("not yet")
+    text = text.lstrip("\ufeff")
+    if re.search(r"^\s*trace\s*=", text, re.MULTILINE):
+        return [trace(text)]
+    lines = [(number, line.strip()) for number, line in enumerate(re.split(r"\r\n|\n|\r", text), 1)]
+    if any(REPORT.match(line) for _, line in lines):
+        return report(lines)
+    form = next((form for sign, form in FORMS if any(sign.search(line) for _, line in lines)), None)
+    if form is None:
+        raise Fault("no form of a log is recognised in it")
+    found = purchases(list(form(lines)), re.search(r"\bT\s?=\s?0\b", text) is not None)
+    if not found:
+        raise Fault("it has no command")
+    return found
+
+
+# Bytes.
+
+def hexadecimal(text, line):
+    """The bytes that a text writes, with or without blanks, colons or 0x between them. The last one may have one digit, as some
+    clients write a status byte below 10."""
+    words = re.sub(r"0x|[,:;\[\]]", " ", text, flags=re.IGNORECASE).split()
+    if len(words) > 2 and len(words[-1]) == 1 and len(words[-2]) <= 2:
+        words[-2:] = [word.rjust(2, "0") for word in words[-2:]]
+    try:
+        found = bytes.fromhex("".join(words))
+    except ValueError:
+        raise Fault(f"line {line}: these are no bytes in hexadecimal: {text.strip()[:60]!r}") from None
+    return found
+
+
+def agrees(data, shown):
+    """Whether these characters, one a byte, can show the bytes."""
+    return len(shown) == len(data) and all(chr(byte) == one or not 0x21 <= byte <= 0x7E for byte, one in zip(data, shown))
+
+
+def dumped(text, line):
+    """The bytes of a line of a dump: pairs of digits, behind which their characters may stand."""
+    pairs = re.match(r"(?:[0-9A-Fa-f]{2}(?: +|$))*", text)[0].split()
+    for count in range(len(pairs), 0, -1):
+        data = bytes.fromhex("".join(pairs[:count]))
+        rest = re.sub(r"^(?: *[0-9A-Fa-f]{2}){%d}" % count, "", text)
+        if not rest.strip() or agrees(data, rest.lstrip()) or agrees(data, rest[-count:]):
+            return data
+    raise Fault(f"line {line}: this is no line of a dump: {text[:60]!r}")
+
+
+# Traces and reports.
+
+def line_of(text, entry, begin):
+    """The place of an entry in a trace's text, behind a place; the place before where it is spelled in another way."""
+    found = text.find(f'"{entry}"', begin)
+    return found if found >= 0 else max(text.find(f"'{entry}'", begin), begin)
+
+
+def trace(text):
+    """The purchase of a trace's document."""
+    try:
+        document = tomllib.loads(text)
+    except tomllib.TOMLDecodeError as error:
+        raise Fault(f"it is no document of TOML 1.0: {error}") from None
+    entries = document.pop("trace")
+    if not isinstance(entries, list) or not all(isinstance(entry, str) for entry in entries):
+        raise Fault("`trace` is no array of texts")
+    events, place = [], 0
+    for entry in entries:
+        place = line_of(text, entry, place)
+        events.append(entry_event(entry, text.count("\n", 0, place) + 1))
+    own = document.get("lane", {})
+    name = own["purchase"][0].get("card") if isinstance(own, dict) and own.get("purchase") else None
+    return replace(one_purchase(events), document=document, card=name)
+
+
+ENTRY = re.compile(r"(host )?([<>]) ?(.*)")
+NOTHING = ("gone", "torn", "none")
+
+
+def entry_event(text, line):
+    """The event of an entry: as a trace has it, in any case and with blanks."""
+    found = ENTRY.fullmatch(text)
+    if text.startswith("end ") or text == "end":
+        return Event(END, CARD, text[4:], line)
+    if not found:
+        raise Fault(f"line {line}: this is no entry: {text[:60]!r}")
+    side, what, bytes_ = HOST if found[1] else CARD, ASK if found[2] == ">" else REPLY, found[3].strip()
+    if what == REPLY and bytes_ in NOTHING:
+        return Event(what, side, None, line)
+    return Event(what, side, b"" if bytes_ == "-" else hexadecimal(bytes_, line), line)
+
+
+REPORT = re.compile(r"L(\d+) (power|end|host|[<>])(?: (.*))?$")
+
+
+def report(lines):
+    """The purchases of a report. Words below its lines, and what isn't of a lane, are passed over."""
+    lanes, found = {}, []
+    for number, line in lines:
+        told = REPORT.match(line)
+        if told is None:
+            if re.match(r"L\d+ ", line):
+                raise Fault(f"line {number}: this is no line of a report: {line[:60]!r}")
+            continue
+        lane, word, rest = int(told[1]), told[2], told[3] or ""
+        events, names = lanes.setdefault(lane, ([], []))
+        if word == "power":
+            names.append(rest)
+        elif word == "end":
+            found.append(report_purchase(lane, rest, events, names, number))
+            lanes[lane] = [], []
+        else:
+            events.append(entry_event(line.split(" ", 1)[1], number))
+    found += [report_purchase(lane, "", events, names, events[0].line) for lane, (events, names) in lanes.items() if events]
+    return sorted(found, key=lambda one: (one.lane, one.number or len(found) + 1))
+
+
+def report_purchase(lane, end, events, names, line):
+    """The purchase of a lane whose events came to an end line, or to none."""
+    number, _, how = end.partition(" ")
+    one = one_purchase([*events, Event(END, CARD, how, line)] if end else events)
+    power = names[-1] if names else ""
+    return replace(one, lane=lane, number=int(number) if number.isdecimal() else None, card=power.split(" ")[0] or None,
+                   is_torn=power.endswith(" torn"), line=events[0].line if events else line)
+
+
+# Other forms: each gives events.
+
+def entries(lines):
+    """Entries, and what `scriptor` and clients of pyscard write; an answer may go on in the next line."""
+    held = None
+    for number, line in lines:
+        line = re.sub(r" : .*$", "", line)
+        if re.fullmatch(r"(?:> ?)?(?:RESET|reset)|< ?OK.*", line):
+            yield from (one for one in (held, Event(BEGIN, CARD, None, number)) if one)
+            held = None
+        elif ENTRY.match(line) or line.startswith("end"):
+            yield from (one for one in (held,) if one)
+            held = entry_event(line, number)
+        elif held and held.value and re.fullmatch(r"[0-9A-Fa-f ]+", line):
+            held = replace(held, value=held.value + hexadecimal(line, number))
+        elif line and not line.startswith("#") and held:
+            raise Fault(f"line {number}: this is no entry: {line[:60]!r}")
+    yield from (one for one in (held,) if one)
+
+
+def spied(lines):
+    """What pcsc-spy writes: buffers as dumps below their names."""
+    what, data, begin = None, b"", 0
+    for number, line in [*lines, (0, "")]:
+        dump = re.match(r"([0-9A-Fa-f]{4,8}):? +((?:[0-9A-Fa-f]{2}(?: |$)).*)", line)
+        if what and dump:
+            data += dumped(dump[2], number)
+            continue
+        if what and data:
+            yield Event(what, CARD, data, begin)
+        what, data, begin = None, b"", number
+        name = re.search(r"\b(bSendBuffer|bRecvBuffer)\b:?(.*)", line)
+        if name:
+            what = ASK if name[1] == "bSendBuffer" else REPLY
+            data = hexadecimal(name[2], number) if re.fullmatch(r"[ 0-9A-Fa-f]+", name[2]) else b""
+        elif re.search(r"SCardConnect|SCardReconnect", line):
+            yield Event(BEGIN, CARD, None, number)
+        elif re.search(r"SCARD_W_REMOVED_CARD|SCARD_W_RESET_CARD|SCARD_E_NOT_TRANSACTED|SCARD_E_NO_SMARTCARD", line):
+            yield Event(REPLY, CARD, None, number)
+
+
+def sent_and_received(lines):
+    """What opensc-tool writes: the status stands before the data."""
+    status, data, begin = None, b"", 0
+    for number, line in [*lines, (0, "-")]:
+        if status is not None and re.match(r"[0-9A-Fa-f]{2}(?: |$)", line):
+            data += dumped(line, number)
+            continue
+        if status is not None and line:
+            yield Event(REPLY, CARD, data + status, begin)
+            status, data = None, b""
+        sending, received = re.match(r"Sending: ?(.*)", line), re.match(r"Received \(SW1=0x(..), SW2=0x(..)\)", line)
+        if sending:
+            yield Event(ASK, CARD, hexadecimal(sending[1], number), number)
+        elif received:
+            status, begin = bytes.fromhex(received[1] + received[2]), number
+        elif re.match(r"(?:Sending|Received)", line):
+            raise Fault(f"line {number}: this can't be read: {line[:60]!r}")
+        elif re.search(r"failed|removed", line, re.IGNORECASE):
+            yield Event(REPLY, CARD, None, number)
+        elif line.startswith("Using reader"):
+            yield Event(BEGIN, CARD, None, number)
+
+
+BEGINS = re.compile(r"\bATR\b|\bSCardConnect\b|\b[Cc]onnect(?:ed|ing)?\b|\b[Pp]ower(?:ed|ing)? ?(?:up|on)\b|\bPower[Uu]p\b|^RESET$")
+
+
+def marked(ask, reply, inner=""):
+    """A reader of lines with a mark before a command and one before an answer; `inner` is what may stand between mark and bytes."""
+    asks, replies = (re.compile(f"(?:^|.*?[^0-9A-Za-z<>-]){mark}(?![<>])\\s*{inner}(.*)") for mark in (ask, reply))
+
+    def read(lines):
+        for number, line in lines:
+            for what, found in ((ASK, asks.match(line)), (REPLY, replies.match(line))):
+                if found:
+                    bytes_ = re.sub(r" : .*$", "", found[1]).strip().strip('"')
+                    is_gone = what == REPLY and bytes_.lower() in NOTHING
+                    yield Event(what, CARD, None if is_gone else hexadecimal(bytes_, number), number)
+                    break
+            else:
+                if BEGINS.search(line):
+                    yield Event(BEGIN, CARD, None, number)
+    return read
+
+
+def plain(lines):
+    """Lines of bytes alone: a command, its answer, and so on."""
+    what = ASK
+    for number, line in lines:
+        if not line or line.startswith("#"):
+            continue
+        yield Event(what, CARD, hexadecimal(line, number), number)
+        what = REPLY if what == ASK else ASK
+
+
+LONG_HEX = r"(?:[0-9A-Fa-f]{2}[ :]?){2,}"
+FORMS = [
+    (re.compile(r"\bb(?:Send|Recv)Buffer\b"), spied),
+    (re.compile(r"^\S*\s*A(?:>>|<<)"), marked(r"A>>", r"A<<", r"(?:T=\S+ )?(?:\([0-9+ ]+\) ?)?(?:\([0-9.]+ ?[mu]?s\) ?)?")),
+    (re.compile(r"^(?:.*\s)?APDU:"), marked(r"APDU:", r"SW:")),
+    (re.compile(r"^Sending:"), sent_and_received),
+    (re.compile(r"\bC-?APDU\b", re.IGNORECASE), marked(r"(?i:C-?APDU) ?:?", r"(?i:R-?APDU) ?:?")),
+    (re.compile(rf"(?:^|\s)-->\s*{LONG_HEX}"), marked(r"-->", r"<--")),
+    (re.compile(rf"(?:^|\s)=>\s*{LONG_HEX}"), marked(r"=>", r"<=")),
+    (re.compile(rf"(?:^|\s)->\s*{LONG_HEX}"), marked(r"->", r"<-")),
+    (re.compile(rf"(?:^|\s)>>\s*{LONG_HEX}"), marked(r">>", r"<<")),
+    (re.compile(rf"(?:^|\W)T[xX]\s*:?\s*{LONG_HEX}"), marked(r"T[xX] ?:?", r"R[xX] ?:?")),
+    (re.compile(rf"^> ?(?:{LONG_HEX}|RESET)"), entries),
+    (re.compile(rf"^\S+ > ?{LONG_HEX}"), marked(r">", r"<")),
+    (re.compile(rf"^(?:{LONG_HEX})$"), plain),
+]
+
+
+# From events to purchases.
+
+def paired(events):
+    """The exchanges of events, with a None at each place where a card is powered up, and the last end."""
+    found, open_, end = [], None, None
+    for event in events:
+        if event.what == REPLY:
+            if open_ is None or open_.side != event.side:
+                raise Fault(f"line {event.line}: an answer without a command before it")
+            found.append(Exchange(open_.side, open_.value, event.value, open_.line))
+            open_ = None
+            continue
+        if open_ is not None and event.what == ASK:
+            raise Fault(f"line {event.line}: the command of line {open_.line} has no answer before this one")
+        if open_ is not None:
+            found.append(Exchange(open_.side, open_.value, None, open_.line))
+            open_ = None
+        if event.what == ASK:
+            open_ = checked(event)
+        else:
+            found.append(event)
+    return found + ([Exchange(open_.side, open_.value, None, open_.line, False)] if open_ else [])
+
+
+def checked(event):
+    """A command or message, if it can be one."""
+    if event.side == CARD and not 4 <= len(event.value) <= LONGEST:
+        raise Fault(f"line {event.line}: no command has {len(event.value)} bytes")
+    return event
+
+
+def whole(pairs):
+    """The exchanges with what protocol T=0 splits put together, and whether it did."""
+    found, was_split = [], False
+    for one in pairs:
+        before = found[-1] if found else None
+        is_card = isinstance(one, Exchange) and isinstance(before, Exchange) and one.side == before.side == CARD and before.got
+        if is_card and before.got[-2] == 0x61 and one.sent[:4] == GET_RESPONSE:
+            found[-1] = replace(before, got=None if one.got is None else before.got[:-2] + one.got, is_told=one.is_told)
+            was_split = True
+        elif is_card and before.got[0] == 0x6C and len(before.got) == 2 and one.sent[:-1] == before.sent[: len(one.sent) - 1]:
+            found[-1] = replace(before, got=one.got, is_told=one.is_told)
+            was_split = True
+        else:
+            found.append(one)
+    return found, was_split
+
+
+def is_over(exchanges):
+    """Whether the last answer to GENERATE AC is a TC or an AAC."""
+    answers = [one.got for one in exchanges if one.side == CARD and one.sent[:2] == GENERATE and one.got]
+    kinds = [answer[answer.index(b"\x9f\x27") + 3 if b"\x9f\x27" in answer[:-1] else 2] & 0xC0 for answer in answers
+             if answer[-2:] == b"\x90\x00" and len(answer) > 12]
+    return bool(kinds) and kinds[-1] != 0x80
+
+
+def one_purchase(events):
+    """The purchase of these events, of which there is no second one."""
+    pairs, was_split = whole(paired(events))
+    ends = [one.value for one in pairs if isinstance(one, Event) and one.what == END]
+    exchanges = [one for one in pairs if isinstance(one, Exchange)]
+    return Purchase(exchanges, ends[-1] if ends else None, line=events[0].line if events else 1, is_byte_protocol=was_split)
+
+
+def purchases(events, is_byte_protocol):
+    """The purchases of events: one ends where a card is powered up, at an end, or at a SELECT behind a TC or an AAC."""
+    pairs, was_split = whole(paired(events))
+    found, now = [], Purchase(is_byte_protocol=was_split or is_byte_protocol)
+    for one in pairs:
+        is_select = isinstance(one, Exchange) and one.sent[:2] == SELECT
+        if now.exchanges and (isinstance(one, Event) and one.what == BEGIN or is_select and is_over(now.exchanges)):
+            found.append(now)
+            now = Purchase(is_byte_protocol=now.is_byte_protocol)
+        if isinstance(one, Exchange):
+            now.line = now.line if now.exchanges else one.line
+            now.exchanges.append(one)
+        elif one.what == END:
+            now.end = one.value
+            found.append(now)
+            now = Purchase(is_byte_protocol=now.is_byte_protocol)
+    return found + ([now] if now.exchanges else [])

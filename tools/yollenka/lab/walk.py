@@ -39,7 +39,7 @@ class Line:
 class Verdict:
     """What a walk has found: `status` PASSED, FAILED or INCONCLUSIVE; `lines` in the order of the log; `end` the text of the
     reference's end line behind `end`, or None where it didn't come so far; `fed` the reference's dialogue as a trace's entries
-    (`> H`, `< H`, `< gone`, `host > H`, ..), its `end` line last; `fitting` of how many exchanges of the log are as the
+    (`> H`, `< H`, `< gone`, `host > H`, ..), its `end` line last; `fitting` how many of the log's `exchanges` are as the
     reference's; `lane` the lane's table with the purchase, by which was judged; `lacking` the keys that no one gave, by their
     places (`kind`, `aid[0].floor`)."""
 
@@ -48,6 +48,7 @@ class Verdict:
     end: str | None = None
     fed: list = field(default_factory=list)
     fitting: int = 0
+    exchanges: int = 0
     lane: dict = field(default_factory=dict)
     lacking: list = field(default_factory=list)
 
