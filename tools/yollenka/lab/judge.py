@@ -1,5 +1,6 @@
 """`lab judge`: verdicts on terminals of other makes, by logs of what they said to cards and to the issuer."""
 import time
+from dataclasses import replace
 from pathlib import Path
 
 from yollenka.faults import Fault
@@ -51,9 +52,11 @@ def results_of(path, facts):
         purchases = read_log(text_of(path))
     except Fault as fault:
         raise Fault(f"{path}: {fault}") from None
+    paid = {}
     for number, purchase in enumerate(purchases, 1):
-        begin = time.monotonic()
-        verdict = judge(purchase, facts(purchase))
+        begin, before = time.monotonic(), paid.setdefault(purchase.lane, [])
+        verdict = judge(purchase, replace(facts(purchase), paid=before))
+        before += [verdict.paid] if verdict.paid else []
         name = Path(path).stem if len(purchases) == 1 else f"{Path(path).stem} {number}"
         yield Result(name, verdict, time.monotonic() - begin)
 

@@ -4,7 +4,7 @@ from dataclasses import dataclass
 from xml.sax.saxutils import escape, quoteattr
 
 from yollenka.lab import FAILED as STATUS_FAILED, INCONCLUSIVE as STATUS_INCONCLUSIVE, PASSED as STATUS_PASSED
-from yollenka.lab.walk import BEHIND, FAILED, INCONCLUSIVE, PASSED, WRONG
+from yollenka.lab.verdict import BEHIND, FAILED, INCONCLUSIVE, PASSED, WRONG
 
 # So many consequences of a fault are shown, unless all are asked for.
 SHOWN = 2
