@@ -231,6 +231,15 @@ def fill_rows(card, exchanges, settled):
         row["max_target"] = max(row["max_target"], row["target"]) if "max_target" in lacking else row["max_target"]
 
 
+def places_of(rows, names):
+    """For each row's name the place where it is selected: of a name that stands twice the second one for its second row."""
+    found = []
+    for at, row in enumerate(rows):
+        places = [place for place, name in enumerate(names) if name == row][rows[:at].count(row) :]
+        found.append(places[0] if places else len(names))
+    return found
+
+
 def follow(exchanges, settled):
     """Lets the directory and the order of names follow the log, which may choose both."""
     names, lane = [name for name, p2 in selected(exchanges) if p2 == 0], settled.lane
@@ -240,7 +249,7 @@ def follow(exchanges, settled):
             text = "begins with" if begins else "doesn't begin with"
             settled.lines.append(Line(PERMITTED, f"the terminal {text} the directory 1PAY.SYS.DDF01", section="Book 1, 12.3.2"))
         lane["pse"] = begins
-    places = [names.index(name) if (name := bytes.fromhex(row["name"])) in names else len(names) for row in lane["aid"]]
+    places = places_of([bytes.fromhex(row["name"]) for row in lane["aid"]], names)
     if not begins and places != sorted(places):
         lane["aid"] = [row for _, row in sorted(zip(places, lane["aid"]), key=lambda pair: pair[0])]
         settled.lines.append(Line(PERMITTED, "the terminal's names in another order", section="Book 1, 12.3.3"))

@@ -39,7 +39,7 @@ class Purchase:
 
     `exchanges` in the order in which they were said; `end` the text behind `end` (docs/report.md, section 3), as much of it as
     the log has, or None; `card` the name of the card, or None; `lane` and `number` its place in a report (from 0, and from 1),
-    or None; `line` the line where it begins. `document` is a trace's own document without its entries: `pin_key` and `lane`.
+    or None; `line` the line where it begins. `end` is `read` where a report has a reading alone. `document` is a trace's own document without its entries: `pin_key` and `lane`.
     `is_torn` tells that the card was gone as it was powered up, so that no exchange is there. `is_byte_protocol` tells that
     protocol T=0 was seen, whose commands have no Le behind their data.
     """
@@ -159,17 +159,20 @@ def entry_event(text, line):
     return Event(what, side, b"" if bytes_ == "-" else hexadecimal(bytes_, line), line)
 
 
+# How `emvrun read` ends, which goes no further.
+READING = "read"
 REPORT = re.compile(r"L(\d+) (power|end|host|[<>])(?: (.*))?$")
 
 
 def report(lines):
     """The purchases of a report. Words below its lines, and what isn't of a lane, are passed over."""
-    lanes, found = {}, []
+    lanes, found, is_reading = {}, [], False
     for number, line in lines:
         told = REPORT.match(line)
         if told is None:
             if re.match(r"L\d+ ", line):
                 raise Fault(f"line {number}: this is no line of a report: {line[:60]!r}")
+            is_reading = is_reading or line.startswith("read ")
             continue
         lane, word, rest = int(told[1]), told[2], told[3] or ""
         events, names = lanes.setdefault(lane, ([], []))
@@ -180,7 +183,8 @@ def report(lines):
             lanes[lane] = [], []
         else:
             events.append(entry_event(line.split(" ", 1)[1], number))
-    found += [report_purchase(lane, "", events, names, events[0].line) for lane, (events, names) in lanes.items() if events]
+    end = f"1 {READING}" if is_reading else ""
+    found += [report_purchase(lane, end, events, names, events[0].line) for lane, (events, names) in lanes.items() if events]
     return sorted(found, key=lambda one: (one.lane, one.number or len(found) + 1))
 
 

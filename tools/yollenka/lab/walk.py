@@ -10,7 +10,7 @@ from yollenka.lab.compare import generate_differences, message_differences, opti
 from yollenka.lab.emv import ask_name, command_name, said
 from yollenka.lab.endings import end_differences
 from yollenka.lab.facts import settle, without_pad
-from yollenka.lab.logs import CARD, HOST
+from yollenka.lab.logs import CARD, HOST, READING
 from yollenka.lab.oracle import Reference, reasons
 from yollenka.lab.permitted import COUNTERS, VERIFY, Scene, aside, excuse_of, lacking
 from yollenka.lab.verdict import (
@@ -118,6 +118,8 @@ class Walk:
         ask, end = ask_name(self.reference.side, self.reference.ask), self.purchase.end or ""
         if end == "lost":
             self.stop(NOTE, f"the terminal lost its power; the reference goes on with {ask}")
+        elif end == READING:
+            self.stop(NOTE, f"the card was read and no more; the reference goes on with {ask}")
         elif end.startswith("cut"):
             self.stop(OPEN, f"the card was gone, and the log has no {ask} without an answer")
         else:
@@ -326,7 +328,7 @@ class Walk:
                 continue
             self.beyond(at, ending)
             break
-        if self.purchase.end not in (None, "", "lost"):
+        if self.purchase.end not in (None, "", "lost", READING):
             for one in end_differences(self.purchase.end, self.reference.end, self.is_supplied):
                 self.differ(WRONG, one[0], details=one[1])
 
