@@ -7,7 +7,7 @@ from yollenka.lab.verdict import OPEN, PERMITTED, WRONG
 from yollenka.model.objects import DICTIONARY, first, is_constructed, objects, spelled
 
 AMOUNTS, UNPREDICTABLE, RESULTS, STATUS = (0x9F02, 0x9F03), 0x9F37, 0x95, 0x9B
-CDA = 0x10
+CDA, ENCIPHERED_PIN = 0x10, 0xDF11
 AUTHENTICATED = 0x80
 
 
@@ -124,17 +124,18 @@ def options_differences(scene, sent, wanted, is_byte_protocol):
     return [*found, *data_differences(scene, scene.said.list_, 5 + ones[0].at, ones[0].value, others[0].value)]
 
 
-def message_differences(scene, sent, wanted):
-    """How two messages to the host in this project's form differ, object by object; an enciphered PIN isn't compared where the
-    key is not known or the PIN is."""
+def message_differences(scene, sent, wanted, knows_pins):
+    """How two messages to the host in this project's form differ, object by object."""
     ones, others = (objects(first(objects(one)[0], 0xE1) or b"")[0] for one in (sent, wanted))
-    if [one.tag for one in ones] != [one.tag for one in others]:
-        if sent != wanted:
-            yield Difference(WRONG, "the message to the host has other objects")
+    if [one.tag for one in ones] != [one.tag for one in others] or not ones:
+        yield Difference(WRONG, "the message to the host has other objects")
         return
-    begin = len(sent) - sum(len(spelled(one.tag, one.value)) for one in ones)
-    for one, other in zip(ones, others):
-        if one.value != other.value:
+    pairs = [(one, other) for one, other in zip(ones, others) if one.value != other.value]
+    begin = sent.find(spelled(ones[0].tag, ones[0].value))
+    for one, other in pairs:
+        if one.tag == ENCIPHERED_PIN and knows_pins:
+            yield Difference(WRONG, object_name(one.tag), tuple(details_of(one.tag, begin + one.at, one.value, other.value)))
+        elif one.tag != ENCIPHERED_PIN:
             yield object_difference(scene, one.tag, begin + one.at, one.value, other.value)
-    if sent != wanted and all(one.value == other.value for one, other in zip(ones, others)):
+    if not pairs:
         yield Difference(WRONG, "the message to the host is spelled in another way")

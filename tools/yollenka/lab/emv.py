@@ -2,7 +2,7 @@
 from dataclasses import dataclass, field
 
 from yollenka.model.objects import Fault as NoList
-from yollenka.model.objects import entries, first, is_constructed, objects, only, tag_text, total
+from yollenka.model.objects import DICTIONARY, entries, first, fitted, is_constructed, objects, only, tag_text, total
 from yollenka.words import TAGS, TSI, TVR
 
 GENERATE = b"\x80\xae"
@@ -15,6 +15,8 @@ NAMES = {
     "04da": "PUT DATA", "00c0": "GET RESPONSE",
 }
 BITS = {0x95: TVR, 0x9B: TSI}
+# What a terminal tells of itself and its purchase, with the number of bytes.
+SIZES = {0x9F35: 1, 0x9F1A: 2, 0x9F33: 3, 0x9F1C: 8, 0x9F02: 6, 0x9F03: 6, 0x5F2A: 2, 0x9A: 3, 0x9C: 1, 0x9F21: 3, 0x9F37: 4}
 
 
 def data_of(command):
@@ -107,7 +109,8 @@ def information(answer):
 class Said:
     """What a card has said in a log: `list_` its list 9F38, `options` the data of GET PROCESSING OPTIONS, `profile` and `locator`,
     `held` the first value of each object in its records, `found` each name that it gave with its priority (15 for none),
-    `generated` the data and P1 of each GENERATE AC that stands in the log."""
+    `generated` the data and P1 of each GENERATE AC that stands in the log, `message` the objects of the first request to the
+    host in this project's form. `has_begun` tells that GET PROCESSING OPTIONS was answered."""
 
     list_: bytes = b""
     options: bytes = b""
@@ -116,6 +119,8 @@ class Said:
     held: dict = field(default_factory=dict)
     found: dict = field(default_factory=dict)
     generated: list = field(default_factory=list)
+    message: list = field(default_factory=list)
+    has_begun: bool = False
 
     def first_results(self):
         """The verification results in the first GENERATE AC, or None."""
@@ -123,13 +128,17 @@ class Said:
         return next((one.value for one in told or () if one.tag == 0x95 and len(one.value) == 5), None)
 
     def told(self):
-        """What the terminal told in its first lists: each tag with its first value that isn't zeros, else with zeros."""
+        """What the terminal told in its first lists and its message: each tag with its first value that is whole and not zeros,
+        else with its first value, cut or filled up to its size."""
         lists = [(self.list_, self.options)]
         lists += [(self.held.get(0x8C, b""), self.generated[0][0])] if self.generated else []
+        values = [one for list_, data in lists for one in fields(list_, data) or ()] + self.message
         found = {}
-        for one in (one for list_, data in lists for one in fields(list_, data) or ()):
-            if one.tag not in found or not any(found[one.tag]):
-                found[one.tag] = one.value
+        for tag, size in SIZES.items():
+            own = [one.value for one in values if one.tag == tag and one.value]
+            best = next((value for value in own if len(value) >= size and any(value)), own[0] if own else None)
+            if best is not None:
+                found[tag] = fitted(best, size, DICTIONARY[tag][0])
         return found
 
 
@@ -139,6 +148,8 @@ def said(exchanges):
     for one in exchanges:
         if one.side == "card" and len(one.sent) >= 4:
             listen(told, one.sent, one.got or b"")
+        elif one.side == "host" and not told.message:
+            told.message = objects(first(objects(one.sent)[0], 0xE1) or b"")[0]
     return told
 
 
@@ -155,7 +166,7 @@ def listen(told, command, answer):
         one = objects(data_of(command))[0]
         told.options = one[0].value if one and one[0].tag == 0x83 else b""
         hear_profile(told, body)
-    elif name == "READ RECORD" and told.profile != b"\0\0":
+    elif name == "READ RECORD" and told.has_begun:
         for one in primitives(body):
             told.held.setdefault(one.tag, one.value)
     elif name == "GENERATE AC":
@@ -168,6 +179,7 @@ def hear_profile(told, body):
     if outer is None:
         return
     inner = objects(outer.value)[0] if outer.tag == 0x77 else []
+    told.has_begun = True
     told.profile = outer.value[:2] if outer.tag == 0x80 else first(inner, 0x82) or b"\0\0"
     told.locator = outer.value[2:] if outer.tag == 0x80 else first(inner, 0x94) or b""
 

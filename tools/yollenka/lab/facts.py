@@ -14,6 +14,7 @@ NOT_OF_A_TERMINAL = ("dialect", "durable")
 # Any key does where a log has no message with an online PIN to compare.
 NO_KEY = "00" * 16
 REQUIRED = ("amount", "currency", "date", "number", "word")
+ROW_KEYS = ("name", "partial", "version", "denial", "online", "default", "floor", "threshold", "target", "max_target")
 NO_BITS, ALL_BITS, NO_LIMIT = "00" * 5, "FF" * 5, 999_999_999_999
 # Where no one tells the terminal's capabilities: a PIN for the card, a signature, no verification; then without a PIN pad.
 CAPS, WITHOUT_PAD = "E0B8C8", "E028C8"
@@ -41,12 +42,14 @@ class Facts:
 @dataclass
 class Settled:
     """The facts with nothing left open: the `lane` with its `aid` and one `purchase`, the `pin_key`, findings about what was
-    taken, assumed or permitted in `lines`, and in `lacking` the places of the keys that no one gave."""
+    taken, assumed or permitted in `lines`, and in `lacking` the places of the keys that no one gave. `knows_pins` tells that an
+    enciphered PIN can be compared."""
 
     lane: dict
     pin_key: str
     lines: list = field(default_factory=list)
     lacking: list = field(default_factory=list)
+    knows_pins: bool = False
 
     def text(self):
         """The document of the reference."""
@@ -71,18 +74,18 @@ def facts_of_scenario(scenario, lane, number):
 
 def amount(value):
     """A number of decimal digits."""
-    return int(value.hex()) if value.hex().isdecimal() and len(value) <= 6 else None
+    return int(value.hex()) if value.hex().isdecimal() else None
 
 
 def code(value):
     """Three digits behind a 0."""
     text = value.hex()
-    return text[1:] if len(text) == 4 and text.isdecimal() and text[0] == "0" else None
+    return text[1:] if text.isdecimal() and text[0] == "0" else None
 
 
 def digits(value):
     """Six decimal digits."""
-    return value.hex() if len(value) == 3 and value.hex().isdecimal() else None
+    return value.hex() if value.hex().isdecimal() else None
 
 
 def date(value):
@@ -97,18 +100,18 @@ def one_of(*numbers):
 
 def capabilities(value):
     """Three bytes."""
-    return value.hex().upper() if len(value) == 3 else None
+    return value.hex().upper()
 
 
 def identification(value):
     """Eight letters or digits."""
     text = value.decode("latin1")
-    return text if len(text) == 8 and text.isascii() and text.isalnum() else None
+    return text if text.isascii() and text.isalnum() else None
 
 
 def number(value):
     """An unpredictable number."""
-    return int.from_bytes(value) if len(value) == 4 else None
+    return int.from_bytes(value)
 
 
 # Tag, the table and key that it tells, its reader, and what stands where no one tells it (None: then the key lacks).
@@ -176,7 +179,7 @@ def assume(card, exchanges, facts, settled):
     if "pins" not in purchase:
         purchase["pins"] = (pins_of(exchanges) + [ANY_PIN] * has_bit(results, 33))[:15]
         said_so.extend(["a PIN for the issuer was entered"] if has_bit(results, 33) else [])
-    settled.lines.extend(Line(ASSUMED, f"as the verification results say so: {words}") for words in said_so)
+    settled.lines.extend(Line(ASSUMED, words) for words in said_so)
 
 
 # The terminal's rows.
@@ -214,7 +217,8 @@ def codes_of(card, kind):
 def fill_rows(card, exchanges, settled):
     """Sets what the rows leave open; each such key lacks."""
     results, lane = card.first_results() or bytes(5), settled.lane
-    if not lane["aid"]:
+    is_guessed = not lane["aid"]
+    if is_guessed:
         lane["aid"] = rows_in(exchanges)
         settled.lacking.append("aid")
     price, version = lane["purchase"][0]["amount"], card.held.get(0x9F08, b"")
@@ -225,7 +229,7 @@ def fill_rows(card, exchanges, settled):
            **codes_of(card, lane["kind"]), "floor": floor, "threshold": 0, "target": target, "max_target": target}
     for at, row in enumerate(lane["aid"]):
         lacking = [key for key in own if key not in row]
-        settled.lacking.extend(f"aid[{at}].{key}" for key in lacking)
+        settled.lacking.extend(f"aid[{at}].{key}" for key in lacking if not is_guessed)
         row.update({key: own[key] for key in lacking})
         row["threshold"] = min(row["threshold"], row["floor"]) if "threshold" in lacking else row["threshold"]
         row["max_target"] = max(row["max_target"], row["target"]) if "max_target" in lacking else row["max_target"]
@@ -269,10 +273,10 @@ def lower_floor(card, paid, settled):
 def settle(purchase, facts):
     """The facts of a purchase of a log, with all that lacks set."""
     exchanges = [one for one in purchase.exchanges if one.side == "card"]
-    card, own = said(exchanges), dict(facts.purchase)
+    card, own = said(purchase.exchanges), dict(facts.purchase)
     own.setdefault("card", "card")
     lane = {**facts.lane, "aid": [dict(row) for row in facts.aids], "purchase": [own]}
-    settled = Settled(lane, facts.pin_key or NO_KEY)
+    settled = Settled(lane, facts.pin_key or NO_KEY, knows_pins=facts.pin_key is not None and "pins" in own or facts.is_whole())
     take_values(card.told(), facts, settled)
     if not facts.is_whole():
         assume(card, exchanges, facts, settled)

@@ -1,18 +1,23 @@
 """`lab judge`: verdicts on terminals of other makes, by logs of what they said to cards and to the issuer."""
+import sys
 import time
 from dataclasses import replace
 from pathlib import Path
 
 from yollenka.faults import Fault
-from yollenka.lab.facts import facts_of, facts_of_scenario
+from yollenka.lab.facts import ROW_KEYS, Facts, facts_of, facts_of_scenario
 from yollenka.lab.logs import read_log
 from yollenka.lab.told import Result, junit, status_of, tap_lines
 from yollenka.lab.walk import judge
-from yollenka.scenarios import NoDocument, read_document
+from yollenka.scenarios import NoDocument, pair, read_document
+from yollenka.schema import faults, read_schema
 
-TEXT = """A verdict on each purchase of each log: `ok`, `not ok` with what should have been sent, or inconclusive.
+TEXT = """\
+A verdict on each purchase of each log: `ok`, or `not ok` with what should have been sent, or inconclusive.
 
-LOG is a trace, a report, or what a logger wrote; docs/lab.md lists the forms."""
+LOG is a trace, a report, or what a logger or a card client wrote; docs/lab.md lists the forms. What isn't known of the
+terminal may be left out: it is taken from the log, and the verdict is inconclusive where it would depend on a guess."""
+LANE_KEYS = ("kind", "country", "caps", "id")
 
 
 def arguments(parser):
@@ -24,52 +29,121 @@ def arguments(parser):
     parser.add_argument("--html", metavar="F", help="writes a page to print to this file")
 
 
+# What is given.
+
 def text_of(path):
     """A log's text."""
     try:
-        return Path(path).read_bytes().decode("utf-8-sig", errors="replace")
+        data = sys.stdin.buffer.read() if path == "-" else Path(path).read_bytes()
     except OSError as error:
         raise Fault(f"{path}: {error.strerror}") from None
+    return data.decode("utf-16" if data[:2] in (b"\xff\xfe", b"\xfe\xff") else "utf-8-sig", errors="replace")
+
+
+def place_text(place):
+    """A place in a document, as refusals have it."""
+    return "".join(f"[{step}]" if isinstance(step, int) else f".{step}" for step in place).lstrip(".")
+
+
+def check(path, lane):
+    """Looks at a lane's keys by the schema; what lacks is no fault."""
+    root = read_schema()
+    for place, text in faults(root["$defs"]["lane"], lane, (), root):
+        if not text.endswith(" is missing") and not (place == ("aid",) and lane.get("aid") == []):
+            raise Fault(f"{path}: {place_text(place) or 'the lane'}: {text}")
+
+
+def of_scenario(path, scenario, purchase):
+    """The facts of a purchase of a log by a scenario: a report names lane and number, else the first one counts."""
+    lane, number = purchase.lane or 0, purchase.number or 1
+    try:
+        check(path, scenario["lane"][lane])
+        return facts_of_scenario(scenario, lane, number)
+    except (IndexError, KeyError, TypeError):
+        raise Fault(f"{path} has no purchase {number} of lane {lane}") from None
 
 
 def told_facts(path):
-    """What gives the facts of a purchase, from the file behind --lane."""
+    """What gives the facts of a purchase of a log, from the file behind --lane."""
+    if path is None:
+        return lambda purchase: of_trace(purchase)
     try:
-        document = read_document(path) if path else {}
+        told = read_document(path)
     except NoDocument as fault:
         raise Fault(str(fault)) from None
-    lanes = document.get("lane")
-    if isinstance(lanes, list):
-        return lambda one: facts_of_scenario(document, one.lane or 0, one.number or 1)
-    if isinstance(lanes, dict):
-        return lambda one: facts_of(lanes, None, document.get("pin_key"))
-    return lambda one: facts_of(document, None, document.get("pin_key"))
+    if isinstance(told.get("lane"), list):
+        return lambda purchase: of_scenario(path, told, purchase)
+    lane = told["lane"] if isinstance(told.get("lane"), dict) else {key: told[key] for key in told if key not in ("pin_key", "trace")}
+    check(path, lane)
+    return lambda purchase: facts_of(lane, None, told.get("pin_key"))
 
 
-def results_of(path, facts):
-    """The results of a log's purchases."""
+def of_trace(purchase):
+    """The facts that a trace has itself; none of another log."""
+    own = purchase.document or {}
+    if not isinstance(own.get("lane"), dict):
+        return Facts()
+    check("the trace", own["lane"])
+    return facts_of(own["lane"], None, own.get("pin_key"))
+
+
+# What is made of it.
+
+def purchases_of(path):
+    """The purchases of a log."""
     try:
-        purchases = read_log(text_of(path))
+        return read_log(text_of(path))
     except Fault as fault:
         raise Fault(f"{path}: {fault}") from None
+
+
+def results_of(path, purchases, facts):
+    """The results of a log's purchases. An approval counts in the later purchases of its lane."""
     paid = {}
     for number, purchase in enumerate(purchases, 1):
         begin, before = time.monotonic(), paid.setdefault(purchase.lane, [])
         verdict = judge(purchase, replace(facts(purchase), paid=before))
         before += [verdict.paid] if verdict.paid else []
         name = Path(path).stem if len(purchases) == 1 else f"{Path(path).stem} {number}"
-        yield Result(name, verdict, time.monotonic() - begin)
+        yield Result(name, verdict, time.monotonic() - begin, purchase)
+
+
+def to_complete(verdict):
+    """The lane of a verdict as a document to complete: what was guessed is marked."""
+    lane, lacking = verdict.lane, verdict.lacking
+    for key in LANE_KEYS:
+        yield f"{pair(key, lane[key])}{'  # guessed' if key in lacking else ''}"
+    for at, row in enumerate(lane["aid"]):
+        yield "[[aid]]"
+        for key in (key for key in ROW_KEYS if key in row):
+            yield f"{pair(key, row[key])}{'  # guessed' if {'aid', f'aid[{at}].{key}'} & {*lacking} else ''}"
+
+
+def write(path, text):
+    """Writes a file."""
+    try:
+        Path(path).write_text(text)
+    except OSError as error:
+        raise Fault(f"{path}: {error.strerror}") from None
 
 
 def run(options):
     """Judges the logs; gives the status."""
     facts, results = told_facts(options.lane), []
+    logs = [(path, purchases_of(path)) for path in options.log]
     print("TAP version 13")
-    for path in options.log:
-        for result in results_of(path, facts):
+    for path, purchases in logs:
+        for result in results_of(path, purchases, facts):
             results.append(result)
             print("\n".join(tap_lines(len(results), result, options.all)), flush=True)
     print(f"1..{len(results)}")
+    guessed = next((one.verdict for one in results if one.verdict.lacking), None)
+    if guessed:
+        print("# a T.toml to complete, for --lane:")
+        print("\n".join(f"#   {line}" for line in to_complete(guessed)))
     if options.junit:
-        Path(options.junit).write_text("\n".join(junit(results, "lab judge")) + "\n")
+        write(options.junit, "\n".join(junit(results, "lab judge")) + "\n")
+    if options.html:
+        from yollenka.lab import page
+        write(options.html, page.judged_page("lab judge", results))
     return status_of(results)

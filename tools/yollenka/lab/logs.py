@@ -91,7 +91,7 @@ def hexadecimal(text, line):
     """The bytes that a text writes, with or without blanks, colons or 0x between them. The last one may have one digit, as some
     clients write a status byte below 10."""
     words = re.sub(r"0x|[,:;\[\]]", " ", text, flags=re.IGNORECASE).split()
-    if len(words) > 2 and len(words[-1]) == 1 and len(words[-2]) <= 2:
+    if len(words) > 1 and len(words[-1]) == 1 and len(words[-2]) <= 2:
         words[-2:] = [word.rjust(2, "0") for word in words[-2:]]
     try:
         found = bytes.fromhex("".join(words))
@@ -204,7 +204,7 @@ def entries(lines):
     held = None
     for number, line in lines:
         line = re.sub(r" : .*$", "", line)
-        if re.fullmatch(r"(?:> ?)?(?:RESET|reset)|< ?OK.*", line):
+        if re.fullmatch(r"(?:> ?)?(?:RESET|reset)|< ?OK.*|(?:dis)?connecting .*", line):
             yield from (one for one in (held, Event(BEGIN, CARD, None, number)) if one)
             held = None
         elif ENTRY.match(line) or line.startswith("end"):
@@ -218,23 +218,24 @@ def entries(lines):
 
 
 def spied(lines):
-    """What pcsc-spy writes: buffers as dumps below their names."""
-    what, data, begin = None, b"", 0
+    """What pcsc-spy writes: buffers as dumps below their names, of SCardTransmit alone."""
+    what, data, begin, is_transmit = None, b"", 0, True
     for number, line in [*lines, (0, "")]:
-        dump = re.match(r"([0-9A-Fa-f]{4,8}):? +((?:[0-9A-Fa-f]{2}(?: |$)).*)", line)
+        dump = re.match(r"[0-9A-Fa-f]{4,8}:? +((?:[0-9A-Fa-f]{2}(?: |$)).*)", line)
         if what and dump:
-            data += dumped(dump[2], number)
+            data += dumped(dump[1], number)
             continue
         if what and data:
             yield Event(what, CARD, data, begin)
         what, data, begin = None, b"", number
-        name = re.search(r"\b(bSendBuffer|bRecvBuffer)\b:?(.*)", line)
-        if name:
+        call, name = re.match(r"(?:\S+ )?SCard([A-Z]\w+)", line), re.search(r"\b(bSendBuffer|bRecvBuffer)\b:?(.*)", line)
+        is_transmit = call[1] == "Transmit" if call else is_transmit
+        if name and is_transmit:
             what = ASK if name[1] == "bSendBuffer" else REPLY
             data = hexadecimal(name[2], number) if re.fullmatch(r"[ 0-9A-Fa-f]+", name[2]) else b""
-        elif re.search(r"SCardConnect|SCardReconnect", line):
+        elif call and call[1] in ("Connect", "Reconnect"):
             yield Event(BEGIN, CARD, None, number)
-        elif re.search(r"SCARD_W_REMOVED_CARD|SCARD_W_RESET_CARD|SCARD_E_NOT_TRANSACTED|SCARD_E_NO_SMARTCARD", line):
+        elif is_transmit and re.search(r"SCARD_W_REMOVED_CARD|SCARD_W_RESET_CARD|SCARD_E_NOT_TRANSACTED|SCARD_E_NO_SMARTCARD", line):
             yield Event(REPLY, CARD, None, number)
 
 
@@ -261,25 +262,34 @@ def sent_and_received(lines):
             yield Event(BEGIN, CARD, None, number)
 
 
+# At least two bytes, and what may name a side behind a mark.
+BYTES, LABEL = r"(?:[0-9A-Fa-f]{2}[ :]?){2,}", r"(?:[A-Za-z][A-Za-z ()]{2,}: *)?"
 BEGINS = re.compile(r"\bATR\b|\bSCardConnect\b|\b[Cc]onnect(?:ed|ing)?\b|\b[Pp]ower(?:ed|ing)? ?(?:up|on)\b|\bPower[Uu]p\b|^RESET$")
 
 
-def marked(ask, reply, inner=""):
-    """A reader of lines with a mark before a command and one before an answer; `inner` is what may stand between mark and bytes."""
-    asks, replies = (re.compile(f"(?:^|.*?[^0-9A-Za-z<>-]){mark}(?![<>])\\s*{inner}(.*)") for mark in (ask, reply))
+def marked(ask, reply, inner=LABEL):
+    """A reader of lines with a mark before a command and one before an answer; `inner` is what may stand between mark and bytes.
+    Bytes may go on in the next line."""
+    marks = [(what, re.compile(f"(?:^|.*?[^0-9A-Za-z<>=-]){mark}(?![<>=])\\s*{inner}(.*)")) for what, mark in ((ASK, ask), (REPLY, reply))]
 
     def read(lines):
+        held = None
         for number, line in lines:
-            for what, found in ((ASK, asks.match(line)), (REPLY, replies.match(line))):
-                if found:
-                    bytes_ = re.sub(r" : .*$", "", found[1]).strip().strip('"')
-                    is_gone = what == REPLY and bytes_.lower() in NOTHING
-                    yield Event(what, CARD, None if is_gone else hexadecimal(bytes_, number), number)
-                    break
-            else:
-                if BEGINS.search(line):
-                    yield Event(BEGIN, CARD, None, number)
+            what, found = next(((what, found) for what, mark in marks if (found := mark.match(line))), (None, None))
+            if held and held.value is not None and re.fullmatch(r"(?:[0-9A-Fa-f]{2} ?)+", line):
+                held = replace(held, value=held.value + hexadecimal(line, number))
+            elif found or BEGINS.search(line):
+                yield from (one for one in (held,) if one)
+                held = marked_event(what, found[1], number) if found else Event(BEGIN, CARD, None, number)
+        yield from (one for one in (held,) if one)
     return read
+
+
+def marked_event(what, text, line):
+    """The event of what stands behind a mark."""
+    text = re.sub(r" : .*$", "", text).strip().strip('"')
+    is_gone = what == REPLY and text.lower() in NOTHING
+    return Event(what, CARD, None if is_gone else hexadecimal(text, line), line)
 
 
 def plain(lines):
@@ -292,21 +302,23 @@ def plain(lines):
         what = REPLY if what == ASK else ASK
 
 
-LONG_HEX = r"(?:[0-9A-Fa-f]{2}[ :]?){2,}"
+def arrow(mark):
+    """The sign of a form whose commands stand behind this mark."""
+    return re.compile(rf"(?:^|[^0-9A-Za-z<>=-]){mark}\s*{LABEL}{BYTES}")
+
+
+# The first form whose sign a line has; the order counts.
 FORMS = [
     (re.compile(r"\bb(?:Send|Recv)Buffer\b"), spied),
     (re.compile(r"^\S*\s*A(?:>>|<<)"), marked(r"A>>", r"A<<", r"(?:T=\S+ )?(?:\([0-9+ ]+\) ?)?(?:\([0-9.]+ ?[mu]?s\) ?)?")),
     (re.compile(r"^(?:.*\s)?APDU:"), marked(r"APDU:", r"SW:")),
     (re.compile(r"^Sending:"), sent_and_received),
     (re.compile(r"\bC-?APDU\b", re.IGNORECASE), marked(r"(?i:C-?APDU) ?:?", r"(?i:R-?APDU) ?:?")),
-    (re.compile(rf"(?:^|\s)-->\s*{LONG_HEX}"), marked(r"-->", r"<--")),
-    (re.compile(rf"(?:^|\s)=>\s*{LONG_HEX}"), marked(r"=>", r"<=")),
-    (re.compile(rf"(?:^|\s)->\s*{LONG_HEX}"), marked(r"->", r"<-")),
-    (re.compile(rf"(?:^|\s)>>\s*{LONG_HEX}"), marked(r">>", r"<<")),
-    (re.compile(rf"(?:^|\W)T[xX]\s*:?\s*{LONG_HEX}"), marked(r"T[xX] ?:?", r"R[xX] ?:?")),
-    (re.compile(rf"^> ?(?:{LONG_HEX}|RESET)"), entries),
-    (re.compile(rf"^\S+ > ?{LONG_HEX}"), marked(r">", r"<")),
-    (re.compile(rf"^(?:{LONG_HEX})$"), plain),
+    (arrow("-->"), marked("-->", "<--")), (arrow("=>"), marked("=>", "<=")), (arrow("->"), marked("->", "<-")),
+    (arrow(">>"), marked(">>", "<<")), (arrow("T[xX] ?:?"), marked("T[xX] ?:?", "R[xX] ?:?")),
+    (re.compile(rf"^> ?(?:{BYTES}|RESET)"), entries),
+    (arrow(">"), marked(">", "<")),
+    (re.compile(rf"^(?:{BYTES})$"), plain),
 ]
 
 

@@ -1,23 +1,27 @@
 """How verdicts are told: lines of the Test Anything Protocol (TAP 13), and JUnit XML."""
 import re
 from dataclasses import dataclass
-from xml.sax.saxutils import escape, quoteattr
+from html import escape
 
 from yollenka.lab import FAILED as STATUS_FAILED, INCONCLUSIVE as STATUS_INCONCLUSIVE, PASSED as STATUS_PASSED
-from yollenka.lab.verdict import BEHIND, FAILED, INCONCLUSIVE, PASSED, WRONG
+from yollenka.lab.verdict import ASSUMED, BEHIND, FAILED, INCONCLUSIVE, LACKING, NOTE, OPEN, OWN, PASSED, TAKEN, WRONG
 
 # So many consequences of a fault are shown, unless all are asked for.
 SHOWN = 2
-WORDS = {WRONG: "WRONG", BEHIND: "behind it", "permitted": "permitted", "own": "inconclusive", "open": "inconclusive"}
+WORDS = {
+    WRONG: "WRONG", BEHIND: "behind it", OWN: "inconclusive", OPEN: "inconclusive", TAKEN: "taken from the log, so not judged",
+    ASSUMED: "assumed, as the verification results say so", LACKING: "not known, so guessed",
+}
 
 
 @dataclass
 class Result:
-    """A verdict with the name of what was judged, and the seconds that it took."""
+    """A verdict with the name of what was judged, the seconds that it took, and the purchase of the log (logs.Purchase)."""
 
     name: str
     verdict: object
     seconds: float = 0.0
+    purchase: object = None
 
 
 def place_of(line):
@@ -31,7 +35,7 @@ def line_texts(line):
     """The lines that tell a finding, without the mark of a comment."""
     section = f" ({line.section})" if line.section else ""
     word = WORDS.get(line.kind, line.kind)
-    yield f"{word}{place_of(line)}: {line.text}{section}" if line.kind != "note" else f"{line.text}{section}"
+    yield f"{word}{place_of(line)}: {line.text}{section}" if line.kind != NOTE else f"{line.text}{section}"
     if line.sent is not None and line.wanted is not None:
         yield f"  sent   {line.sent.hex()}"
         yield f"  wanted {line.wanted.hex()}"
@@ -72,9 +76,9 @@ def junit(results, suite):
     """All results as JUnit XML has them: a fault is a `failure`, what is inconclusive is `skipped`."""
     counts = [sum(one.verdict.status == status for one in results) for status in (FAILED, INCONCLUSIVE)]
     yield '<?xml version="1.0" encoding="UTF-8"?>'
-    yield f'<testsuite name={quoteattr(in_xml(suite))} tests="{len(results)}" failures="{counts[0]}" skipped="{counts[1]}">'
+    yield f'<testsuite name="{escape(in_xml(suite))}" tests="{len(results)}" failures="{counts[0]}" skipped="{counts[1]}">'
     for one in results:
-        yield f'  <testcase name={quoteattr(in_xml(one.name))} time="{one.seconds:.3f}">'
+        yield f'  <testcase name="{escape(in_xml(one.name))}" time="{one.seconds:.3f}">'
         text = escape(in_xml("\n".join(verdict_texts(one.verdict, True))))
         if one.verdict.status == FAILED:
             yield f"    <failure>{text}</failure>"

@@ -11,6 +11,7 @@ OPEN = "open"                # what can't be judged: inconclusive
 SUPPLIED = "supplied"        # a reply of the host that the log lacks, made from what follows
 TAKEN = "taken"              # values that were taken from the log, so not judged
 ASSUMED = "assumed"          # a fact that no byte tells, set as the verification results say
+LACKING = "not known"        # keys of the lane that neither facts nor log give
 NOTE = "note"                # anything else that one should know
 
 

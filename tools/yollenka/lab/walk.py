@@ -14,7 +14,7 @@ from yollenka.lab.logs import CARD, HOST, READING
 from yollenka.lab.oracle import Reference, reasons
 from yollenka.lab.permitted import COUNTERS, VERIFY, Scene, aside, excuse_of, lacking
 from yollenka.lab.verdict import (
-    BEHIND, FAILED, INCONCLUSIVE, NOTE, OPEN, OWN, PASSED, PERMITTED, SUPPLIED, WRONG, Line, Verdict,
+    BEHIND, FAILED, INCONCLUSIVE, LACKING, NOTE, OPEN, OWN, PASSED, PERMITTED, SUPPLIED, WRONG, Line, Verdict,
 )
 from yollenka.model.objects import account_number
 
@@ -31,8 +31,10 @@ class Walk:
     def __init__(self, purchase, settled):
         self.purchase, self.settled = purchase, settled
         self.log, self.used, self.at = purchase.exchanges, set(), 0
-        self.said = said([one for one in self.log if one.side == CARD])
-        self.lines, self.wanted_at, self.fitting = [], {}, 0
+        self.said = said(self.log)
+        self.lines, self.fitting = [], 0
+        # The place in `fed` of the command that was wanted, by a finding's place: where its kind or its bits need a reason.
+        self.wanted_at = {}
         # Of what kind a difference is from here on, where one before has changed the way.
         self.shade, self.is_stopped, self.is_supplied = None, False, False
         self.reference = Reference(settled.text())
@@ -75,9 +77,7 @@ class Walk:
     def differ(self, kind, text, at=None, **more):
         """Adds a difference; what comes behind one may follow from it."""
         self.tell(self.shade or kind, text, at, **more)
-        if self.shade is None:
-            self.wanted_at[len(self.lines) - 1] = len(self.reference.fed) - 1
-            self.shade = BEHIND
+        self.shade = BEHIND
 
     def stop(self, kind=None, text=""):
         """Ends the walk here."""
@@ -132,7 +132,7 @@ class Walk:
             return self.feed(at)
         if now.side == CARD and len(now.sent) > 5 and now.sent[:2] == ask[:2] and now.sent[:2] in (GENERATE, OPTIONS):
             return self.compare(at)
-        for rule in (self.is_left_out, self.is_later, self.is_aside, self.is_early):
+        for rule in (self.is_left_out, self.is_again, self.is_later, self.is_aside, self.is_early):
             if rule(at):
                 return None
         return self.wrong(at)
@@ -168,6 +168,11 @@ class Walk:
         self.tell(rule.kind, rule.text, at, section=rule.section)
         self.reply(answer)
         return True
+
+    def is_again(self, at):
+        """The log reads a counter once more."""
+        was = any(self.log[place].sent == self.log[at].sent for place in self.used)
+        return was and self.log[at].sent.hex().startswith(COUNTERS) and self.is_aside(at)
 
     def is_later(self, at):
         """The reference's command stands later, where the order is free."""
@@ -232,11 +237,14 @@ class Walk:
         if not wrong:
             return
         name = ask_name(self.log[at].side, sent)
-        text = f"{name}, wanted {ask_name(self.log[at].side, ask)}" if any(one.is_kind for one in wrong) else name
+        is_kind = any(one.is_kind for one in wrong)
+        text = f"{name}, wanted {ask_name(self.log[at].side, ask)}" if is_kind else f"{name}, with other bytes"
         details = [detail for one in wrong for detail in (one.details or (one.text,)) if not one.is_kind]
         is_excused = excused and all(one.is_kind for one in wrong)
         kind = excused[0].kind if is_excused else WRONG
         self.differ(kind, text, at, sent=sent, wanted=ask, details=tuple(details))
+        if is_kind or any(one.bits for one in wrong):
+            self.wanted_at.setdefault(len(self.lines) - 1, len(self.reference.fed) - 1)
 
     def wrong(self, at):
         """A difference that nothing permits. The walk goes on where that is sensible."""
@@ -250,7 +258,7 @@ class Walk:
             self.differ(excuse.kind, f"{text}: {excuse.text}", at, section=excuse.section)
         else:
             shows = self.has_guesses_none(now, ask)
-            self.differ(WRONG, text if name != wanted else f"{name} has other bytes", at,
+            self.differ(WRONG, text if name != wanted else f"{name}, with other bytes", at,
                         sent=now.sent if shows else None, wanted=ask if shows else None)
         self.mend(at)
 
@@ -259,21 +267,31 @@ class Walk:
         return now.side == CARD and (ask[:2] != GENERATE or bool(self.said.generated))
 
     def mend(self, at):
-        """Goes on behind a difference: the log's command takes the place of the reference's, is too many, or the reference's lacks."""
+        """Goes on behind a difference: the log's command is too many, takes the place of the reference's, or that one lacks."""
         now, ask = self.log[at], self.reference.ask
-        left = self.left()
-        stands = next((place for place in left[1:4] if self.log[place].side == CARD and self.log[place].sent == ask), None)
-        if stands is not None or now.side == HOST:
+        stands = [place for place in self.left()[1:4] if self.log[place].side == CARD and self.log[place].sent == ask]
+        if stands or now.side == HOST:
             self.take(at)
-        elif now.sent[:2] == ask[:2]:
+        elif ask[:2] == READ and self.earlier(ask) is not None:
+            self.supply(ask)
+        elif is_like(now.sent, ask) or now.sent[:2] == ask[:2] and not self.is_record(now.sent):
             self.feed(at)
         else:
             self.supply(ask)
 
+    def is_record(self, command):
+        """Whether a command reads a record that the locator names."""
+        groups = zip(*[iter(self.said.locator)] * 4)
+        return command[:2] == READ and any(
+            command[3] >> 3 == file >> 3 and begin <= command[2] <= end for file, begin, end, _ in groups)
+
+    def earlier(self, ask):
+        """The card's answer to this command where the log has one, else None."""
+        return next((one.got for one in self.log if one.side == CARD and one.sent == ask and one.got), None)
+
     def supply(self, ask):
         """Answers a command that the log lacks, behind a difference: as before, or as a card that hasn't got it."""
-        earlier = next((one.got for one in self.log if one.side == CARD and one.sent == ask and one.got), None)
-        head = ask[:2]
+        earlier, head = self.earlier(ask), ask[:2]
         if earlier is not None and head in (SELECT, READ):
             self.reply(earlier)
         elif head == SELECT:
@@ -301,14 +319,15 @@ class Walk:
 
     def hear_host(self, at):
         """The log has a message and a reply: in this project's form both are taken, else the reply is made from what follows."""
-        now = self.log[at]
-        if now.sent[:1] != b"\xe1" or now.got is not None and now.got[:1] != b"\xe2":
-            self.take(at)
-            self.fitting += self.shade is None
-            return self.reply(None) if now.got is None and now.is_told else self.invent(at + 1)
-        found = list(message_differences(self.scene(at), now.sent, self.reference.ask))
-        self.tell_differences(found, at, now.sent, self.reference.ask)
-        return self.feed(at)
+        now, ask = self.log[at], self.reference.ask
+        if now.sent != ask and (now.sent[:1] == ask[:1] or now.sent[1:3] == ask[1:3]):
+            found = list(message_differences(self.scene(at), now.sent, ask, self.settled.knows_pins))
+            self.tell_differences(found, at, now.sent, ask)
+        if not now.is_told or now.got is None or now.got[:1] == b"\xe2":
+            return self.feed(at)
+        self.take(at)
+        self.fitting += self.shade is None
+        return self.invent(at + 1)
 
     def invent(self, at):
         """Makes the host's reply from what follows in the log."""
@@ -340,6 +359,11 @@ class Walk:
         self.differ(kind, text, at, section=section)
 
 
+def is_like(sent, ask):
+    """Whether a command is the other one but for at most two bytes."""
+    return len(sent) == len(ask) and sum(one != other for one, other in zip(sent, ask)) <= 2
+
+
 def status_of(walk):
     """The status by the findings, and by what no one told."""
     kinds = {line.kind for line in walk.lines}
@@ -350,11 +374,16 @@ def status_of(walk):
 
 def explained(walk):
     """The findings, with the reference's reasons at each command that was wanted in place of another."""
-    wanted = {number: at for number, at in walk.wanted_at.items() if walk.lines[number].wanted is not None}
-    if not wanted:
+    if not walk.wanted_at:
         return walk.lines
     found = reasons(walk.reference.fed, walk.settled.lane)
-    return [replace(line, because=tuple(found.get(wanted.get(number), ()))) for number, line in enumerate(walk.lines)]
+    return [replace(line, because=tuple(found.get(walk.wanted_at.get(number), ()))) for number, line in enumerate(walk.lines)]
+
+
+def needed(walk):
+    """The keys that no one gave, as far as the reference came to need them: up to reading only the names count."""
+    is_past = any(entry.startswith(("> 0020", "> 80ca", "> 80ae")) for entry in walk.reference.fed)
+    return [key for key in walk.settled.lacking if is_past or key == "aid"]
 
 
 def paid_in(walk):
@@ -371,14 +400,17 @@ def walked(purchase, settled):
     return walk
 
 
-def judge(purchase, facts):
-    """The verdict on a purchase of a log (logs.Purchase) of a terminal of which this is known (facts.Facts). Raises Fault where
-    the facts are no lane."""
+def judge(purchase, facts, is_explained=True):
+    """The verdict on a purchase of a log (logs.Purchase) of a terminal of which this is known (facts.Facts), with the reference's
+    reasons unless no one reads them. Raises Fault where the facts are no lane."""
     settled = settle(purchase, facts)
     walk = walked(purchase, settled)
     if "caps" in settled.lacking and any(line.kind in (WRONG, OPEN) for line in walk.lines):
         other = walked(purchase, without_pad(settled))
         walk = other if other.fitting > walk.fitting else walk
-    lines = [*settled.lines, *explained(walk)]
+    settled, walk.settled.lacking = walk.settled, needed(walk)
+    if settled.lacking:
+        settled.lines.append(Line(LACKING, ", ".join(settled.lacking)))
+    lines = [*settled.lines, *(explained(walk) if is_explained else walk.lines)]
     return Verdict(status_of(walk), lines, walk.reference.end, walk.reference.fed, walk.fitting, len(purchase.exchanges),
                    settled.lane, settled.lacking, paid_in(walk))
