@@ -126,16 +126,17 @@ def options_differences(scene, sent, wanted, is_byte_protocol):
 
 def message_differences(scene, sent, wanted, knows_pins):
     """How two messages to the host in this project's form differ, object by object."""
-    ones, others = (objects(first(objects(one)[0], 0xE1) or b"")[0] for one in (sent, wanted))
+    ones, others = ([inner for inner in objects(first(objects(one)[0], 0xE1) or b"")[0] if knows_pins or inner.tag != ENCIPHERED_PIN]
+                    for one in (sent, wanted))
     if [one.tag for one in ones] != [one.tag for one in others] or not ones:
         yield Difference(WRONG, "the message to the host has other objects")
         return
     pairs = [(one, other) for one, other in zip(ones, others) if one.value != other.value]
     begin = sent.find(spelled(ones[0].tag, ones[0].value))
     for one, other in pairs:
-        if one.tag == ENCIPHERED_PIN and knows_pins:
+        if one.tag == ENCIPHERED_PIN:
             yield Difference(WRONG, object_name(one.tag), tuple(details_of(one.tag, begin + one.at, one.value, other.value)))
-        elif one.tag != ENCIPHERED_PIN:
+        else:
             yield object_difference(scene, one.tag, begin + one.at, one.value, other.value)
-    if not pairs:
+    if not pairs and knows_pins:
         yield Difference(WRONG, "the message to the host is spelled in another way")

@@ -108,8 +108,8 @@ def information(answer):
 @dataclass
 class Said:
     """What a card has said in a log: `list_` its list 9F38, `options` the data of GET PROCESSING OPTIONS, `profile` and `locator`,
-    `held` the first value of each object in its records, `found` each name that it gave with its priority (15 for none),
-    `generated` the data and P1 of each GENERATE AC that stands in the log, `message` the objects of the first request to the
+    `held` the first value of each object in its records, `found` each name that it gave with its priority indicator (0
+    for none), `generated` the data and P1 of each GENERATE AC that stands in the log, `message` the objects of the first request to the
     host in this project's form. `has_begun` tells that GET PROCESSING OPTIONS was answered."""
 
     list_: bytes = b""
@@ -161,7 +161,7 @@ def listen(told, command, answer):
         if own is not None:
             told.list_ = first(inner, 0x9F38) or b""
             indicator = first(inner, 0x87) or b"\0"
-            told.found[own] = (indicator[0] & 0x0F if indicator else 0) or 16
+            told.found[own] = indicator[0] if indicator else 0
     elif name == "GET PROCESSING OPTIONS":
         one = objects(data_of(command))[0]
         told.options = one[0].value if one and one[0].tag == 0x83 else b""

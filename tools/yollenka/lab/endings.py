@@ -21,9 +21,9 @@ def field_details(name, sent, wanted):
     return ()
 
 
-def end_differences(told, wanted, is_supplied):
+def end_differences(told, wanted, left_out):
     """For each difference its words and its details. Fields that aren't told aren't compared; of a terminated or cut end none
-    is, nor its cause. Scripts aren't where the host's reply was made from what follows."""
+    is, nor its cause. `left_out` are fields that aren't compared."""
     words, fields = parts_of(told)
     others, values = parts_of(wanted)
     is_decided = others[0] in ("approved", "declined")
@@ -32,7 +32,7 @@ def end_differences(told, wanted, is_supplied):
         return [(f"the end is told as {' '.join(words)}, wanted {' '.join(others)}", ())]
     found = []
     for name, value in fields.items() if is_decided else ():
-        if name == "scripts" and is_supplied or values.get(name) == value or name != "arc" and values.get(name) == value.lower():
+        if name in left_out or values.get(name) == value or name != "arc" and values.get(name) == value.lower():
             continue
         text = f"the end is told with {name} {value}, wanted {values.get(name, 'no such field')}"
         found.append((text, field_details(name, value, values.get(name, ""))))

@@ -16,8 +16,9 @@ NO_KEY = "00" * 16
 REQUIRED = ("amount", "currency", "date", "number", "word")
 ROW_KEYS = ("name", "partial", "version", "denial", "online", "default", "floor", "threshold", "target", "max_target")
 NO_BITS, ALL_BITS, NO_LIMIT = "00" * 5, "FF" * 5, 999_999_999_999
-# Where no one tells the terminal's capabilities: a PIN for the card, a signature, no verification; then without a PIN pad.
-CAPS, WITHOUT_PAD = "E0B8C8", "E028C8"
+# Where no one tells the terminal's capabilities: a PIN for the card, a signature, no verification; with a PIN for the issuer too;
+# and without a PIN pad.
+CAPS, WITH_ONLINE_PIN, WITHOUT_PAD = "E0B8C8", "E0F8C8", "E028C8"
 NEVER, ALWAYS = 98, 0
 ANY_PIN = "0000"
 
@@ -161,6 +162,13 @@ def is_service(card, purchase, lane, is_forbidden):
     return purchase["trade"] != 1 and country != "" and bool(goods) != bool(services) and is_forbidden == bool(goods)
 
 
+def is_unconfirmed(card, exchanges):
+    """Whether the card has an application that wants to be confirmed, and one that doesn't, or none, was begun."""
+    wanting = {name for name, indicator in card.found.items() if indicator & 0x80}
+    begun = any(one.sent[:2] == b"\x80\xa8" for one in exchanges)
+    return bool(wanting) and not (begun and [name for name, _ in selected(exchanges)][-1:][0] in wanting)
+
+
 def assume(card, exchanges, facts, settled):
     """Sets the open facts of a purchase as the first verification results say."""
     results, purchase, lane = card.first_results() or bytes(5), settled.lane["purchase"][0], settled.lane
@@ -174,11 +182,14 @@ def assume(card, exchanges, facts, settled):
     fact(purchase, "word", has_bit(results, 45), ALWAYS, NEVER, "it was selected at random")
     fact(purchase, "forced", has_bit(results, 44), True, False, "the merchant forced it online")
     fact(purchase, "services", is_service(card, purchase, lane, has_bit(results, 25)), True, False, "services were bought")
+    fact(purchase, "confirm", is_unconfirmed(card, exchanges), False, True, "the cardholder didn't confirm an application")
     account = account_number(card.held.get(0x5A, b""))
     fact(lane, "exceptions", has_bit(results, 15) and account, [account], [], "the account is on the exception file")
     if "pins" not in purchase:
         purchase["pins"] = (pins_of(exchanges) + [ANY_PIN] * has_bit(results, 33))[:15]
         said_so.extend(["a PIN for the issuer was entered"] if has_bit(results, 33) else [])
+    if "caps" in settled.lacking and has_bit(results, 33):
+        lane["caps"] = WITH_ONLINE_PIN
     settled.lines.extend(Line(ASSUMED, words) for words in said_so)
 
 
@@ -193,15 +204,16 @@ def selected(exchanges):
             yield data_of(one.sent), one.sent[3]
 
 
-def rows_in(exchanges):
+def rows_in(card, exchanges):
     """The rows that the SELECTs of a log show: each name, but those that the card gave to a shorter one."""
     rows = []
     for name, p2 in selected(exchanges):
-        longer = next((row for row in rows if name.hex().upper().startswith(row["name"])), None)
-        if longer is None and 5 <= len(name) <= 16 and name != DIRECTORY:
-            rows.append({"name": name.hex().upper(), "partial": False})
-        elif longer is not None and (p2 == 2 or longer["name"] != name.hex().upper()):
-            longer["partial"] = True
+        text = name.hex().upper()
+        shorter = next((row for row in rows if text.startswith(row["name"]) and (name in card.found or text == row["name"])), None)
+        if shorter is None and 5 <= len(name) <= 16 and name != DIRECTORY:
+            rows.append({"name": text, "partial": p2 == 2})
+        elif shorter is not None and (p2 == 2 or shorter["name"] != text):
+            shorter["partial"] = True
     return rows or [{"name": "A000000000", "partial": False}]
 
 
@@ -219,7 +231,7 @@ def fill_rows(card, exchanges, settled):
     results, lane = card.first_results() or bytes(5), settled.lane
     is_guessed = not lane["aid"]
     if is_guessed:
-        lane["aid"] = rows_in(exchanges)
+        lane["aid"] = rows_in(card, exchanges)
         settled.lacking.append("aid")
     price, version = lane["purchase"][0]["amount"], card.held.get(0x9F08, b"")
     version = version if len(version) == 2 else b"\0\0"

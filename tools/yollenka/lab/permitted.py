@@ -175,7 +175,7 @@ def has_old_date(scene):
 
 def ties(scene):
     """Whether two of the card's applications have one priority."""
-    priorities = list(scene.said.found.values())
+    priorities = [indicator & 0x0F for indicator in scene.said.found.values()]
     return len(set(priorities)) < len(priorities)
 
 
@@ -198,6 +198,7 @@ EXCUSES = [
     Excuse("a PIN enciphered for the card, which the reference doesn't support", "Book 3, 10.5", OPEN, enciphers, METHODS,
            (CVM_RESULTS,), (VERIFY,)),
     Excuse("`caps` isn't known", "", OPEN, lacks("caps"), METHODS, (CVM_RESULTS, 0x9F33), (VERIFY,)),
+    Excuse("`aid` isn't known", "", OPEN, lacks("aid"), 0, (), ("00a404",)),
     Excuse("`kind` isn't known", "", OPEN, lacks("kind"), COUNTED, (0x9F35,), COUNTERS),
     Excuse("the amount, the currency or the type of the purchase isn't known", "", OPEN,
            lacks("purchase.amount", "purchase.currency", "purchase.trade"), METHODS | COUNTED | SERVICE, (CVM_RESULTS,), (VERIFY,)),

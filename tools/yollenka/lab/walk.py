@@ -79,6 +79,10 @@ class Walk:
         self.tell(self.shade or kind, text, at, **more)
         self.shade = BEHIND
 
+    def is_open(self):
+        """Whether something before can't be judged."""
+        return any(line.kind in (OPEN, OWN) for line in self.lines)
+
     def stop(self, kind=None, text=""):
         """Ends the walk here."""
         if kind:
@@ -240,8 +244,8 @@ class Walk:
         is_kind = any(one.is_kind for one in wrong)
         text = f"{name}, wanted {ask_name(self.log[at].side, ask)}" if is_kind else f"{name}, with other bytes"
         details = [detail for one in wrong for detail in (one.details or (one.text,)) if not one.is_kind]
-        is_excused = excused and all(one.is_kind for one in wrong)
-        kind = excused[0].kind if is_excused else WRONG
+        only_kind = all(one.is_kind for one in wrong)
+        kind = excused[0].kind if excused and only_kind else OPEN if self.settled.lacking and only_kind else WRONG
         self.differ(kind, text, at, sent=sent, wanted=ask, details=tuple(details))
         if is_kind or any(one.bits for one in wrong):
             self.wanted_at.setdefault(len(self.lines) - 1, len(self.reference.fed) - 1)
@@ -321,7 +325,7 @@ class Walk:
         """The log has a message and a reply: in this project's form both are taken, else the reply is made from what follows."""
         now, ask = self.log[at], self.reference.ask
         if now.sent != ask and (now.sent[:1] == ask[:1] or now.sent[1:3] == ask[1:3]):
-            found = list(message_differences(self.scene(at), now.sent, ask, self.settled.knows_pins))
+            found = list(message_differences(self.scene(at), now.sent, ask, self.settled.knows_pins and not self.is_open()))
             self.tell_differences(found, at, now.sent, ask)
         if not now.is_told or now.got is None or now.got[:1] == b"\xe2":
             return self.feed(at)
@@ -348,8 +352,9 @@ class Walk:
             self.beyond(at, ending)
             break
         if self.purchase.end not in (None, "", "lost", READING):
-            for one in end_differences(self.purchase.end, self.reference.end, self.is_supplied):
-                self.differ(WRONG, one[0], details=one[1])
+            left_out = ["scripts"] * self.is_supplied + ["tvr", "tsi", "cvm"] * self.is_open()
+            for text, details in end_differences(self.purchase.end, self.reference.end, left_out):
+                self.differ(WRONG, text, details=details)
 
     def beyond(self, at, ending):
         """The log goes on where the reference has ended."""
