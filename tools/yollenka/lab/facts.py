@@ -256,12 +256,12 @@ def places_of(rows, names):
     return found
 
 
-def follow(exchanges, settled):
+def follow(exchanges, facts, settled):
     """Lets the directory and the order of names follow the log, which may choose both."""
     names, lane = [name for name, p2 in selected(exchanges) if p2 == 0], settled.lane
     begins = names[:1] == [DIRECTORY]
     if lane.get("pse", False) != begins and names:
-        if "pse" in lane:
+        if "pse" in lane or facts.is_whole():
             text = "begins with" if begins else "doesn't begin with"
             settled.lines.append(Line(PERMITTED, f"the terminal {text} the directory 1PAY.SYS.DDF01", section="Book 1, 12.3.2"))
         lane["pse"] = begins
@@ -293,7 +293,7 @@ def settle(purchase, facts):
     if not facts.is_whole():
         assume(card, exchanges, facts, settled)
     fill_rows(card, exchanges, settled)
-    follow(exchanges, settled)
+    follow(exchanges, facts, settled)
     lower_floor(card, facts.paid, settled)
     return settled
 

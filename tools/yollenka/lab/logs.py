@@ -93,11 +93,9 @@ def hexadecimal(text, line):
     words = re.sub(r"0x|[,:;\[\]]", " ", text, flags=re.IGNORECASE).split()
     if len(words) > 1 and len(words[-1]) == 1 and len(words[-2]) <= 2:
         words[-2:] = [word.rjust(2, "0") for word in words[-2:]]
-    try:
-        found = bytes.fromhex("".join(words))
-    except ValueError:
-        raise Fault(f"line {line}: these are no bytes in hexadecimal: {text.strip()[:60]!r}") from None
-    return found
+    if not all(re.fullmatch("(?:[0-9A-Fa-f]{2})+", word) for word in words):
+        raise Fault(f"line {line}: these are no bytes in hexadecimal: {text.strip()[:60]!r}")
+    return bytes.fromhex("".join(words))
 
 
 def agrees(data, shown):
@@ -183,6 +181,8 @@ def report(lines):
             lanes[lane] = [], []
         else:
             events.append(entry_event(line.split(" ", 1)[1], number))
+    if not found and not any(events for events, _ in lanes.values()):
+        raise Fault("it has no purchase")
     end = f"1 {READING}" if is_reading else ""
     found += [report_purchase(lane, end, events, names, events[0].line) for lane, (events, names) in lanes.items() if events]
     return sorted(found, key=lambda one: (one.lane, one.number or len(found) + 1))
@@ -241,19 +241,21 @@ def spied(lines):
 
 def sent_and_received(lines):
     """What opensc-tool writes: the status stands before the data."""
-    status, data, begin = None, b"", 0
-    for number, line in [*lines, (0, "-")]:
-        if status is not None and re.match(r"[0-9A-Fa-f]{2}(?: |$)", line):
+    status, data, begin, has_data = None, b"", 0, False
+    for number, line in [*lines, (0, "Sending")]:
+        if status is not None and line and has_data and not line.startswith(("Sending", "Received")):
             data += dumped(line, number)
             continue
         if status is not None and line:
             yield Event(REPLY, CARD, data + status, begin)
             status, data = None, b""
-        sending, received = re.match(r"Sending: ?(.*)", line), re.match(r"Received \(SW1=0x(..), SW2=0x(..)\)", line)
+        if number == 0:
+            return
+        sending, received = re.match(r"Sending: ?(.*)", line), re.match(r"Received \(SW1=0x(\w\w), SW2=0x(\w\w)\)(:?)", line)
         if sending:
             yield Event(ASK, CARD, hexadecimal(sending[1], number), number)
         elif received:
-            status, begin = bytes.fromhex(received[1] + received[2]), number
+            status, begin, has_data = hexadecimal(received[1] + received[2], number), number, bool(received[3])
         elif re.match(r"(?:Sending|Received)", line):
             raise Fault(f"line {number}: this can't be read: {line[:60]!r}")
         elif re.search(r"failed|removed", line, re.IGNORECASE):
@@ -337,7 +339,8 @@ def paired(events):
         if open_ is not None and event.what == ASK:
             raise Fault(f"line {event.line}: the command of line {open_.line} has no answer before this one")
         if open_ is not None:
-            found.append(Exchange(open_.side, open_.value, None, open_.line))
+            is_told = event.what == BEGIN or event.value.startswith("cut")
+            found.append(Exchange(open_.side, open_.value, None, open_.line, is_told))
             open_ = None
         if event.what == ASK:
             open_ = checked(event)

@@ -21,7 +21,7 @@ from yollenka.model.objects import account_number
 GENERATE, OPTIONS, SELECT, GET_DATA, READ = b"\x80\xae", b"\x80\xa8", b"\x00\xa4", b"\x80\xca", b"\x00\xb2"
 # Between reading and the first GENERATE AC these stand in any order, verification and risk management beside each other.
 FREE = (VERIFY, *COUNTERS)
-BETWEEN = ("0020", "80ca", "0084", "0088")
+BETWEEN = ("0020", "80ca")
 NOT_THERE, NO_DATA, DONE = b"\x6a\x82", b"\x6a\x88", b"\x90\x00"
 
 
