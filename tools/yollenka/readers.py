@@ -1,80 +1,17 @@
 """What the bridges to a smart-card reader share: the two programs and their lines, and a daemon of one's own."""
 import os
 import socket
-import subprocess
 import tempfile
 import time
-import tomllib
 from pathlib import Path
 
-from yollenka.programs import Builder, say
-from yollenka.scenarios import document
+from yollenka.lines import Lines, begin, card_document, program, read, terminal_document, without  # handed on to the bridges
 
 # The virtual reader of Debian's vsmartcard-vpcd, and the port that its own file names.
 DRIVER = "/usr/lib/pcsc/drivers/serial/libifdvpcd.so"
 PORT = 0x8C7B
 DAEMON = "/usr/sbin/pcscd"
-# A purchase's keys that act on the card, the link or the terminal's memory, and not on the dialogue.
-NOT_OF_A_DIALOGUE = ("link", "tear", "terminal_tear")
-NOT_OF_A_TERMINAL = ("dialect", "durable")
 SECONDS = 10
-
-
-class Lines:
-    """A program that is talked with line by line."""
-
-    def __init__(self, to, back):
-        self.to, self.back = to, back
-
-    def say(self, line):
-        self.to.write(line.encode() + b"\n")
-        self.to.flush()
-
-    def hear(self):
-        """The next line, or an empty text at the end."""
-        return self.back.readline().decode(errors="replace").rstrip("\n")
-
-    def ask(self, line):
-        self.say(line)
-        return self.hear()
-
-
-def program(name):
-    """The path of a crate's program: the proved one, or a trial build."""
-    return Builder(name, say).program()[0]
-
-
-def begin(name, words, text):
-    """Starts a program on its document; gives its process and its lines."""
-    process = subprocess.Popen([program(name), *words], stdin=subprocess.PIPE, stdout=subprocess.PIPE)
-    process.stdin.write(b"document %d\n" % len(text) + text)
-    process.stdin.flush()
-    return process, Lines(process.stdin, process.stdout)
-
-
-def read(path):
-    """A scenario's document as a value."""
-    with open(path, "rb") as file:
-        return tomllib.load(file)
-
-
-def card_document(scenario):
-    """The document of a scenario's cards."""
-    return document({"issuer": scenario["issuer"], "card": scenario["card"]})
-
-
-def without(table, keys):
-    return {key: value for key, value in table.items() if key not in keys}
-
-
-def terminal_document(scenario, lane, purchase):
-    """The document of a lane's terminal with one of its purchases, counted from 0 and from 1."""
-    terminal = scenario["lane"][lane]
-    one = without(terminal["purchase"][purchase - 1], NOT_OF_A_DIALOGUE)
-    return document({
-        "pin_key": scenario["issuer"]["pin_key"],
-        "lane": {**without(terminal, NOT_OF_A_TERMINAL), "purchase": [one]},
-    })
 
 
 class Daemon:

@@ -5,12 +5,10 @@ from dataclasses import dataclass, field, replace
 from yollenka.lab.emv import DIRECTORY, data_of, has_bit, said
 from yollenka.lab.permitted import OFFLINE_ONLY, VERIFY
 from yollenka.lab.verdict import ASSUMED, NOTE, PERMITTED, TAKEN, Line
+from yollenka.lines import NOT_OF_A_DIALOGUE, NOT_OF_A_TERMINAL
 from yollenka.model.objects import account_number, is_date
 from yollenka.scenarios import document
 
-# A purchase's keys that act on the card, the link or the terminal's memory, and not on the dialogue; and a lane's.
-NOT_OF_A_DIALOGUE = ("link", "tear", "terminal_tear")
-NOT_OF_A_TERMINAL = ("dialect", "durable")
 # Any key does where a log has no message with an online PIN to compare.
 NO_KEY = "00" * 16
 REQUIRED = ("amount", "currency", "date", "number", "word")
@@ -200,7 +198,7 @@ def selected(exchanges):
     for one in exchanges:
         if one.sent[:2] == b"\x80\xa8":
             return
-        if one.sent[:3] == b"\x00\xa4\x04":
+        if one.sent[:3] == b"\x00\xa4\x04" and len(one.sent) > 3:
             yield data_of(one.sent), one.sent[3]
 
 

@@ -97,15 +97,16 @@ def purchases_of(path):
         raise Fault(f"{path}: {fault}") from None
 
 
-def results_of(path, purchases, facts):
-    """The results of a log's purchases. An approval counts in the later purchases of its lane."""
-    paid = {}
+def results_of(path, facts, purchases=None):
+    """The results of a log's purchases, which are read where they aren't given. An approval counts in the later purchases of its
+    lane."""
+    purchases, paid = purchases_of(path) if purchases is None else purchases, {}
     for number, purchase in enumerate(purchases, 1):
         begin, before = time.monotonic(), paid.setdefault(purchase.lane, [])
         verdict = judge(purchase, replace(facts(purchase), paid=before))
         before += [verdict.paid] if verdict.paid else []
-        name = Path(path).stem if len(purchases) == 1 else f"{Path(path).stem} {number}"
-        yield Result(name, verdict, time.monotonic() - begin, purchase)
+        name = "log" if path == "-" else Path(path).stem
+        yield Result(name if len(purchases) == 1 else f"{name} {number}", verdict, time.monotonic() - begin, purchase)
 
 
 def to_complete(verdict):
@@ -127,13 +128,22 @@ def write(path, text):
         raise Fault(f"{path}: {error.strerror}") from None
 
 
+def page_of(results):
+    """A page to print of all results. What draws it is read only here, so that a verdict alone begins at once."""
+    try:
+        from yollenka.lab.pages import cases_page
+    except ImportError:
+        raise Fault("--html: there is nothing here that draws pages") from None
+    return cases_page("lab judge", results, True)
+
+
 def run(options):
     """Judges the logs; gives the status."""
     facts, results = told_facts(options.lane), []
     logs = [(path, purchases_of(path)) for path in options.log]
     print("TAP version 13")
     for path, purchases in logs:
-        for result in results_of(path, purchases, facts):
+        for result in results_of(path, facts, purchases):
             results.append(result)
             print("\n".join(tap_lines(len(results), result, options.all)), flush=True)
     print(f"1..{len(results)}")
@@ -144,6 +154,5 @@ def run(options):
     if options.junit:
         write(options.junit, "\n".join(junit(results, "lab judge")) + "\n")
     if options.html:
-        from yollenka.lab import page
-        write(options.html, page.judged_page("lab judge", results))
+        write(options.html, page_of(results))
     return status_of(results)

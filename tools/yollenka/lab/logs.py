@@ -361,7 +361,7 @@ def whole(pairs):
     found, was_split = [], False
     for one in pairs:
         before = found[-1] if found else None
-        is_card = isinstance(one, Exchange) and isinstance(before, Exchange) and one.side == before.side == CARD and before.got
+        is_card = isinstance(one, Exchange) and isinstance(before, Exchange) and one.side == before.side == CARD and len(before.got or b"") > 1
         if is_card and before.got[-2] == 0x61 and one.sent[:4] == GET_RESPONSE:
             found[-1] = replace(before, got=None if one.got is None else before.got[:-2] + one.got, is_told=one.is_told)
             was_split = True

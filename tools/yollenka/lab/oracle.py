@@ -3,50 +3,7 @@ import subprocess
 
 from yollenka.faults import Fault
 from yollenka.lab.logs import CARD, HOST
-from yollenka.programs import Builder, say
-
-PROGRAMS = {}
-
-
-def program(name):
-    """The path of a program, looked up once: the proved one, or a trial build, which is told on standard error."""
-    if name not in PROGRAMS:
-        PROGRAMS[name], is_proved = Builder(name, say).program()
-        if not is_proved:
-            say(f"{name} is a trial build, which is not proved")
-    return PROGRAMS[name]
-
-
-class Lines:
-    """A program that gets a document and is then talked with line by line."""
-
-    def __init__(self, name, words, text):
-        self.process = subprocess.Popen([program(name), *words], stdin=subprocess.PIPE, stdout=subprocess.PIPE)
-        self.say(b"document %d\n" % len(text) + text)
-
-    def say(self, data):
-        """Hands on these bytes; what an ended program doesn't take is dropped."""
-        try:
-            self.process.stdin.write(data)
-            self.process.stdin.flush()
-        except BrokenPipeError:
-            pass
-
-    def ask(self, line):
-        """Says a line, and gives the next one."""
-        self.say(line.encode() + b"\n")
-        return self.hear()
-
-    def hear(self):
-        """The next line, or an empty text at the end."""
-        return self.process.stdout.readline().decode(errors="replace").rstrip("\n")
-
-    def close(self):
-        """Ends the program."""
-        self.process.kill()
-        self.process.stdin.close()
-        self.process.stdout.close()
-        self.process.wait()
+from yollenka.lines import begin, program
 
 
 class Reference:
@@ -54,7 +11,7 @@ class Reference:
     the text of its end line, before it None. `fed` has the dialogue as a trace's entries."""
 
     def __init__(self, text):
-        self.lines = Lines("terminal_at_reader", [], text)
+        self.process, self.lines = begin("terminal_at_reader", [], text)
         self.fed, self.side, self.ask, self.end = [], None, None, None
         self.take(self.lines.hear())
 
@@ -81,7 +38,10 @@ class Reference:
 
     def close(self):
         """Ends the terminal's program."""
-        self.lines.close()
+        self.process.kill()
+        self.process.stdin.close()
+        self.process.stdout.close()
+        self.process.wait()
 
 
 def rows_of(lane):

@@ -109,7 +109,7 @@ def is_internal(scene):
 ASIDE = [
     Rule("SELECT of the next application behind an exact name", "Book 1, 12.3.3", PERMITTED, is_next),
     Rule("the PIN try counter is read", "Book 4, 6.3", PERMITTED, asks_data(TRIES)),
-    Rule("a counter is read once more", "Book 3, 10.6.3", PERMITTED, asks_data(*COUNTERS)),
+    Rule("a counter is read besides", "Book 3, 10.6.3", PERMITTED, asks_data(*COUNTERS)),
     Rule("the transaction log is read", "Book 3, Annex D", PERMITTED, lambda scene: asks_data(LOG_FORMAT)(scene) or is_of_log(scene)),
     Rule("another object is read", "Book 3, 6.5.7", PERMITTED, asks_data("80ca")),
     Rule("a PIN enciphered for the card, which the reference doesn't support", "Book 3, 10.5", OPEN, is_enciphered),

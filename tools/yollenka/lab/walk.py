@@ -136,10 +136,10 @@ class Walk:
             return self.feed(at)
         if now.side == CARD and len(now.sent) > 5 and now.sent[:2] == ask[:2] and now.sent[:2] in (GENERATE, OPTIONS):
             return self.compare(at)
-        for rule in (self.is_left_out, self.is_again, self.is_later, self.is_aside, self.is_early):
-            if rule(at):
-                return None
-        return self.wrong(at)
+        rules = (self.is_left_out, self.is_again, self.is_later, self.is_aside, self.is_early)
+        if len(now.sent) < 4 or not any(rule(at) for rule in rules):
+            self.wrong(at)
+        return None
 
     def is_same(self, sent, ask, at):
         """Whether the log has what is asked; Le may lack behind data."""
@@ -261,12 +261,12 @@ class Walk:
         if excuse:
             self.differ(excuse.kind, f"{text}: {excuse.text}", at, section=excuse.section)
         else:
-            shows = self.has_guesses_none(now, ask)
+            shows = self.shows_bytes(now, ask)
             self.differ(WRONG, text if name != wanted else f"{name}, with other bytes", at,
                         sent=now.sent if shows else None, wanted=ask if shows else None)
         self.mend(at)
 
-    def has_guesses_none(self, now, ask):
+    def shows_bytes(self, now, ask):
         """Whether the bytes may be shown: those of the first GENERATE AC hold guesses where the log doesn't come to it."""
         return now.side == CARD and (ask[:2] != GENERATE or bool(self.said.generated))
 

@@ -1,0 +1,78 @@
+"""Programs that answer line by line, and the documents that they begin with."""
+import subprocess
+import tomllib
+
+from yollenka.programs import Builder, say
+from yollenka.scenarios import document
+
+# A purchase's keys that act on the card, the link or the terminal's memory, and not on the dialogue; and a lane's.
+NOT_OF_A_DIALOGUE = ("link", "tear", "terminal_tear")
+NOT_OF_A_TERMINAL = ("dialect", "durable")
+# The programs that were looked up.
+FOUND = {}
+
+
+class Lines:
+    """A program that is talked with line by line."""
+
+    def __init__(self, to, back):
+        self.to, self.back = to, back
+
+    def say(self, line):
+        """Hands on a line; a program that has ended takes none."""
+        try:
+            self.to.write(line.encode() + b"\n")
+            self.to.flush()
+        except BrokenPipeError:
+            pass
+
+    def hear(self):
+        """The next line, or an empty text at the end."""
+        return self.back.readline().decode(errors="replace").rstrip("\n")
+
+    def ask(self, line):
+        """Hands on a line, and gives the next one."""
+        self.say(line)
+        return self.hear()
+
+
+def program(name):
+    """The path of a crate's program, looked up once: the proved one, or a trial build, which is told on standard error."""
+    if name not in FOUND:
+        FOUND[name], is_proved = Builder(name, say).program()
+        if not is_proved:
+            say(f"{name} is a trial build, which is not proved")
+    return FOUND[name]
+
+
+def begin(name, words, text):
+    """Starts a program on its document; gives its process and its lines."""
+    process = subprocess.Popen([program(name), *words], stdin=subprocess.PIPE, stdout=subprocess.PIPE)
+    process.stdin.write(b"document %d\n" % len(text) + text)
+    process.stdin.flush()
+    return process, Lines(process.stdin, process.stdout)
+
+
+def read(path):
+    """A scenario's document as a value."""
+    with open(path, "rb") as file:
+        return tomllib.load(file)
+
+
+def card_document(scenario):
+    """The document of a scenario's cards."""
+    return document({"issuer": scenario["issuer"], "card": scenario["card"]})
+
+
+def without(table, keys):
+    return {key: value for key, value in table.items() if key not in keys}
+
+
+def terminal_document(scenario, lane, purchase):
+    """The document of a lane's terminal with one of its purchases, counted from 0 and from 1."""
+    terminal = scenario["lane"][lane]
+    one = without(terminal["purchase"][purchase - 1], NOT_OF_A_DIALOGUE)
+    return document({
+        "pin_key": scenario["issuer"]["pin_key"],
+        "lane": {**without(terminal, NOT_OF_A_TERMINAL), "purchase": [one]},
+    })
