@@ -23,7 +23,7 @@ ANY_PIN = "0000"
 
 @dataclass
 class Facts:
-    """The keys of a lane as docs/scenario.md has them, section 7: `lane` without its `aid` and `purchase`, `aids` the rows, and
+    """The keys of a lane as docs/use/scenario.md has them, section 7: `lane` without its `aid` and `purchase`, `aids` the rows, and
     `purchase` the one purchase. Each may lack keys; what lacks is taken from the log or assumed. `pin_key` is the issuer's.
     `paid` has the account number and the amount of each earlier approval of this terminal, the latest one last."""
 

@@ -9,13 +9,13 @@ from yollenka.lab.facts import ROW_KEYS, Facts, facts_of, facts_of_scenario
 from yollenka.lab.logs import read_log
 from yollenka.lab.told import Result, junit, status_of, tap_lines
 from yollenka.lab.walk import judge
-from yollenka.scenarios import NoDocument, pair, read_document
+from yollenka.scenarios import pair, read_document
 from yollenka.schema import faults, read_schema
 
 TEXT = """\
 A verdict on each purchase of each log: `ok`, or `not ok` with what should have been sent, or inconclusive.
 
-LOG is a trace, a report, or what a logger or a card client wrote; docs/lab.md lists the forms. What isn't known of the
+LOG is a trace, a report, or what a logger or a card client wrote; docs/use/lab.md lists the forms. What isn't known of the
 terminal may be left out: it is taken from the log, and the verdict is inconclusive where it would depend on a guess."""
 LANE_KEYS = ("kind", "country", "caps", "id")
 
@@ -67,10 +67,7 @@ def told_facts(path):
     """What gives the facts of a purchase of a log, from the file behind --lane."""
     if path is None:
         return lambda purchase: of_trace(purchase)
-    try:
-        told = read_document(path)
-    except NoDocument as fault:
-        raise Fault(str(fault)) from None
+    told = read_document(path)
     if isinstance(told.get("lane"), list):
         return lambda purchase: of_scenario(path, told, purchase)
     lane = told["lane"] if isinstance(told.get("lane"), dict) else {key: told[key] for key in told if key not in ("pin_key", "trace")}

@@ -1,6 +1,6 @@
 """Logs of what was said between a terminal, a card and a host, of any make: read into purchases.
 
-A log is told by its content: a trace's document, a report, and what loggers and card clients write (docs/lab.md lists them).
+A log is told by its content: a trace's document, a report, and what loggers and card clients write (docs/use/lab.md lists them).
 A reader of a form gives events, and one assembler makes exchanges and purchases of them.
 """
 import re
@@ -37,7 +37,7 @@ class Exchange:
 class Purchase:
     """One purchase of a log.
 
-    `exchanges` in the order in which they were said; `end` the text behind `end` (docs/report.md, section 3), as much of it as
+    `exchanges` in the order in which they were said; `end` the text behind `end` (docs/use/report.md, section 3), as much of it as
     the log has, or None; `card` the name of the card, or None; `lane` and `number` its place in a report (from 0, and from 1),
     or None; `line` the line where it begins. `end` is `read` where a report has a reading alone. `document` is a trace's own document without its entries: `pin_key` and `lane`.
     `is_torn` tells that the card was gone as it was powered up, so that no exchange is there. `is_byte_protocol` tells that
