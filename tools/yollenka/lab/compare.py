@@ -39,7 +39,7 @@ def object_difference(scene, tag, at, sent, wanted):
     if tag == RESULTS and len(sent) == 5:
         return results_difference(scene, sent, wanted, details)
     if tag == STATUS and sent[:1] != wanted[:1] and (sent[0] ^ wanted[0]) == AUTHENTICATED and authenticates(scene):
-        return Difference(OPEN, "offline data authentication, which the reference doesn't perform", details, "Book 3, 10")
+        return Difference(OPEN, "offline data authentication, which the reference doesn't perform", details, "Book 3, 10.3")
     excuse = next((one for one in excuses(scene) if tag in one.tags), None)
     if excuse:
         return Difference(excuse.kind, excuse.text, details, excuse.section)
@@ -98,7 +98,7 @@ def kind_differences(scene, sent, wanted):
     """The difference in P1 of GENERATE AC, if there is one."""
     combines = has_bit(scene.said.profile, 11) and has_bit(scene.caps(), 34)
     if sent ^ wanted == CDA and combines:
-        yield Difference(OPEN, "a cryptogram with CDA, which the reference doesn't ask for", (), "Book 3, 10")
+        yield Difference(OPEN, "a cryptogram with CDA, which the reference doesn't ask for", (), "Book 3, 10.3")
     elif sent & 0xC0 == wanted & 0xC0 and sent != wanted:
         yield Difference(WRONG, f"P1 is {sent:02x}, wanted {wanted:02x}")
     elif sent != wanted:
@@ -126,8 +126,8 @@ def options_differences(scene, sent, wanted, is_byte_protocol):
 
 def message_differences(scene, sent, wanted, knows_pins):
     """How two messages to the host in this project's form differ, object by object."""
-    ones, others = ([inner for inner in objects(first(objects(one)[0], 0xE1) or b"")[0] if knows_pins or inner.tag != ENCIPHERED_PIN]
-                    for one in (sent, wanted))
+    inner = (objects(first(objects(one)[0], 0xE1) or b"")[0] for one in (sent, wanted))
+    ones, others = ([one for one in found if knows_pins or one.tag != ENCIPHERED_PIN] for found in inner)
     if [one.tag for one in ones] != [one.tag for one in others] or not ones:
         yield Difference(WRONG, "the message to the host has other objects")
         return

@@ -107,10 +107,10 @@ def information(answer):
 
 @dataclass
 class Said:
-    """What a card has said in a log: `list_` its list 9F38, `options` the data of GET PROCESSING OPTIONS, `profile` and `locator`,
-    `held` the first value of each object in its records, `found` each name that it gave with its priority indicator (0
-    for none), `generated` the data and P1 of each GENERATE AC that stands in the log, `message` the objects of the first request to the
-    host in this project's form. `has_begun` tells that GET PROCESSING OPTIONS was answered."""
+    """What a card has said in a log: `list_` its list 9F38, `profile` and `locator`, `held` the first value of each object in its
+    records, `found` each name that it gave with its priority indicator (0 for none). And what the terminal told there: `options`
+    the data of GET PROCESSING OPTIONS, `generated` the data and P1 of each GENERATE AC, `message` the objects of the first request
+    to the host in this project's form. `has_begun` tells that GET PROCESSING OPTIONS was answered."""
 
     list_: bytes = b""
     options: bytes = b""

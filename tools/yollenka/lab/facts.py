@@ -117,9 +117,10 @@ def number(value):
 IN_LISTS = [
     (0x9F35, "lane", "kind", one_of(*range(21, 27)), 22), (0x9F1A, "lane", "country", code, "840"),
     (0x9F33, "lane", "caps", capabilities, CAPS), (0x9F1C, "lane", "id", identification, "00000000"),
-    (0x9F02, "purchase", "amount", amount, 0), (0x9F03, "purchase", "other", amount, 0), (0x5F2A, "purchase", "currency", code, "840"),
-    (0x9A, "purchase", "date", date, "000101"), (0x9C, "purchase", "trade", one_of(0, 1, 9), 0),
-    (0x9F21, "purchase", "time", digits, "000000"), (0x9F37, "purchase", "number", number, 0),
+    (0x9F02, "purchase", "amount", amount, 0), (0x9F03, "purchase", "other", amount, 0),
+    (0x5F2A, "purchase", "currency", code, "840"), (0x9A, "purchase", "date", date, "000101"),
+    (0x9C, "purchase", "trade", one_of(0, 1, 9), 0), (0x9F21, "purchase", "time", digits, "000000"),
+    (0x9F37, "purchase", "number", number, 0),
 ]
 # What no difference tells, or has a default.
 HARMLESS = ("id", "other", "time", "number")

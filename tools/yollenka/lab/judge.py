@@ -70,7 +70,8 @@ def told_facts(path):
     told = read_document(path)
     if isinstance(told.get("lane"), list):
         return lambda purchase: of_scenario(path, told, purchase)
-    lane = told["lane"] if isinstance(told.get("lane"), dict) else {key: told[key] for key in told if key not in ("pin_key", "trace")}
+    own = {key: value for key, value in told.items() if key not in ("pin_key", "trace")}
+    lane = own["lane"] if isinstance(own.get("lane"), dict) else own
     check(path, lane)
     return lambda purchase: facts_of(lane, None, told.get("pin_key"))
 

@@ -39,7 +39,8 @@ class Purchase:
 
     `exchanges` in the order in which they were said; `end` the text behind `end` (docs/use/report.md, section 3), as much of it as
     the log has, or None; `card` the name of the card, or None; `lane` and `number` its place in a report (from 0, and from 1),
-    or None; `line` the line where it begins. `end` is `read` where a report has a reading alone. `document` is a trace's own document without its entries: `pin_key` and `lane`.
+    or None; `line` the line where it begins. `end` is `read` where a report has a reading alone. `document` is a trace's own
+    document without its entries: `pin_key` and `lane`.
     `is_torn` tells that the card was gone as it was powered up, so that no exchange is there. `is_byte_protocol` tells that
     protocol T=0 was seen, whose commands have no Le behind their data.
     """
@@ -217,6 +218,9 @@ def entries(lines):
     yield from (one for one in (held,) if one)
 
 
+REMOVED = re.compile(r"SCARD_W_REMOVED_CARD|SCARD_W_RESET_CARD|SCARD_E_NOT_TRANSACTED|SCARD_E_NO_SMARTCARD")
+
+
 def spied(lines):
     """What pcsc-spy writes: buffers as dumps below their names, of SCardTransmit alone."""
     what, data, begin, is_transmit = None, b"", 0, True
@@ -235,7 +239,7 @@ def spied(lines):
             data = hexadecimal(name[2], number) if re.fullmatch(r"[ 0-9A-Fa-f]+", name[2]) else b""
         elif call and call[1] in ("Connect", "Reconnect"):
             yield Event(BEGIN, CARD, None, number)
-        elif is_transmit and re.search(r"SCARD_W_REMOVED_CARD|SCARD_W_RESET_CARD|SCARD_E_NOT_TRANSACTED|SCARD_E_NO_SMARTCARD", line):
+        elif is_transmit and REMOVED.search(line):
             yield Event(REPLY, CARD, None, number)
 
 
@@ -272,7 +276,8 @@ BEGINS = re.compile(r"\bATR\b|\bSCardConnect\b|\b[Cc]onnect(?:ed|ing)?\b|\b[Pp]o
 def marked(ask, reply, inner=LABEL):
     """A reader of lines with a mark before a command and one before an answer; `inner` is what may stand between mark and bytes.
     Bytes may go on in the next line."""
-    marks = [(what, re.compile(f"(?:^|.*?[^0-9A-Za-z<>=-]){mark}(?![<>=])\\s*{inner}(.*)")) for what, mark in ((ASK, ask), (REPLY, reply))]
+    marks = [(what, re.compile(f"(?:^|.*?[^0-9A-Za-z<>=-]){mark}(?![<>=])\\s*{inner}(.*)"))
+             for what, mark in ((ASK, ask), (REPLY, reply))]
 
     def read(lines):
         held = None
@@ -361,7 +366,7 @@ def whole(pairs):
     found, was_split = [], False
     for one in pairs:
         before = found[-1] if found else None
-        is_card = isinstance(one, Exchange) and isinstance(before, Exchange) and one.side == before.side == CARD and len(before.got or b"") > 1
+        is_card = all(isinstance(part, Exchange) and part.side == CARD for part in (before, one)) and len(before.got or b"") > 1
         if is_card and before.got[-2] == 0x61 and one.sent[:4] == GET_RESPONSE:
             found[-1] = replace(before, got=None if one.got is None else before.got[:-2] + one.got, is_told=one.is_told)
             was_split = True

@@ -14,7 +14,7 @@ COUNTERS, VERIFY = (ATC, LAST_ONLINE), "00200080"
 ONLINE_ONLY, OFFLINE_ONLY = (21, 24), (23, 26)
 # Bits of the verification results as one number: byte 1 bit 8 is the highest of 40.
 AUTHENTICATION, METHODS, COUNTED, RANDOM = 0xCE00000000, 0x0000FF0000, 0x200800F000, 0x0000001000
-DATES, SERVICE, VERSIONS = 0x0060000000, 0x0010000000, 0x0080000000
+DATES, SERVICE = 0x0060000000, 0x0010000000
 CVM_RESULTS = 0x9F34
 
 
@@ -110,10 +110,11 @@ ASIDE = [
     Rule("SELECT of the next application behind an exact name", "Book 1, 12.3.3", PERMITTED, is_next),
     Rule("the PIN try counter is read", "Book 4, 6.3", PERMITTED, asks_data(TRIES)),
     Rule("a counter is read besides", "Book 3, 10.6.3", PERMITTED, asks_data(*COUNTERS)),
-    Rule("the transaction log is read", "Book 3, Annex D", PERMITTED, lambda scene: asks_data(LOG_FORMAT)(scene) or is_of_log(scene)),
+    Rule("the transaction log is read", "Book 3, Annex D", PERMITTED, asks_data(LOG_FORMAT)),
+    Rule("the transaction log is read", "Book 3, Annex D", PERMITTED, is_of_log),
     Rule("another object is read", "Book 3, 6.5.7", PERMITTED, asks_data("80ca")),
     Rule("a PIN enciphered for the card, which the reference doesn't support", "Book 3, 10.5", OPEN, is_enciphered),
-    Rule("offline data authentication, which the reference doesn't perform", "Book 3, 10", OPEN, is_internal),
+    Rule("offline data authentication, which the reference doesn't perform", "Book 3, 10.3", OPEN, is_internal),
 ]
 
 
@@ -158,8 +159,8 @@ def kind_is(*kinds):
 def meets_limit(scene):
     """Whether the amount equals X or Y, and a rule of the card's list looks at it."""
     list_, amount = scene.said.held.get(0x8E, b""), scene.purchase()["amount"]
-    limits = (int.from_bytes(list_[:4]), int.from_bytes(list_[4:8]))
-    return any(condition in (6, 7) and amount == limits[0] or condition in (8, 9) and amount == limits[1] for condition in list_[9::2])
+    x, y = int.from_bytes(list_[:4]), int.from_bytes(list_[4:8])
+    return any(condition in (6, 7) and amount == x or condition in (8, 9) and amount == y for condition in list_[9::2])
 
 
 def has_other_status(scene):
@@ -194,7 +195,7 @@ EXCUSES = [
            METHODS, (CVM_RESULTS,), (VERIFY,)),
     Excuse("that years from 50 on are of the last century is this project's choice", "", OWN, has_old_date, DATES),
     Excuse("the order of applications of one priority is this project's choice", "", OWN, ties, 0, (), ("00a40400",)),
-    Excuse("offline data authentication, which the reference doesn't perform", "Book 3, 10", OPEN, authenticates, AUTHENTICATION),
+    Excuse("offline data authentication, which the reference doesn't perform", "Book 3, 10.3", OPEN, authenticates, AUTHENTICATION),
     Excuse("a PIN enciphered for the card, which the reference doesn't support", "Book 3, 10.5", OPEN, enciphers, METHODS,
            (CVM_RESULTS,), (VERIFY,)),
     Excuse("`caps` isn't known", "", OPEN, lacks("caps"), METHODS, (CVM_RESULTS, 0x9F33), (VERIFY,)),

@@ -1,6 +1,6 @@
 """What a walk has to make itself: the host's reply, from what the terminal does behind it; and why it goes on where the reference
 has ended."""
-from yollenka.lab.emv import GENERATE, command_name, data_of, fields
+from yollenka.lab.emv import GENERATE, data_of, fields
 from yollenka.lab.verdict import OPEN, OWN, WRONG
 from yollenka.model.objects import spelled
 

@@ -210,7 +210,8 @@ class Walk:
         results = self.said.first_results() or b""
         if len(self.said.generated) == 0 or not any(one & other for code in own for one, other in zip(code, results)):
             return False
-        self.tell(OPEN, "an AAC is asked for before all results are there, as a denial code has a set bit", at, section="Book 3, 10.7")
+        text = "an AAC is asked for before all results are there, as a denial code has a set bit"
+        self.tell(OPEN, text, at, section="Book 3, 10.7")
         self.stop()
         return True
 
