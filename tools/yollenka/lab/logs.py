@@ -13,8 +13,8 @@ CARD, HOST = "card", "host"
 # What an event of a log may be: a command or message, an answer or reply, how the purchase ended, a card that is powered up.
 ASK, REPLY, END, BEGIN = "ask", "reply", "end", "begin"
 GENERATE, SELECT, GET_RESPONSE = b"\x80\xae", b"\x00\xa4", b"\x00\xc0\x00\x00"
-# Up to so many bytes a command and an answer have.
-LONGEST = 261
+# Up to so many bytes a command has, and how an answer to reset begins.
+LONGEST, ATR = 261, (0x3B, 0x3F)
 
 
 @dataclass(frozen=True)
@@ -300,12 +300,16 @@ def marked_event(what, text, line):
 
 
 def plain(lines):
-    """Lines of bytes alone: a command, its answer, and so on."""
+    """Lines of bytes alone: a command, its answer, and so on; before a command an answer to reset may stand."""
     what = ASK
     for number, line in lines:
         if not line or line.startswith("#"):
             continue
-        yield Event(what, CARD, hexadecimal(line, number), number)
+        data = hexadecimal(line, number)
+        if what == ASK and data[0] in ATR:
+            yield Event(BEGIN, CARD, None, number)
+            continue
+        yield Event(what, CARD, data, number)
         what = REPLY if what == ASK else ASK
 
 
