@@ -169,8 +169,16 @@ def listen(told, command, answer):
     elif name == "READ RECORD" and told.has_begun:
         for one in primitives(body):
             told.held.setdefault(one.tag, one.value)
+    elif name == "READ RECORD":
+        told.found.update(in_directory(body))
     elif name == "GENERATE AC":
         told.generated.append((data_of(command), command[2]))
+
+
+def in_directory(record):
+    """The names in a record of a directory, each with its priority indicator."""
+    entries_ = (objects(one.value)[0] for one in objects(first(objects(record)[0], 0x70) or b"")[0] if one.tag == 0x61)
+    return {first(inner, 0x4F) or b"": (first(inner, 0x87) or b"\0")[0] for inner in entries_}
 
 
 def hear_profile(told, body):

@@ -33,7 +33,7 @@ def place_of(line):
 
 def line_texts(line):
     """The lines that tell a finding, without the mark of a comment."""
-    section = f" ({line.section})" if line.section else ""
+    section = f" ({line.section})" if line.section and line.kind != BEHIND else ""
     word = WORDS.get(line.kind, line.kind)
     yield f"{word}{place_of(line)}: {line.text}{section}" if line.kind != NOTE else f"{line.text}{section}"
     if line.sent is not None and line.wanted is not None:

@@ -13,6 +13,7 @@ from yollenka.lab.facts import settle, without_pad
 from yollenka.lab.logs import CARD, HOST, READING
 from yollenka.lab.oracle import Reference, reasons
 from yollenka.lab.permitted import COUNTERS, VERIFY, Scene, aside, excuse_of, lacking
+from yollenka.lab.rules import rule_of, step_of
 from yollenka.lab.verdict import (
     BEHIND, FAILED, INCONCLUSIVE, LACKING, NOTE, OPEN, OWN, PASSED, PERMITTED, SUPPLIED, WRONG, Line, Verdict,
 )
@@ -83,10 +84,10 @@ class Walk:
         """Whether something before can't be judged."""
         return any(line.kind in (OPEN, OWN) for line in self.lines)
 
-    def stop(self, kind=None, text=""):
+    def stop(self, kind=None, text="", **more):
         """Ends the walk here."""
         if kind:
-            self.differ(kind, text) if kind in (WRONG, OPEN, OWN) else self.tell(kind, text)
+            self.differ(kind, text, **more) if kind in (WRONG, OPEN, OWN) else self.tell(kind, text)
         self.is_stopped = True
 
     # Steps.
@@ -127,7 +128,8 @@ class Walk:
         elif end.startswith("cut"):
             self.stop(OPEN, f"the card was gone, and the log has no {ask} without an answer")
         else:
-            self.stop(WRONG, f"the talk ends here, wanted {ask}")
+            section = step_of(self.reference.ask, self.reference.fed[:-1])
+            self.stop(WRONG, f"the talk ends here, wanted {ask}", section=section)
 
     def at_card(self, at):
         """The reference asks the card."""
@@ -247,8 +249,10 @@ class Walk:
         details = [detail for one in wrong for detail in (one.details or (one.text,)) if not one.is_kind]
         only_kind = all(one.is_kind for one in wrong)
         kind = excused[0].kind if excused and only_kind else OPEN if self.settled.lacking and only_kind else WRONG
-        self.differ(kind, text, at, sent=sent, wanted=ask, details=tuple(details))
-        if is_kind or any(one.bits for one in wrong):
+        bits = next((one.bits for one in wrong if one.bits), 0)
+        section = rule_of(ask, self.reference.fed[:-1], bits, is_kind)
+        self.differ(kind, text, at, sent=sent, wanted=ask, details=tuple(details), section=section)
+        if is_kind or bits:
             self.wanted_at.setdefault(len(self.lines) - 1, len(self.reference.fed) - 1)
 
     def wrong(self, at):
@@ -264,7 +268,7 @@ class Walk:
         else:
             shows = self.shows_bytes(now, ask)
             self.differ(WRONG, text if name != wanted else f"{name}, with other bytes", at,
-                        sent=now.sent if shows else None, wanted=ask if shows else None)
+                        section=step_of(ask, self.reference.fed[:-1]), sent=now.sent if shows else None, wanted=ask if shows else None)
         self.mend(at)
 
     def shows_bytes(self, now, ask):
@@ -317,7 +321,8 @@ class Walk:
         if now.side == HOST:
             self.hear_host(at)
         elif hosts:
-            self.differ(WRONG, f"{command_name(now.sent)}, wanted the message to the host", at)
+            section = step_of(self.reference.ask, self.reference.fed[:-1])
+            self.differ(WRONG, f"{command_name(now.sent)}, wanted the message to the host", at, section=section)
             self.take(at)
         else:
             self.invent(at)
