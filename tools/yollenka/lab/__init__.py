@@ -18,6 +18,10 @@ COMMANDS = {
     "sweep": "pulls the card out at every place of one purchase, and tabulates what came of it",
     "trace": "the trace of one purchase, from its scenario and its report",
     "tshark": "what Wireshark's dissector reads in messages in the style of ISO 8583",
+    "terminal": "cases at a terminal of your own, each judged, and what they cover",
+    "make": "cases in words, made into scenarios",
+    "show": "a scenario's card in words",
+    "check": "what is wrong with a scenario's cards before anything runs",
 }
 
 

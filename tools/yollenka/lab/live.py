@@ -1,0 +1,149 @@
+"""The card and the host that a terminal of another make talks with: the proved card, answers in place of its own, the issuer."""
+import re
+import subprocess
+from itertools import count
+
+from yollenka.faults import Fault
+from yollenka.model.document import scenario_of
+from yollenka.model.issuer import Issuer
+from yollenka.model.objects import command_in
+from yollenka.model.selection import DIRECTORY
+from yollenka.model.world import Canned, World
+from yollenka.readers import begin, card_document
+from yollenka.refusals import near
+from yollenka.scenarios import document
+
+# The commands by class and instruction, and script commands by their parameters too.
+COMMANDS = {
+    "00a4": "SELECT", "00b2": "READ RECORD", "80a8": "GET PROCESSING OPTIONS", "0020": "VERIFY", "80ca": "GET DATA",
+    "80ae": "GENERATE AC", "0082": "EXTERNAL AUTHENTICATE", "841e": "APPLICATION BLOCK", "8418": "APPLICATION UNBLOCK",
+    "8416": "CARD BLOCK", "8424": "PIN CHANGE/UNBLOCK", "04da": "PUT DATA",
+}
+ORDINALS = "first second third fourth fifth sixth seventh eighth ninth tenth".split()
+KEY = re.compile(rf"(?:({'|'.join(ORDINALS)}) )?([A-Z][A-Z/ ]*?[A-Z])(?: (\S*[0-9]\S*))?")
+
+
+def names_of(said):
+    """The names of a command: the plain one, and the one with what it is about."""
+    one = command_in(said)
+    plain = COMMANDS.get(said[:2].hex(), "")
+    if one is None or not plain:
+        return (plain,)
+    high, low = one.header[2:]
+    about = {
+        "SELECT": DIRECTORY.decode() if one.data == DIRECTORY else one.data.hex().upper(), "READ RECORD": f"{low >> 3}.{high}",
+        "GET DATA": f"{high:02X}{low:02X}",
+    }
+    return plain, f"{plain} {about.get(plain, '')}"
+
+
+def check_key(key):
+    """Refuses a key of `answer` that names no command."""
+    found = KEY.fullmatch(key)
+    if not key.isdigit() and (not found or found[2] not in COMMANDS.values()):
+        wanted = [*COMMANDS.values(), *ORDINALS]
+        raise Fault(f"answer: '{key}' is no command, as 'second GENERATE AC', and no number{near(key.upper(), wanted)}")
+
+
+class Replaced:
+    """A card of which some answers are replaced; it gets each command all the same. `given` has what the terminal got."""
+
+    def __init__(self, card, answers):
+        self.card, self.answers = card, answers
+
+    def power_up(self, tear):
+        """Turns the card on."""
+        self.seen, self.given = {key: 0 for key in self.answers}, []
+        self.card.power_up(tear)
+
+    def counters(self):
+        """What a power line shows."""
+        return self.card.counters()
+
+    def is_meant(self, key, said):
+        """Whether a key of `answer` means this command, which is counted for it."""
+        if key.isdigit():
+            return len(self.given) + 1 == int(key)
+        ordinal, name, about = KEY.fullmatch(key).groups()
+        if (f"{name} {about}" if about else name) not in names_of(said):
+            return False
+        self.seen[key] += 1
+        return ordinal is None or ORDINALS.index(ordinal) + 1 == self.seen[key]
+
+    def answer(self, said):
+        """The answer to a command, or None where the card is gone."""
+        own = self.card.answer(said)
+        meant = [key for key in self.answers if self.is_meant(key, said)]
+        self.given.append(self.answers[meant[0]] if meant else own)
+        return self.given[-1]
+
+
+def with_answers(case):
+    """The case's scenario, where the card of a case with other answers is one of canned answers: those of the model's run."""
+    if not case.answers:
+        return case.scenario
+    world = World(scenario_of(document(case.scenario), "replay"))
+    (name, card), = world.cards.items()
+    world.cards[name] = replaced = Replaced(card, case.answers)
+    lane, number = world.lanes[0], count()
+    while (lane.course or lane.left) and next(number) < 2000:
+        world.turn(lane)
+    answers = [one for one in replaced.given]
+    kept = answers[: answers.index(None)] if None in answers else answers
+    canned = {"name": name, "canned": [one.hex().upper() for one in kept]}
+    return case.scenario | {"card": [canned]}
+
+
+class ProgramCard:
+    """The proved card of a scenario, by the lines of its program."""
+
+    def __init__(self, scenario):
+        self.process, self.lines = begin("card_at_reader", [], card_document(scenario))
+
+    def power_up(self, tear):
+        """Turns the card on, with a plan to pull it out."""
+        if tear:
+            at = tear["at"] if tear["at"] == "release" else f"{tear['at']} {tear['write']}"
+            self.lines.ask(f"pull {tear['commit']} {at}")
+        self.is_on = not self.lines.ask("power").endswith("torn")
+
+    def answer(self, said):
+        """The answer to a command, or None where the card is gone."""
+        told = self.lines.ask(said.hex()) if self.is_on and 1 <= len(said) <= 261 else "< torn"
+        self.is_on = self.is_on and told not in ("< torn", "?")
+        return bytes.fromhex(told[2:].strip("-")) if self.is_on else None
+
+    def end(self):
+        """Ends the program."""
+        self.process.stdin.close()
+        self.process.stdout.close()
+        self.process.wait()
+
+
+class CannedCard(Canned):
+    """A card of canned answers."""
+
+    def __init__(self, scenario):
+        super().__init__([bytes.fromhex(one) for one in scenario["card"][0]["canned"]])
+
+    def end(self):
+        """Nothing is to be ended."""
+
+
+class Host:
+    """The issuer's host behind the link of a purchase."""
+
+    def __init__(self, scenario):
+        kept = scenario_of(document(scenario), "replay")
+        self.issuer, self.link = Issuer(kept["issuer"], kept["account"]), kept["lane"][0]["purchase"][0]["link"]
+
+    def reply(self, message):
+        """The reply to a message, or None where none comes back."""
+        replies = [self.issuer.reply(message) for _ in range({"request_lost": 0, "twice": 2}.get(self.link, 1))]
+        return replies[0] if replies and self.link != "reply_lost" else None
+
+
+def card_of(case):
+    """The card of a case, to be powered up; `end` of its `card` ends it."""
+    own = CannedCard if "canned" in case.scenario["card"][0] else ProgramCard
+    return Replaced(own(case.scenario), case.answers)
