@@ -1,0 +1,203 @@
+"""`lab terminal`: cases at a terminal of one's own, a program that talks lines; each is judged, and what all cover is told."""
+import os
+import re
+import select
+import shlex
+import subprocess
+import tempfile
+import time
+from concurrent.futures import ThreadPoolExecutor
+from dataclasses import replace
+from pathlib import Path
+
+from yollenka.faults import Fault
+from yollenka.lab.cases import cases_in
+from yollenka.lab.cover import Coverage
+from yollenka.lab.facts import facts_of_scenario
+from yollenka.lab.live import Host, card_of
+from yollenka.lab.logs import CARD, HOST, Exchange, Purchase
+from yollenka.lab.told import Result, junit, status_of, tap_lines
+from yollenka.lab.walk import FAILED, NOTE, PASSED, WRONG, Line, judge
+from yollenka.readers import program, terminal_document
+
+TEXT = """Tries cases at a terminal of your own, each judged as `lab judge` judges a log with the whole lane.
+
+COMMAND is started once for each case. On its standard input it gets a line `document N`, then N bytes: the terminal and its
+purchase as a TOML document (docs/reader.md, section 2). It writes a command as `> H`, or as bare hexadecimal, and reads
+`< H` or `< gone`; `host > H` is answered `host < H` or `host < none`; at last it writes `end ..`, as much of it as it has
+(docs/report.md, section 3), or just ends. `{case}` in a word of COMMAND becomes the case's name. CASES is a table of cases
+(docs/cases.md), a scenario, or a folder of them."""
+LONGEST, MOST_EXCHANGES, SHOWN = 8192, 2000, 5
+COMMAND_LINE = re.compile(r"(?:> ?)?((?:[0-9a-fA-F]{2} ?)+)")
+
+
+def arguments(parser):
+    """The command's words."""
+    parser.add_argument("cases", metavar="CASES", help="a table of cases, a scenario, or a folder")
+    parser.add_argument("command", metavar="COMMAND", nargs="+", help="behind `--`: your terminal, with its words")
+    parser.add_argument("-j", dest="jobs", type=int, default=os.cpu_count() or 1, metavar="N", help="so many at a time")
+    parser.add_argument("--only", default="", metavar="REGEX", help="the cases in whose names this is found")
+    parser.add_argument("--seconds", type=float, default=10, help="how long a terminal may take for a line (10)")
+    parser.add_argument("--keep", metavar="DIR", help="keeps each dialogue there, as CASE.log")
+    parser.add_argument("--all", action="store_true", help="shows each difference behind a fault too")
+    parser.add_argument("--coverage", action="store_true", help="tells all that is covered, and what isn't")
+    parser.add_argument("--junit", metavar="F", help="writes the results as JUnit XML to this file")
+
+
+class Quiet(Exception):
+    """The terminal said nothing in its time."""
+
+
+class Talk:
+    """A terminal's program, by lines, each within so many seconds."""
+
+    def __init__(self, words, seconds):
+        self.seconds, self.kept, self.errors = seconds, b"", tempfile.TemporaryFile()
+        try:
+            self.process = subprocess.Popen(words, stdin=subprocess.PIPE, stdout=subprocess.PIPE, stderr=self.errors)
+        except OSError as error:
+            raise Fault(f"{words[0]}: {error.strerror}") from None
+
+    def say(self, data):
+        """Writes bytes; a program that has ended doesn't read them."""
+        try:
+            self.process.stdin.write(data)
+            self.process.stdin.flush()
+        except OSError:
+            pass
+
+    def hear(self):
+        """The next line, or None at the end."""
+        end = time.monotonic() + self.seconds
+        while b"\n" not in self.kept:
+            if not select.select([self.process.stdout], [], [], max(0, end - time.monotonic()))[0]:
+                raise Quiet
+            part = os.read(self.process.stdout.fileno(), LONGEST)
+            if not part:
+                self.kept, rest = b"", self.kept
+                return rest.decode(errors="replace").strip() or None
+            self.kept += part
+        line, self.kept = self.kept.split(b"\n", 1)
+        return line.decode(errors="replace").strip()
+
+    def end(self):
+        """Ends the program; gives its status, and what it wrote to standard error."""
+        for pipe in (self.process.stdin, self.process.stdout):
+            try:
+                pipe.close()
+            except OSError:
+                pass
+        try:
+            status = self.process.wait(self.seconds)
+        except subprocess.TimeoutExpired:
+            self.process.kill()
+            status = self.process.wait()
+        self.errors.seek(0)
+        return status, self.errors.read().decode(errors="replace").splitlines()
+
+
+class Trial:
+    """A case at a terminal: `lines` are the dialogue's, as a trace has them; `notes` what else is to be told."""
+
+    def __init__(self, case, talk):
+        self.talk, self.purchase, self.lines, self.notes = talk, Purchase(card="c1"), [], []
+        self.card, self.host, self.scenario = card_of(case), Host(case.scenario), case.scenario
+
+    def put(self, side, head, sent, got):
+        """Keeps an exchange, and tells the terminal what came back."""
+        nothing = "none" if side == HOST else "gone"
+        reply = f"{head}< {nothing if got is None else got.hex() or '-'}"
+        self.purchase.exchanges.append(Exchange(side, sent, got, len(self.lines) + 1))
+        self.lines += [f"{head}> {sent.hex() or '-'}", reply]
+        self.talk.say(reply.encode() + b"\n")
+
+    def take(self, line):
+        """Does what a line of the terminal asks; whether it goes on."""
+        command = COMMAND_LINE.fullmatch(line)
+        if line.startswith("end"):
+            self.lines.append(line)
+            self.purchase.end = line[3:].strip()
+            return False
+        if line.startswith("host >"):
+            sent = self.host.message(line[6:].strip(), self.purchase.exchanges)
+            self.put(HOST, "host ", sent, self.host.reply(sent))
+        elif command:
+            sent = bytes.fromhex(command[1])
+            self.put(CARD, "", sent, self.card.answer(sent))
+        else:
+            raise Fault(f"{line[:80]!r} is no command, no message and no end")
+        return len(self.purchase.exchanges) < MOST_EXCHANGES
+
+    def run(self):
+        """The whole dialogue; a fault of the terminal that is none of EMV's, or None."""
+        text = terminal_document(self.scenario, 0, 1)
+        self.card.power_up(self.scenario["lane"][0]["purchase"][0].get("tear"))
+        self.talk.say(b"document %d\n" % len(text) + text)
+        try:
+            while (line := self.talk.hear()) is not None and self.take(line):
+                pass
+            return None
+        except Quiet:
+            return f"the terminal said nothing for {self.talk.seconds:g} seconds"
+        except Fault as fault:
+            return f"line {len(self.lines) + 1}: {fault}"
+
+    def end(self):
+        """Ends both programs; keeps what the terminal said besides."""
+        self.card.card.end()
+        status, errors = self.talk.end()
+        self.notes += [f"standard error: {line}" for line in errors[-SHOWN:]]
+        self.notes += [f"the terminal's status is {status}"] if status else []
+
+
+def tried(case, options):
+    """The verdict on a case at the terminal, with its name and its time."""
+    begin = time.monotonic()
+    words = [word.replace("{case}", case.name) for word in options.command]
+    trial = Trial(case, Talk(words, options.seconds))
+    try:
+        fault = trial.run()
+    finally:
+        trial.end()
+    if options.keep:
+        (Path(options.keep) / f"{case.name}.log").write_text("".join(f"{line}\n" for line in trial.lines))
+    verdict = judge(trial.purchase, facts_of_scenario(case.scenario, 0, 1))
+    if fault:
+        verdict = replace(verdict, status=FAILED, lines=[Line(WRONG, fault), *verdict.lines])
+    notes = [*trial.notes, *([f"the case tries: {case.tries}"] if case.tries else [])]
+    if verdict.status != PASSED:
+        verdict = replace(verdict, lines=[*verdict.lines, *(Line(NOTE, note) for note in notes)])
+    return Result(case.name, verdict, time.monotonic() - begin)
+
+
+def chosen(options):
+    """The cases that are to be tried."""
+    try:
+        wanted = re.compile(options.only)
+    except re.error as error:
+        raise Fault(f"--only {options.only}: {error}") from None
+    cases = [case for case in cases_in(options.cases) if wanted.search(case.name)]
+    if not cases:
+        raise Fault(f"{options.cases} has no case with '{options.only}' in its name")
+    if options.jobs < 1:
+        raise Fault(f"-j {options.jobs} should be 1 or more")
+    return cases
+
+
+def run(options):
+    """Tries the cases; gives the status."""
+    cases, results, coverage = chosen(options), [], Coverage()
+    for name in ("card_at_reader", "terminal_at_reader"):
+        program(name)
+    if options.keep:
+        Path(options.keep).mkdir(parents=True, exist_ok=True)
+    print(f"TAP version 13\n1..{len(cases)}")
+    with ThreadPoolExecutor(options.jobs) as pool:
+        for case, result in zip(cases, pool.map(lambda case: tried(case, options), cases)):
+            results.append(result)
+            coverage.add(case, result.verdict)
+            print("\n".join(tap_lines(len(results), result, options.all)), flush=True)
+    print("\n".join(f"# {line}" for line in coverage.lines(options.coverage)))
+    if options.junit:
+        Path(options.junit).write_text("\n".join(junit(results, f"lab terminal {shlex.join(options.command)}")) + "\n")
+    return status_of(results)
