@@ -175,7 +175,8 @@ def named(values):
 
 
 def filled(value, given):
-    """A value with the words of `each` put in: a text that is one such word alone becomes its value."""
+    """A value with the words of `each` put in: a text that is one such word alone becomes its value. A word whose value is a
+    table of paths stands for its name."""
     if isinstance(value, dict):
         return {filled(key, given): filled(its, given) for key, its in value.items()}
     if isinstance(value, list):
@@ -185,8 +186,9 @@ def filled(value, given):
     for word in WORDS.findall(value):
         if word not in given:
             raise Fault(f"'{{{word}}}' is no word of each{near(word, given)}")
+    plain = {word: name if isinstance(its, dict) else its for word, (name, its) in given.items()}
     whole = WORDS.fullmatch(value)
-    return given[whole[1]][1] if whole else WORDS.sub(lambda found: str(given[found[1]][1]), value)
+    return plain[whole[1]] if whole else WORDS.sub(lambda found: str(plain[found[1]]), value)
 
 
 def case_name(name, given):
@@ -206,11 +208,9 @@ def answers_in(value):
 
 def one_case(tables_, row, given):
     """A case of a row, with these words of `each`."""
-    for its in (its for _, its in given.values() if isinstance(its, dict)):
-        for path, value in its.items():
-            put(tables_, path, value)
     row = {key: filled(its, given) for key, its in row.items() if key not in ("name", "each")}
-    for path, value in row.get("set", {}).items():
+    tables_of_paths = [row.get("set", {}), *(filled(its, given) for _, its in given.values() if isinstance(its, dict))]
+    for path, value in (pair for paths in tables_of_paths for pair in paths.items()):
         put(tables_, path, value)
     for path in row.get("unset", []):
         take_away(tables_, path)

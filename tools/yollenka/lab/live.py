@@ -5,9 +5,11 @@ from itertools import count
 
 from yollenka.faults import Fault
 from yollenka.model.document import scenario_of
-from yollenka.model.issuer import Issuer
-from yollenka.model.objects import command_in
-from yollenka.model.selection import DIRECTORY
+from yollenka.model.issuer import Issuer, Message
+from yollenka.model.objects import Fault as ListFault
+from yollenka.model.objects import account_number, command_in, entries, entry_in
+from yollenka.model.selection import DIRECTORY, Terminated, gather, profile_and_locator
+from yollenka.model.terminal import Terminal, cryptogram_in
 from yollenka.model.world import Canned, World
 from yollenka.readers import begin, card_document
 from yollenka.refusals import near
@@ -19,6 +21,8 @@ COMMANDS = {
     "80ae": "GENERATE AC", "0082": "EXTERNAL AUTHENTICATE", "841e": "APPLICATION BLOCK", "8418": "APPLICATION UNBLOCK",
     "8416": "CARD BLOCK", "8424": "PIN CHANGE/UNBLOCK", "04da": "PUT DATA",
 }
+# The bit of the verification results' third byte.
+ONLINE_PIN_ENTERED = 0x04
 ORDINALS = "first second third fourth fifth sixth seventh eighth ninth tenth".split()
 KEY = re.compile(rf"(?:({'|'.join(ORDINALS)}) )?([A-Z][A-Z/ ]*?[A-Z])(?: (\S*[0-9]\S*))?")
 
@@ -135,12 +139,61 @@ class Host:
 
     def __init__(self, scenario):
         kept = scenario_of(document(scenario), "replay")
-        self.issuer, self.link = Issuer(kept["issuer"], kept["account"]), kept["lane"][0]["purchase"][0]["link"]
+        self.terminal = kept["lane"][0]
+        self.issuer, self.link = Issuer(kept["issuer"], kept["account"]), self.terminal["purchase"][0]["link"]
+
+    def message(self, text, exchanges):
+        """What comes to the host: the message as it was written, or, where it is none of this project's, the request that the
+        exchanges with the card amount to. Raises Fault where they amount to none."""
+        try:
+            sent = bytes.fromhex(text)
+            Message(sent)
+            return sent
+        except (ValueError, KeyError, IndexError):
+            return request_of(self.terminal, exchanges)
 
     def reply(self, message):
         """The reply to a message, or None where none comes back."""
         replies = [self.issuer.reply(message) for _ in range({"request_lost": 0, "twice": 2}.get(self.link, 1))]
         return replies[0] if replies and self.link != "reply_lost" else None
+
+
+def request_of(settings, exchanges):
+    """The request of a terminal behind these exchanges: what the card gave, and what was sent with the first GENERATE AC."""
+    (purchase,), held, said = settings["purchase"], {}, None
+    terminal, pins = Terminal(settings, purchase, []), list(purchase["pins"])
+    try:
+        for one in exchanges:
+            name = COMMANDS.get(one.sent[:2].hex())
+            if name == "GET PROCESSING OPTIONS":
+                terminal.profile = profile_and_locator(one.got[:-2])[0]
+            elif name == "READ RECORD":
+                keep_record(held, one.got[:-2])
+            elif name == "GENERATE AC":
+                said, terminal.cryptogram = command_in(one.sent).data, cryptogram_of(one.got[:-2])
+            elif name == "VERIFY":
+                del pins[:1]
+        for tag, length in entries(held[0x8C]):
+            terminal.objects[tag] = entry_in(entries(held[0x8C]), tag, length, said)
+        terminal.held, terminal.pan, terminal.sent_results = held, account_number(held[0x5A]), terminal.objects[0x95]
+        terminal.pin = pins[0] if pins and terminal.sent_results[2] & ONLINE_PIN_ENTERED else None
+        return terminal.request()
+    except (AttributeError, KeyError, TypeError, IndexError, Terminated, ListFault):
+        raise Fault("a message to the host before a first GENERATE AC with an answer") from None
+
+
+def keep_record(held, body):
+    """Puts the objects of a record into the map, where it is one of the application's."""
+    try:
+        gather(held, body)
+    except Terminated:
+        pass  # a record of a directory or of a log
+
+
+def cryptogram_of(body):
+    """What an answer to GENERATE AC gives, as the terminal's messages have it."""
+    _, counter, code, data = cryptogram_in(body, "first")
+    return {0x9F36: counter, 0x9F26: code, 0x9F10: data}
 
 
 def card_of(case):

@@ -1,0 +1,3 @@
+from yollenka.model.terminal import Terminal
+def deviating(names):
+    return Terminal
