@@ -13,7 +13,7 @@ from yollenka.words import AIP, AUC, TVR
 FIRST_LIST = ["9F02", "9F03", "9F1A", "95", "5F2A", "9A", "9C", "9F37", "9F34", "9F1C 8"]
 DEFAULTS = {
     "aid": "A0000000031010", "label": "CREDIT", "priority": 1, "pan": "4761739001010010", "sequence": 1, "expires": "2026-12",
-    "effective": "2024-01", "country": "840", "currency": "840", "usage": "FF00", "version": "0096",
+    "effective": "2024-01", "country": "840", "currency": "840", "usage": "FFC0", "version": "0096",
     "profile": ["cardholder verification", "terminal risk management", "issuer authentication"],
     "cvm": ["plaintext pin if supported else next", "signature if supported else next", "no cvm"],
     "iac": {"denial": "0010000000", "online": "7068BC9800", "default": "7068BCF800"}, "lower": 5, "upper": 9,
@@ -203,7 +203,10 @@ def table(words):
     """The `[[card]]` table of a card in words: an application, or one for each table in `app`, with `words` as its defaults."""
     own = {its: words[key] for key, its in OF_A_CARD.items() if is_there(words.get(key))}
     shared = {key: value for key, value in words.items() if key not in OF_A_CARD and key != "app"}
-    apps = [application(shared | one) for one in words.get("app") or [{}]]
+    given = words.get("app") or [{}]
+    if not isinstance(given, list) or not all(isinstance(one, dict) for one in given):
+        raise Fault("card.app should be an array of tables")
+    apps = [application(shared | one) for one in given]
     return {"name": "c1"} | own | {"app": apps}
 
 

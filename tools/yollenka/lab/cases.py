@@ -50,12 +50,9 @@ def base(file):
     for name, its in kept.items():
         if not isinstance(its, dict):
             raise Fault(f"{name} should be one table")
-    lane = LANE | kept["lane"]
-    if isinstance(lane["aid"], list):
-        lane["aid"] = [ROW | row if isinstance(row, dict) else row for row in lane["aid"]]
     return deepcopy({
         "issuer": ISSUER | kept["issuer"], "account": {"currency": "840", "balance": 100000, "pin": "1234"} | kept["account"],
-        "card": cards.complete(card), "lane": lane, "purchase": PURCHASE | kept["purchase"],
+        "card": cards.complete(card), "lane": LANE | kept["lane"], "purchase": PURCHASE | kept["purchase"],
     })
 
 
@@ -121,12 +118,19 @@ def patched(scenario, path, change):
     at[last] = (data[:place] + new + data[place + len(new) :]).hex().upper()
 
 
+def table_rows(value, path):
+    """An array of tables."""
+    if not isinstance(value, list) or not all(isinstance(one, dict) for one in value):
+        raise Fault(f"{path} should be an array of tables")
+    return value
+
+
 def terminal(lane, aid):
-    """A lane's table: words for bits, and the card's name for a row without one."""
+    """A lane's table: its rows whole, with the card's name where they have none; words of bits as bytes."""
     rows = []
-    for row in lane["aid"]:
+    for row in table_rows(lane["aid"], "lane.aid"):
         codes = {key: bits(row[key], TVR, 5, f"action code {key}") for key in CODES if isinstance(row.get(key), list)}
-        rows.append({"name": aid} | row | codes)
+        rows.append({"name": aid} | ROW | row | codes)
     caps = {"caps": bits(lane["caps"], CAPS, 3, "caps")} if isinstance(lane.get("caps"), list) else {}
     return lane | caps | {"aid": rows}
 

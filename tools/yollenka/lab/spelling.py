@@ -8,6 +8,7 @@ from yollenka.refusals import near
 from yollenka.words import COND, CVM, TAGS
 
 HEXADECIMAL = re.compile(r"(?:[0-9A-Fa-f]{2})*")
+REPEATED = re.compile(r"([0-9A-Fa-f]{2})\*([0-9]{1,3})")
 # Short names beside those of the Books: methods and conditions of cardholder verification (Book 3 Annex C3).
 METHODS = {
     "fail": 0x00, "plaintext pin": 0x01, "online pin": 0x02, "plaintext pin and signature": 0x03, "enciphered pin": 0x04,
@@ -36,8 +37,8 @@ def known(word, table, what):
 
 
 def hexadecimal(value, what, sizes=range(257)):
-    """Bytes that are written in hexadecimal, as capitals; blanks may stand between."""
-    text = value.replace(" ", "") if isinstance(value, str) else None
+    """Bytes that are written in hexadecimal, as capitals; blanks may stand between, and 00*9 is nine bytes 00."""
+    text = REPEATED.sub(lambda found: found[1] * int(found[2]), value).replace(" ", "") if isinstance(value, str) else None
     if text is None or not HEXADECIMAL.fullmatch(text) or len(text) // 2 not in sizes:
         wanted = f"{sizes[0]}" if len(sizes) == 1 else f"{sizes[0]} to {sizes[-1]}"
         raise Fault(f"the {what} is {value!r}, and should be {wanted} bytes in hexadecimal")
