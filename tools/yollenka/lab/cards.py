@@ -15,7 +15,7 @@ DEFAULTS = {
     "aid": "A0000000031010", "label": "CREDIT", "priority": 1, "pan": "4761739001010010", "sequence": 1, "expires": "2026-12",
     "effective": "2024-01", "country": "840", "currency": "840", "usage": "FFC0", "version": "0096",
     "profile": ["cardholder verification", "terminal risk management", "issuer authentication"],
-    "cvm": ["plaintext pin if supported else next", "signature if supported else next", "no cvm"],
+    "cvm": {"rules": ["plaintext pin if supported else next", "signature if supported else next", "no cvm"]},
     "iac": {"denial": "0010000000", "online": "7068BC9800", "default": "7068BCF800"}, "lower": 5, "upper": 9,
     "cdol1": FIRST_LIST, "cdol2": ["8A", *FIRST_LIST], "counter": 10, "last_online": 9, "count_limit": 5, "sum_limit": 20000,
     "pin": "1234",
@@ -177,7 +177,8 @@ def locator(records):
 def complete(words):
     """The words of an application with the default of each that isn't there."""
     iac = {"iac": DEFAULTS["iac"] | words["iac"]} if isinstance(words.get("iac"), dict) else {}
-    return DEFAULTS | words | iac
+    cvm = {"cvm": {"rules": words["cvm"]}} if isinstance(words.get("cvm"), list) else {}
+    return DEFAULTS | words | iac | cvm
 
 
 def application(words):

@@ -88,7 +88,7 @@ def put(tables_, path, value):
             put(tables_, f"{path}.{key}", its)
         return
     at, last = holder(tables_, path, True)
-    at[last] = deepcopy(value)
+    at[last] = {"rules": value} if last == "cvm" and isinstance(value, list) else deepcopy(value)
 
 
 def take_away(tables_, path):
