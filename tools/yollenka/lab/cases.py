@@ -213,7 +213,7 @@ def answers_in(value):
 def one_case(tables_, row, given):
     """A case of a row, with these words of `each`."""
     row = {key: filled(its, given) for key, its in row.items() if key not in ("name", "each")}
-    tables_of_paths = [row.get("set", {}), *(filled(its, given) for _, its in given.values() if isinstance(its, dict))]
+    tables_of_paths = [row.get("set", {}), *(its for _, its in given.values() if isinstance(its, dict))]
     for path, value in (pair for paths in tables_of_paths for pair in paths.items()):
         put(tables_, path, value)
     for path in row.get("unset", []):
@@ -252,8 +252,9 @@ def cases_of_row(file, row):
     for choice in choices:
         name = row["name"]
         try:
-            given = dict(zip(words, choice))
-            name = case_name(name, given)
+            chosen = dict(zip(words, choice))
+            name = case_name(name, chosen)
+            given = {word: (its, filled(value, chosen)) for word, (its, value) in chosen.items()}
             yield Case(name, *one_case(base(file), row, given))
         except Fault as fault:
             raise Fault(f"{name}: {fault}") from None
