@@ -28,18 +28,20 @@ PURCHASE = {
     "amount": 2500, "currency": "840", "date": "240615", "time": "120000", "number": 16909060, "word": 49, "pins": ["1234"],
 }
 TABLES = ("issuer", "account", "card", "lane", "purchase")
-KEYS = ("name", "tries", "each", "set", "unset", "patch", "answer", "canned")
+KEYS = ("name", "tries", "each", "set", "unset", "patch", "answer", "reply", "canned")
 CODES = ("denial", "online", "default")
 WORDS = re.compile(r"\{([A-Za-z0-9_-]+)\}")
 
 
 class Case(NamedTuple):
     """A purchase to be tried: its scenario, of one card and one lane with one purchase; `answers` has the answers in place of the
-    card's (None: it is gone), each with the name of its command or its number from 1; `tries` says in words which rule is tried."""
+    card's (None: it is gone), each with the name of its command or its number from 1; `reply` is what comes in place of the
+    issuer's reply, or None; `tries` says in words which rule is tried."""
 
     name: str
     scenario: dict
     answers: dict
+    reply: bytes | None
     tries: str
 
 
@@ -223,7 +225,8 @@ def one_case(tables_, row, given):
         patched(made, path, change)
     check_keys(made)
     refused(made)
-    return made, answers_in(row.get("answer", {})), row.get("tries", "")
+    reply = bytes.fromhex(hexadecimal(row["reply"], "reply", range(2049))) if "reply" in row else None
+    return made, answers_in(row.get("answer", {})), reply, row.get("tries", "")
 
 
 def form_of(row):
@@ -284,7 +287,7 @@ def cases_of_scenario(made, stem):
         alone = {key: its for key, its in lane.items() if key not in ("durable", "dialect")} | {"purchase": [purchase]}
         card = named_[purchase["card"]]
         name = stem if len(rows) == 1 else f"{stem}-{number}"
-        yield Case(name, {"issuer": made["issuer"], "account": made["account"], "card": [card], "lane": [alone]}, {}, "")
+        yield Case(name, {"issuer": made["issuer"], "account": made["account"], "card": [card], "lane": [alone]}, {}, None, "")
 
 
 def cases_in(path):

@@ -27,7 +27,7 @@ RESULTS = {
     "fail": [1], "plaintext pin": [1, 2], "online pin": [0, 1], "plaintext pin and signature": [0, 1], "signature": [0], "no cvm": [2],
 }
 MARKS = {0: "?", 1: "-", 2: "+"}
-END = re.compile(r"end (.*?) tvr=(\w+) tsi=(\w+) cvm=(\w+) arc=(\S+) atc=\S+ ac=\S+ scripts=(\S+)")
+END = re.compile(r"end (.*?) tvr=(\w+) tsi=(\w+) cvm=(\w+) arc=(.*?) atc=\S+ ac=\S+ scripts=(\S+)")
 
 
 def kind_of(answer):
@@ -56,7 +56,7 @@ class Coverage:
         """Adds kinds and statuses of a dialogue."""
         halves = iter(("first", "second"))
         for said, told in zip(fed, fed[1:]):
-            if not said.startswith("> ") or not told.startswith("< ") or len(told) < 6:
+            if not said.startswith("> ") or told == "< gone" or len(told) < 6:
                 continue
             name = COMMANDS.get(said[2:6], "other")
             self.statuses[f"{name} {told[-4:]}"] += 1

@@ -83,7 +83,10 @@ class Replaced:
 
 
 def with_answers(case):
-    """The case's scenario, where the card of a case with other answers is one of canned answers: those of the model's run."""
+    """The case's scenario, where the card of a case with other answers is one of canned answers: those of the model's run. Raises
+    Fault where the case has another reply of the host, which no scenario can have."""
+    if case.reply is not None:
+        raise Fault(f"{case.name} has a reply in place of the issuer's, which no scenario can have")
     if not case.answers:
         return case.scenario
     world = World(scenario_of(document(case.scenario), "replay"))
@@ -135,11 +138,11 @@ class CannedCard(Canned):
 
 
 class Host:
-    """The issuer's host behind the link of a purchase."""
+    """The issuer's host behind the link of a case's purchase."""
 
-    def __init__(self, scenario):
-        kept = scenario_of(document(scenario), "replay")
-        self.terminal = kept["lane"][0]
+    def __init__(self, case):
+        kept = scenario_of(document(case.scenario), "replay")
+        self.terminal, self.own = kept["lane"][0], case.reply
         self.issuer, self.link = Issuer(kept["issuer"], kept["account"]), self.terminal["purchase"][0]["link"]
 
     def message(self, text, exchanges):
@@ -155,7 +158,7 @@ class Host:
     def reply(self, message):
         """The reply to a message, or None where none comes back."""
         replies = [self.issuer.reply(message) for _ in range({"request_lost": 0, "twice": 2}.get(self.link, 1))]
-        return replies[0] if replies and self.link != "reply_lost" else None
+        return (self.own or replies[0]) if replies and self.link != "reply_lost" else None
 
 
 def request_of(settings, exchanges):

@@ -101,7 +101,7 @@ class Trial:
 
     def __init__(self, case, talk):
         self.talk, self.purchase, self.lines, self.notes = talk, Purchase(card="c1"), [], []
-        self.card, self.host, self.scenario = card_of(case), Host(case.scenario), case.scenario
+        self.card, self.host, self.scenario = card_of(case), Host(case), case.scenario
 
     def put(self, side, head, sent, got):
         """Keeps an exchange, and tells the terminal what came back."""
