@@ -86,7 +86,7 @@ def a_blocked_application():
     status_as("select", "6283", "9000")
 
 
-@planted("^select-card-blocked-")
+@planted("^select-card-blocked-first$")
 def a_blocked_card():
     """6A81 is taken for a name that isn't there."""
     status_as("select", "6a81", "6a82")
@@ -157,7 +157,7 @@ def the_second_group():
     around(terminal, "read")(lambda old, profile, files: old(profile, files[:4]))
 
 
-@planted("^locator-file-31$|^locator-to-before-from$")
+@planted("^locator-file-31$")
 def a_wrong_locator():
     """The locator isn't checked."""
     around(selection, "check")(lambda old, locator: None)
@@ -205,7 +205,7 @@ def the_last_day():
     restricted(change)
 
 
-@planted("^restrictions-usage-(goods|cash)-abroad-without-foreign-")
+@planted("^restrictions-usage-(goods-abroad-without-foreign-goods|cash-abroad-without-foreign-cash)$")
 def usage_abroad():
     """Usage control is always looked at as at home."""
     @around(Terminal, "serves")
@@ -248,7 +248,7 @@ def going_on_behind_a_failure():
         self.held[0x8E] = rules
 
 
-@planted("^cvm-(unknown|method-06|failed-next-unknown|method-2).*|^analysis-bit-3.7-in-")
+@planted("^cvm-method-06-unsupported-always$|^analysis-bit-3.7-in-")
 def unknown_methods():
     """A method that isn't known sets no bit."""
     without_bits("verify", 3, 0x40)
@@ -490,7 +490,7 @@ def counters_once_more():
     asked_before("risk", "generate_first", "9F36", "9F13")
 
 
-@permitted("^risk-velocity-(9F36|9F13|neither).*")
+@permitted("^risk-velocity-(9F36|9F13)-answered-6|^risk-velocity-neither-counter$")
 def no_second_counter():
     """Behind a counter that isn't given the other one isn't asked for."""
     @around(Terminal, "counter")
