@@ -184,7 +184,7 @@ def filled(value, given):
     """A value with the words of `each` put in: a text that is one such word alone becomes its value. A word whose value is a
     table of paths stands for its name."""
     if isinstance(value, dict):
-        return {filled(key, given): filled(its, given) for key, its in value.items()}
+        return {str(filled(key, given)): filled(its, given) for key, its in value.items()}
     if isinstance(value, list):
         return [filled(its, given) for its in value]
     if not isinstance(value, str):
@@ -219,7 +219,7 @@ def one_case(tables_, row, given):
     for path, value in (pair for paths in tables_of_paths for pair in paths.items()):
         put(tables_, path, value)
     for path in row.get("unset", []):
-        take_away(tables_, path)
+        take_away(tables_, str(path))
     made = scenario(tables_, row.get("canned"))
     for path, change in row.get("patch", {}).items():
         patched(made, path, change)
@@ -269,7 +269,7 @@ def cases_of_table(file):
         if key not in (*TABLES, "case"):
             raise Fault(f"a table of cases has no '{key}'{near(key, (*TABLES, 'case'))}")
     found = []
-    for row in file["case"]:
+    for row in table_rows(file.get("case"), "case"):
         found += cases_of_row(file, row)
     names = [case.name for case in found]
     for name in names:
