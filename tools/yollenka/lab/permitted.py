@@ -120,7 +120,7 @@ ASIDE = [
 
 def aside(scene):
     """The rule by which the log's command is set aside, or None."""
-    return next((rule for rule in ASIDE if rule.applies(scene)), None)
+    return next((rule for rule in ASIDE if len(scene.now) >= 4 and rule.applies(scene)), None)
 
 
 # Commands of the reference that the log lacks: each with the answer that it gets then.
