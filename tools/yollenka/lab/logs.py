@@ -77,7 +77,7 @@ def read_log(text):
     lines = [(number, line.strip()) for number, line in enumerate(re.split(r"\r\n|\n|\r", text), 1)]
     if any(REPORT.match(line) for _, line in lines):
         return report(lines)
-    form = next((form for sign, form in FORMS if any(sign.search(line) for _, line in lines)), None)
+    form = next((form for sign, form in FORMS if any(map(re.compile(sign).search, (line for _, line in lines)))), None)
     if form is None:
         raise Fault("no form of a log is recognised in it")
     found = purchases(list(form(lines)), re.search(r"\bT\s?=\s?0\b", text) is not None)
@@ -276,11 +276,10 @@ BEGINS = re.compile(r"\bATR\b|\bSCardConnect\b|\b[Cc]onnect(?:ed|ing)?\b|\b[Pp]o
 def marked(ask, reply, inner=LABEL):
     """A reader of lines with a mark before a command and one before an answer; `inner` is what may stand between mark and bytes.
     Bytes may go on in the next line."""
-    marks = [(what, re.compile(f"(?:^|.*?[^0-9A-Za-z<>=-]){mark}(?![<>=])\\s*{inner}(.*)"))
-             for what, mark in ((ASK, ask), (REPLY, reply))]
-
     def read(lines):
-        held = None
+        """The events of the lines."""
+        held, marks = None, [(what, re.compile(f"(?:^|.*?[^0-9A-Za-z<>=-]){mark}(?![<>=])\\s*{inner}(.*)"))
+                             for what, mark in ((ASK, ask), (REPLY, reply))]
         for number, line in lines:
             what, found = next(((what, found) for what, mark in marks if (found := mark.match(line))), (None, None))
             if held and held.value is not None and re.fullmatch(r"(?:[0-9A-Fa-f]{2} ?)+", line):
@@ -315,21 +314,21 @@ def plain(lines):
 
 def arrow(mark):
     """The sign of a form whose commands stand behind this mark."""
-    return re.compile(rf"(?:^|[^0-9A-Za-z<>=-]){mark}\s*{LABEL}{BYTES}")
+    return rf"(?:^|[^0-9A-Za-z<>=-]){mark}\s*{LABEL}{BYTES}"
 
 
-# The first form whose sign a line has; the order counts.
+# The first form whose sign a line has; the order counts. Signs are compiled when they are looked for.
 FORMS = [
-    (re.compile(r"\bb(?:Send|Recv)Buffer\b"), spied),
-    (re.compile(r"^\S*\s*A(?:>>|<<)"), marked(r"A>>", r"A<<", r"(?:T=\S+ )?(?:\([0-9+ ]+\) ?)?(?:\([0-9.]+ ?[mu]?s\) ?)?")),
-    (re.compile(r"^(?:.*\s)?APDU:"), marked(r"APDU:", r"SW:")),
-    (re.compile(r"^Sending:"), sent_and_received),
-    (re.compile(r"\bC-?APDU\b", re.IGNORECASE), marked(r"(?i:C-?APDU) ?:?", r"(?i:R-?APDU) ?:?")),
+    (r"\bb(?:Send|Recv)Buffer\b", spied),
+    (r"^\S*\s*A(?:>>|<<)", marked(r"A>>", r"A<<", r"(?:T=\S+ )?(?:\([0-9+ ]+\) ?)?(?:\([0-9.]+ ?[mu]?s\) ?)?")),
+    (r"^(?:.*\s)?APDU:", marked(r"APDU:", r"SW:")),
+    (r"^Sending:", sent_and_received),
+    (r"(?i:\bC-?APDU\b)", marked(r"(?i:C-?APDU) ?:?", r"(?i:R-?APDU) ?:?")),
     (arrow("-->"), marked("-->", "<--")), (arrow("=>"), marked("=>", "<=")), (arrow("->"), marked("->", "<-")),
     (arrow(">>"), marked(">>", "<<")), (arrow("T[xX] ?:?"), marked("T[xX] ?:?", "R[xX] ?:?")),
-    (re.compile(rf"^> ?(?:{BYTES}|RESET)"), entries),
+    (rf"^> ?(?:{BYTES}|RESET)", entries),
     (arrow(">"), marked(">", "<")),
-    (re.compile(rf"^(?:{BYTES})$"), plain),
+    (rf"^(?:{BYTES})$", plain),
 ]
 
 
