@@ -202,9 +202,10 @@ EXCUSES = [
     Excuse("`aid` isn't known", "", OPEN, lacks("aid"), 0, (), ("00a404",)),
     Excuse("`kind` isn't known", "", OPEN, lacks("kind"), COUNTED, (0x9F35,), COUNTERS),
     Excuse("the amount, the currency or the type of the purchase isn't known", "", OPEN,
-           lacks("purchase.amount", "purchase.currency", "purchase.trade"), METHODS | COUNTED | SERVICE, (CVM_RESULTS,), (VERIFY,)),
-    Excuse("the date isn't known", "", OPEN, lacks("purchase.date"), DATES),
-    Excuse("the terminal's country isn't known", "", OPEN, lacks("country"), SERVICE),
+           lacks("purchase.amount", "purchase.currency", "purchase.trade"), METHODS | COUNTED | SERVICE,
+           (CVM_RESULTS, 0x9F02, 0x9F03, 0x5F2A, 0x9C), (VERIFY,)),
+    Excuse("the date isn't known", "", OPEN, lacks("purchase.date"), DATES, (0x9A,)),
+    Excuse("the terminal's country isn't known", "", OPEN, lacks("country"), SERVICE, (0x9F1A,)),
 ]
 
 
