@@ -248,12 +248,17 @@ class Walk:
         text = f"{name}, wanted {ask_name(self.log[at].side, ask)}" if is_kind else f"{name}, with other bytes"
         details = [detail for one in wrong for detail in (one.details or (one.text,)) if not one.is_kind]
         only_kind = all(one.is_kind for one in wrong)
-        kind = excused[0].kind if excused and only_kind else OPEN if self.settled.lacking and only_kind else WRONG
+        kind = excused[0].kind if excused and only_kind else OPEN if only_kind and self.may_ask_otherwise() else WRONG
         bits = next((one.bits for one in wrong if one.bits), 0)
         section = rule_of(ask, self.reference.fed[:-1], bits, is_kind)
         self.differ(kind, text, at, sent=sent, wanted=ask, details=tuple(details), section=section)
         if is_kind or bits:
             self.wanted_at.setdefault(len(self.lines) - 1, len(self.reference.fed) - 1)
+
+    def may_ask_otherwise(self):
+        """Whether what no one gave may explain that another kind of cryptogram is asked for, by the same results."""
+        lacking_ = self.settled.lacking
+        return any(key.startswith(("aid", "kind")) for key in lacking_) or bool(lacking_) and self.said.first_results() is None
 
     def wrong(self, at):
         """A difference that nothing permits. The walk goes on where that is sensible."""
