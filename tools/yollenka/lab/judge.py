@@ -89,8 +89,9 @@ def of_trace(purchase):
 
 def purchases_of(path):
     """The purchases of a log."""
+    text = text_of(path)
     try:
-        return read_log(text_of(path))
+        return read_log(text)
     except Fault as fault:
         raise Fault(f"{path}: {fault}") from None
 
