@@ -72,6 +72,11 @@ SECTIONS = [
 ]
 
 
+def usage():
+    """One line of the words that the program takes, as it prints it for others."""
+    return "usage: emvrun read|replay|generate N|check"
+
+
 def plain():
     """The text for a screen."""
     lines = []
