@@ -98,13 +98,24 @@ def escaped(text):
     return re.sub(r"^([.'])", r"\\&\1", text)
 
 
-def man():
-    """The man page."""
-    lines = ['.TH EMVRUN 1 "" "Yollenka" "User commands"']
-    for title, parts in SECTIONS:
+class Lines(str):
+    """A text whose lines stay as they are."""
+
+
+def as_it_stands(text):
+    """A text line by line, as troff takes it."""
+    return [".nf", *(escaped(line) for line in text.rstrip().split("\n")), ".fi"]
+
+
+def man(name="EMVRUN", sections=None):
+    """The man page of a command; of emvrun without words."""
+    lines = [f'.TH {name} 1 "" "Yollenka" "User commands"']
+    for title, parts in sections or SECTIONS:
         lines.append(f".SH {title}")
         for number, part in enumerate(parts):
-            if isinstance(part, str):
+            if isinstance(part, Lines):
+                lines += as_it_stands(part)
+            elif isinstance(part, str):
                 lines += ([".PP"] if number else []) + [escaped(part)]
             elif part[1]:
                 lines += [".TP", escaped(part[0]), escaped(part[1])]
