@@ -77,7 +77,7 @@ def completions():
     rows = "".join(f'        {name}) words="{" ".join(words_in(usage_of(name)))} --help";;\n' for name in COMMANDS)
     return {
         "emvrun": completion("emvrun", emvrun),
-        "explain": completion("explain", words_in(explaining.TEXT)),
+        "explain": completion("explain", [*words_in(explaining.TEXT), "--help"]),
         "lab": completion("lab", [*COMMANDS, "--help"], rows),
     }
 
