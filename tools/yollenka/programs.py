@@ -14,8 +14,7 @@ from yollenka.builds import say, silent
 
 ROOT = Path(seals.ROOT)
 TOOL = "rt"
-# What a clone needs, as measured on four processors (docs/inside/performance.md has the tables).
-BUILD_TIME = "from nothing one to two and a half hours of one processor, less where several are free; what is proved is kept"
+# How long that takes, as measured on four processors.
 TRIAL_TIME = "one to two minutes"
 
 libraries, crates_of, is_fresh = seals.libraries, seals.crates_of, seals.is_fresh
