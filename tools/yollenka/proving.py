@@ -23,9 +23,9 @@ PREFIX = "proving-"
 # What a crate's proof leaves in out/ beside its program.
 LEFT = ("rlib", "incremental")
 # Bytes that a proof takes: at least, and for each line of the crates below and of the crate itself.
-LEAST, BELOW, OWN = 800_000_000, 150_000, 250_000
+LEAST, BELOW, OWN = 1_400_000_000, 80_000, 350_000
 # Lines that are proved in a second of one processor, roughly.
-PACE = 12
+PACE = 9
 # Seconds after which it is looked again whether there is room.
 LOOK = 20
 
