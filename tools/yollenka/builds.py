@@ -34,6 +34,11 @@ def quick_place(name):
     return os.path.join(place(name), f"{name}-quick")
 
 
+def is_known(name):
+    """Whether there is such a program: in an installed tree it is there, in a repository its crate."""
+    return os.path.isfile(proved_place(name)) or os.path.isdir(os.path.dirname(place(name)))
+
+
 def is_slow(program):
     """Whether this is a plain trial build, which takes some 300 times as long as the proved program."""
     return str(program).endswith("-trial")

@@ -19,10 +19,11 @@ from yollenka.programs import ROOT
 from yollenka.version import version
 
 NAME = "yollenka"
-PROGRAMS = ("emvrun", "explain", "card_at_reader", "terminal_at_reader")
+# Those that the launchers and `lab` run; one of which there is no crate is left out.
+PROGRAMS = [name for name in ("emvrun", "explain", "card_at_reader", "terminal_at_reader", "card_check") if builds.is_known(name)]
 LAUNCHERS = ("emvrun", "explain", "lab")
-# Files that git has below these are packed, but for what only the repository's own checks use.
-PACKED = ("emvrun", "explain", "lab", "README.md", "CHANGELOG.md", "docs/use", "docs/proof", "examples", "tools/yollenka")
+# Files that git has below these are packed; the pages on the code are for who has a clone.
+PACKED = ("emvrun", "explain", "lab", "README.md", "CHANGELOG.md", "docs", ":!docs/inside", "examples", "suite", "tools/yollenka")
 HOME = "usr/lib/yollenka"
 CONTROL = """\
 Package: {name}
@@ -98,7 +99,7 @@ def of_debian():
         yield Entry(f"usr/share/man/man1/{name}.1.gz", packed(page.encode()))
     for name, text in completions().items():
         yield Entry(f"usr/share/bash-completion/completions/{name}", text.encode())
-    for folder in ("docs", "examples", "README.md", "CHANGELOG.md"):
+    for folder in ("docs", "examples", "suite", "README.md", "CHANGELOG.md"):
         yield Entry(f"usr/share/doc/{NAME}/{folder}", target=f"../../../lib/yollenka/{folder}")
 
 
