@@ -220,7 +220,7 @@ def prove(builder):
     plan = Plan(builder.name)
     builder.tell(f"{len(plan.crates)} crates are proved, then the program is built, on {len(os.sched_getaffinity(0))} processors; "
                  "what is proved is kept")
-    signal.signal(signal.SIGTERM, signal.getsignal(signal.SIGINT))
+    signal.signal(signal.SIGTERM, signal.default_int_handler)
     with held(CRATES.parent / "crates.txt", lambda: builder.tell("another --build works here: it is waited for")):
         prover = Prover(builder, plan)
         try:
