@@ -112,6 +112,17 @@ def quicken(name):
     os.posix_spawn(sys.executable, words, os.environ, file_actions=files, setsid=True)
 
 
+def launched(name, main, words):
+    """Runs a launcher; gives its status, also where it is stopped or a file of it can't be had."""
+    try:
+        return main(words)
+    except KeyboardInterrupt:
+        return 130
+    except OSError as error:
+        print(f"{name}: {error.filename or name}: {error.strerror}", file=sys.stderr)
+        return 2
+
+
 def end_as(program, words):
     """Becomes the program; what waits for the end of this run begins now."""
     quicken_waiting()
