@@ -1,4 +1,4 @@
-"""A card in words, made into the `[[card]]` table of a scenario, and back. docs/cases.md has the words."""
+"""A card in words, made into the `[[card]]` table of a scenario, and back. docs/use/cases.md has the words."""
 import re
 from calendar import monthrange
 

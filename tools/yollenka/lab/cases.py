@@ -1,4 +1,4 @@
-"""Cases in words: a table of cases, or a folder of tables and scenarios, made into scenarios. docs/cases.md has the words."""
+"""Cases in words: a table of cases, or a folder of tables and scenarios, made into scenarios. docs/use/cases.md has the words."""
 import re
 from copy import deepcopy
 from itertools import product

@@ -9,7 +9,7 @@ from yollenka.model.objects import Fault as CodingFault
 from yollenka.model.objects import account_number, entries, tag_text, total
 from yollenka.model.selection import Terminated, check, gather, read
 from yollenka.programs import ROOT
-from yollenka.readers import program
+from yollenka.lines import program
 from yollenka.scenarios import NoDocument, document, read_document
 from yollenka.words import CAUSE, TAGS, TVR
 

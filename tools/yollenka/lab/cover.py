@@ -2,7 +2,7 @@
 import re
 from collections import Counter
 
-from yollenka.lab.live import COMMANDS
+from yollenka.lab.emv import NAMES
 from yollenka.lab.spelling import CONDITIONS, METHODS
 from yollenka.words import ARC, RESULT, TVR
 
@@ -58,7 +58,7 @@ class Coverage:
         for said, told in zip(fed, fed[1:]):
             if not said.startswith("> ") or told == "< gone" or len(told) < 6:
                 continue
-            name = COMMANDS.get(said[2:6], "other")
+            name = NAMES.get(said[2:6], "other")
             self.statuses[f"{name} {told[-4:]}"] += 1
             if name == "GENERATE AC":
                 asked, kind = KINDS[int(said[6:8], 16) & 0xC0], kind_of(told[2:]) or told[-4:]

@@ -7,7 +7,7 @@ from yollenka.refusals import near
 from yollenka.scenarios import NoDocument, read_document
 
 TEXT = """Prints a scenario's card in words, its records taken apart: a `[card]` table from which a table of cases can begin
-(docs/cases.md), and from which `lab make` makes the same card again."""
+(docs/use/cases.md), and from which `lab make` makes the same card again."""
 
 
 def arguments(parser):

@@ -18,15 +18,15 @@ from yollenka.lab.live import Host, card_of
 from yollenka.lab.logs import CARD, HOST, Exchange, Purchase
 from yollenka.lab.told import Result, junit, status_of, tap_lines
 from yollenka.lab.walk import FAILED, NOTE, PASSED, WRONG, Line, judge
-from yollenka.readers import program, terminal_document
+from yollenka.lines import program, terminal_document
 
 TEXT = """Tries cases at a terminal of your own, each judged as `lab judge` judges a log with the whole lane.
 
 COMMAND is started once for each case. On its standard input it gets a line `document N`, then N bytes: the terminal and its
-purchase as a TOML document (docs/reader.md, section 2). It writes a command as `> H`, or as bare hexadecimal, and reads
+purchase as a TOML document (docs/use/reader.md, section 2). It writes a command as `> H`, or as bare hexadecimal, and reads
 `< H` or `< gone`; `host > H` is answered `host < H` or `host < none`; at last it writes `end ..`, as much of it as it has
-(docs/report.md, section 3), or just ends. `{case}` in a word of COMMAND becomes the case's name. CASES is a table of cases
-(docs/cases.md), a scenario, or a folder of them."""
+(docs/use/report.md, section 3), or just ends. `{case}` in a word of COMMAND becomes the case's name. CASES is a table of cases
+(docs/use/cases.md), a scenario, or a folder of them."""
 LONGEST, MOST_EXCHANGES, SHOWN = 8192, 2000, 5
 COMMAND_LINE = re.compile(r"(?:> ?)?((?:[0-9a-fA-F]{2} ?)+)")
 
