@@ -1,5 +1,6 @@
 """What cases cover: counted from what the reference terminal was told and how it ended, never from the tried terminal's word."""
 import re
+import textwrap
 from collections import Counter
 
 from yollenka.lab.emv import NAMES
@@ -26,8 +27,14 @@ REFUSED = ["first:TC-reserved", "first:ARQC-TC", "first:AAC-TC", "first:AAC-ARQC
 RESULTS = {
     "fail": [1], "plaintext pin": [1, 2], "online pin": [0, 1], "plaintext pin and signature": [0, 1], "signature": [0], "no cvm": [2],
 }
+METHOD_ROW, WIDTH = "CVM by condition and result", 120
 MARKS = {0: "?", 1: "-", 2: "+"}
 END = re.compile(r"end (.*?) tvr=(\w+) tsi=(\w+) cvm=(\w+) arc=(.*?) atc=\S+ ac=\S+ scripts=(\S+)")
+
+
+def wrapped(parts):
+    """A list as lines that are not too long."""
+    return textwrap.wrap(", ".join(parts), WIDTH, initial_indent="  ", subsequent_indent="  ", break_on_hyphens=False)
 
 
 def kind_of(answer):
@@ -85,7 +92,7 @@ class Coverage:
             f"{place // 10}.{place % 10}": count for place, count in self.bits.items()}
         cells = {(METHODS[method], condition, result): f"{method} {name} {RESULT[result]}" for method, results in RESULTS.items()
                  for name, condition in CONDITIONS.items() for result in results}
-        yield "CVM by condition and result", list(cells.values()), {
+        yield METHOD_ROW, list(cells.values()), {
             cells[one]: count for one, count in self.methods.items() if one in cells}
         yield "causes by step", [f"{step} {cause}" for cause, steps in CAUSES.items() for step in steps], {
             f"{step} {cause}": count for (cause, step), count in self.causes.items()}
@@ -99,15 +106,14 @@ class Coverage:
         for name, can_be, counts in self.rows():
             met = [one for one in can_be if counts.get(one)]
             yield f"{name}: {len(met)} of {len(can_be)}"
-            if is_whole and "CVM" not in name:
-                yield f"  {', '.join(f'{one} {counts[one]}' for one in met)}"
-                yield f"  never: {', '.join(one for one in can_be if one not in met) or 'none'}"
-            elif is_whole:
+            if is_whole and name == METHOD_ROW:
                 yield from self.method_lines()
+            elif is_whole:
+                yield from wrapped(f"{one} {counts[one]}" for one in met)
+                yield from wrapped([f"never: {', '.join(one for one in can_be if one not in met) or 'none'}"])
         for name, counts in (("endings", self.endings), ("scripts", self.scripts), ("statuses", self.statuses)):
             yield f"{name}: {len(counts)}"
-            if is_whole:
-                yield f"  {', '.join(f'{one} {count}' for one, count in sorted(counts.items()))}"
+            yield from wrapped(f"{one} {count}" for one, count in sorted(counts.items())) if is_whole else []
 
     def method_lines(self):
         """The table of methods by conditions: which results each rule had."""
