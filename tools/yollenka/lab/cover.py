@@ -11,11 +11,11 @@ from yollenka.words import ARC, RESULT, TVR
 NEVER = (17, 14, 13, 12, 58)
 BITS = [place for place, name in TVR.items() if name != "reserved" and place not in NEVER]
 STEPS = "power select initiate read verify risk first authenticate script second".split()
+READING = ["initiate", "read", "first", "second"]
 CAUSES = {
     "cut": STEPS, "answer": [step for step in STEPS if step not in ("power", "script")], "no-candidate": ["select"],
-    "card-blocked": ["select"], "status": ["initiate", "read", "first", "second"], "coding": ["initiate", "read", "first", "second"],
-    "repeated": ["read"], "missing": ["initiate", "read", "first", "second"], "value": ["initiate", "read", "first", "second"],
-    "afl": ["initiate"], "dol": ["initiate", "read", "first", "second"], "too-much": ["read"], "kind": ["first", "second"],
+    "card-blocked": ["select"], "status": READING, "coding": READING, "repeated": ["read"], "missing": READING, "value": READING,
+    "afl": ["initiate"], "dol": READING, "too-much": ["read"], "kind": ["first", "second"],
 }
 KINDS = {0x00: "AAC", 0x40: "TC", 0x80: "ARQC", 0xC0: "reserved"}
 # Which kinds may be asked for and answered, in both halves.
@@ -29,7 +29,7 @@ RESULTS = {
 }
 METHOD_ROW, WIDTH = "CVM by condition and result", 120
 MARKS = {0: "?", 1: "-", 2: "+"}
-END = re.compile(r"end (.*?) tvr=(\w+) tsi=(\w+) cvm=(\w+) arc=(.*?) atc=\S+ ac=\S+ scripts=(\S+)")
+END = re.compile(r"end (.*?) tvr=(\w+) tsi=\w+ cvm=(\w+) arc=(.*?) atc=\S+ ac=\S+ scripts=(\S+)")
 
 
 def wrapped(parts):
@@ -41,6 +41,13 @@ def kind_of(answer):
     """The kind of cryptogram in an answer to GENERATE AC, or None."""
     found = re.match(r"80[0-9a-f]{2}([0-9a-f]{2})|77[0-9a-f]*?9f2701([0-9a-f]{2})", answer)
     return KINDS[int(found[1] or found[2], 16) & 0xC0] if found else None
+
+
+def script_result(text):
+    """The result of a script, five bytes, in words."""
+    if text[0] == "2":
+        return "carried out"
+    return "of no form" if text[:2] == "00" else f"command {int(text[1], 16)} failed"
 
 
 class Coverage:
@@ -71,7 +78,7 @@ class Coverage:
                 asked, kind = KINDS[int(said[6:8], 16) & 0xC0], kind_of(told[2:]) or told[-4:]
                 self.kinds[f"{next(halves)}:{asked}-{kind}"] += 1
 
-    def add_end(self, ending, results, _, methods, code, scripts):
+    def add_end(self, ending, results, methods, code, scripts):
         """Adds what an end line tells."""
         number = int(results, 16)
         self.bits.update(place for place in BITS if number >> 8 * (5 - place // 10) + place % 10 - 1 & 1)
@@ -83,8 +90,7 @@ class Coverage:
         self.endings[" ".join(words[:2])] += 1
         self.codes[code] += 1
         made = [] if scripts == "-" else re.findall("..........", scripts)
-        self.scripts.update("carried out" if one[0] == "2" else "of no form" if one[:2] == "00" else f"command {int(one[1], 16)} failed"
-                            for one in made)
+        self.scripts.update(map(script_result, made))
 
     def rows(self):
         """Each kind of thing with the names that can be and the counts of those that were."""
@@ -117,7 +123,8 @@ class Coverage:
 
     def method_lines(self):
         """The table of methods by conditions: which results each rule had."""
-        yield f"  {'+ successful, - failed, ? unknown, . never; condition':54} {'  '.join(f'{one:02}' for one in CONDITIONS.values())}"
+        conditions = "  ".join(f"{one:02}" for one in CONDITIONS.values())
+        yield f"  {'+ successful, - failed, ? unknown, . never; condition':54} {conditions}"
         for method in RESULTS:
             cells = ("".join(MARKS[one] for one in RESULTS[method] if self.methods[METHODS[method], condition, one]) or "."
                      for condition in CONDITIONS.values())

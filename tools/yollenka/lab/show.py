@@ -93,8 +93,8 @@ class Heard:
         currency = {"currency": self.held[0x9F42].hex()[1:]} if 0x9F42 in self.held else {}
         sequence = {"sequence": int(self.held[0x5F34].hex())} if 0x5F34 in self.held else {}
         records = [{"sfi": file, "number": number, "bytes": body.hex()} for (file, number), body in self.records.items()]
-        return usual | self.own | currency | sequence | {
-            "pan": account_number(self.held[0x5A]), "cdol1": self.held[0x8C].hex(), "cdol2": self.held[0x8D].hex(), "record": records}
+        lists = {"cdol1": self.held[0x8C].hex(), "cdol2": self.held[0x8D].hex()}
+        return usual | self.own | currency | sequence | lists | {"pan": account_number(self.held[0x5A]), "record": records}
 
 
 def heard_in(purchase):
