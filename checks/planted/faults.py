@@ -131,7 +131,7 @@ def numbers_filled_on_the_right():
     fitted_otherwise([objects.NUMERIC], lambda value, length: value[-length:].ljust(length, b"\0") if length else b"")
 
 
-@planted("^pdol-9F02-in-one|^list-9F02-4-bytes$")
+@planted("^pdol-9F1A-in-one|^list-9F02-4-bytes$")
 def numbers_cut_on_the_right():
     """A number in a shorter entry loses its last digits."""
     fitted_otherwise([objects.NUMERIC], lambda value, length: value[:length].rjust(length, b"\0"))
