@@ -101,8 +101,8 @@ Outcome = namedtuple("Outcome", "cut ends counters hidden settled balances later
 class Sweep:
     """The runs of one scenario with one purchase torn."""
 
-    def __init__(self, program, scenario, lane, number):
-        self.program, self.lane, self.runs = program, lane, 0
+    def __init__(self, program, scenario, lane, number, places=PLACES):
+        self.program, self.lane, self.places, self.runs = program, lane, places, 0
         self.card = scenario["lane"][lane]["purchase"][number - 1]["card"]
         self.is_durable = scenario["lane"][lane].get("durable", False)
         idle = idle_of(scenario, lane, number)
@@ -121,7 +121,6 @@ class Sweep:
         way, whose, tear = job
         text = document(way.torn({KEYS[whose]: tear} if tear else {}))
         report = self.report(text)
-        self.runs += 1
         lines, later = purchase_lines("\n".join(way.lines(report)), self.lane, way.number - way.idles)
         sent = [line.split()[2][:2] for line in later if line.startswith(f"S{self.lane} > ")]
         return Outcome(
@@ -141,6 +140,7 @@ class Sweep:
     def outcomes(self, whose, tears, run=map):
         """What may come of each of these tears, each outcome once."""
         jobs = [(number, (way, whose, tear)) for number, tear in enumerate(tears) for way in self.ways_of(tear)]
+        self.runs += len(jobs)
         found = [set() for _ in tears]
         for (number, _), outcome in zip(jobs, run(self.outcome, [job for _, job in jobs])):
             found[number].add(outcome)
@@ -157,18 +157,18 @@ class Sweep:
                 yield whose, commit, last
 
     def parts(self, whose, commit, last, pool):
-        """The places of a commit, those with equal outcomes together: their numbers, and the outcomes in their order."""
+        """The places of a commit, those with equal outcomes together, and the outcomes in their order."""
         show(f"\r{whose}, commit {commit}, {self.runs} runs")
-        results = [*self.outcomes(whose, [{"commit": commit, **place} for place in PLACES[:-1]], pool.map), *last]
+        results = [*self.outcomes(whose, [{"commit": commit, **place} for place in self.places[:-1]], pool.map), *last]
         if commit == 0:
             # Before and within a power-up's first write the pages are as an earlier tear left them: both go the same ways.
             results[0] = results[1] = results[0] | results[1]
-        sure = [outcome for result in results if len(result) == 1 for outcome in result]
         same = {}
-        for number, result in enumerate(results):
-            same.setdefault(frozenset(result), []).append(number)
-        for result, numbers in same.items():
-            yield numbers, sorted(result, key=lambda one: (sure.index(one) if one in sure else len(sure), natural(one)))
+        for place, result in zip(self.places, results):
+            same.setdefault(frozenset(result), []).append(place)
+        sure = [outcome for result in same if len(result) == 1 for outcome in result]
+        for result, places in same.items():
+            yield places, in_order(result, sure)
 
     def rows(self, pool):
         """The rows of the table. What the first commit took tells what the others will take."""
@@ -177,10 +177,15 @@ class Sweep:
         plain = self.outcomes("card", [None])[0]
         begin = time.monotonic()
         for done, (whose, commit, last) in enumerate(commits):
-            rows += [row_of(whose, commit, numbers, outcomes, told) for numbers, outcomes in self.parts(whose, commit, last, pool)]
+            rows += [row_of(whose, commit, *part, told) for part in self.parts(whose, commit, last, pool)]
             if done == 0:
                 tell_time((time.monotonic() - begin) * (len(commits) - 1))
-        return [*rows, row_of("-", "-", None, sorted(plain, key=natural), told)]
+        return [*rows, row_of("-", "-", None, in_order(plain, []), told)]
+
+
+def in_order(outcomes, sure):
+    """Outcomes in the order in which surer places have them, the state before a decision first; others by their texts."""
+    return sorted(outcomes, key=lambda one: (sure.index(one) if one in sure else len(sure), natural(one)))
 
 
 def natural(outcome):
@@ -208,12 +213,12 @@ class Later:
         return outcome.hidden if number == 1 else f"{outcome.hidden}, later {number}"
 
 
-def row_of(whose, commit, numbers, outcomes, told):
+def row_of(whose, commit, places, outcomes, told):
     """A row: what differs between its outcomes stands side by side."""
     marked = [outcome._replace(cut=outcome.cut or "-", hidden=told.mark(outcome), later="") for outcome in outcomes]
     command, ends, counters, hidden_, settled, balances, _ = (" | ".join(dict.fromkeys(texts)) for texts in zip(*marked))
     memory = "either" if len(outcomes) > 1 else "-"
-    place = "not at all" if numbers is None else places_text(numbers)
+    place = places_text(places) if places else "not at all"
     whose = whose if any(outcome.cut for outcome in outcomes) else "-"
     return whose, str(commit), command, place, ends, counters, memory, hidden_, settled, balances
 
@@ -229,13 +234,13 @@ def ranges(writes):
     return ",".join(f"{a}-" if b == WRITES and a < b else f"{a}" if a == b else f"{a}-{b}" for a, b in parts)
 
 
-def places_text(numbers):
-    """The places of these numbers, in words."""
+def places_text(places):
+    """These places in words."""
     parts = []
     for at in ("before", "within"):
-        writes = [PLACES[number]["write"] for number in numbers if PLACES[number]["at"] == at]
+        writes = [place["write"] for place in places if place["at"] == at]
         parts += [f"{at} {ranges(writes)}"] if writes else []
-    return "; ".join(parts + (["release"] if len(PLACES) - 1 in numbers else []))
+    return "; ".join(parts + (["release"] if RELEASE in places else []))
 
 
 def print_table(rows):
