@@ -101,8 +101,8 @@ Outcome = namedtuple("Outcome", "cut ends counters hidden settled balances later
 class Sweep:
     """The runs of one scenario with one purchase torn."""
 
-    def __init__(self, program, scenario, lane, number, places=PLACES):
-        self.program, self.lane, self.places, self.runs = program, lane, places, 0
+    def __init__(self, program, scenario, lane, number, tell):
+        self.program, self.lane, self.tell, self.places, self.runs = program, lane, tell, PLACES, 0
         self.card = scenario["lane"][lane]["purchase"][number - 1]["card"]
         self.is_durable = scenario["lane"][lane].get("durable", False)
         idle = idle_of(scenario, lane, number)
@@ -170,6 +170,12 @@ class Sweep:
         for result, places in same.items():
             yield places, in_order(result, sure)
 
+    def tell_time(self, seconds):
+        """Says how long the runs that are left take, where that is long."""
+        if seconds > LONG:
+            show("\r\033[K")
+            self.tell(f"this takes about {seconds:.0f} s more")
+
     def rows(self, pool):
         """The rows of the table. What the first commit took tells what the others will take."""
         told, rows = Later(), []
@@ -179,7 +185,7 @@ class Sweep:
         for done, (whose, commit, last) in enumerate(commits):
             rows += [row_of(whose, commit, *part, told) for part in self.parts(whose, commit, last, pool)]
             if done == 0:
-                tell_time((time.monotonic() - begin) * (len(commits) - 1))
+                self.tell_time((time.monotonic() - begin) * (len(commits) - 1))
         return [*rows, row_of("-", "-", None, in_order(plain, []), told)]
 
 
@@ -191,13 +197,6 @@ def in_order(outcomes, sure):
 def natural(outcome):
     """An outcome as a key by which numbers in its texts stand in their order."""
     return [[(int(part), "") if part.isdecimal() else (-1, part) for part in re.split(r"(\d+)", text or "")] for text in outcome]
-
-
-def tell_time(seconds):
-    """Says how long the runs that are left take, where that is long."""
-    if seconds > LONG:
-        show("\r\033[K")
-        say(f"this takes about {seconds:.0f} s more")
 
 
 class Later:
@@ -272,7 +271,7 @@ def sweep_of(options):
     if options.lane >= len(lanes) or options.purchase > len(lanes[options.lane]["purchase"]):
         raise Fault(f"{options.scenario} has no purchase {options.purchase} of lane {options.lane}: "
                     "lanes count from 0, purchases from 1")
-    return Sweep(program, scenario, options.lane, options.purchase)
+    return Sweep(program, scenario, options.lane, options.purchase, say)
 
 
 def run(options):
