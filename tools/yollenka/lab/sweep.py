@@ -103,6 +103,7 @@ class Sweep:
 
     def __init__(self, program, scenario, lane, number, tell):
         self.program, self.lane, self.tell, self.places, self.runs = program, lane, tell, PLACES, 0
+        self.hidden = hidden
         self.card = scenario["lane"][lane]["purchase"][number - 1]["card"]
         self.is_durable = scenario["lane"][lane].get("durable", False)
         idle = idle_of(scenario, lane, number)
@@ -127,7 +128,7 @@ class Sweep:
             cut=command_of(lines) if whose == "card" else store_call_of(lines, tear["commit"]),
             ends=lines[-1].split(" ", 3)[3].split(" tvr=")[0],
             counters=next_counters(later, self.card),
-            hidden=hidden(text, report, self.lane, way.number),
+            hidden=self.hidden(text, report, self.lane, way.number),
             settled=f"{sent.count('e3')} presented, {sent.count('e4')} reversed",
             balances=" ".join(line.split()[2] for line in later if line.startswith("balance ")),
             later="\n".join(later),
@@ -160,7 +161,7 @@ class Sweep:
         """The places of a commit, those with equal outcomes together, and the outcomes in their order."""
         show(f"\r{whose}, commit {commit}, {self.runs} runs")
         results = [*self.outcomes(whose, [{"commit": commit, **place} for place in self.places[:-1]], pool.map), *last]
-        if commit == 0:
+        if commit == 0 and self.is_torn_elsewhere:
             # Before and within a power-up's first write the pages are as an earlier tear left them: both go the same ways.
             results[0] = results[1] = results[0] | results[1]
         same = {}
