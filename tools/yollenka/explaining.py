@@ -12,7 +12,8 @@ words name them. Without one the report comes on standard input: ./explain < NAM
 --lane N       the lines of other lanes, from 0
 --purchase N   of each lane the lines of other purchases, from 1
 
--q, first of all words, silences this launcher; --build proves and builds the program.
+-q, first of all words, silences this launcher; --build proves and builds the program. Wrong words, a file that can't be read,
+and a lane or a purchase that isn't there end with status 2 and a line on standard error.
 """
 FLAGS = ("--brief", "--ends")
 # The least and the greatest number behind a word, and what it counts.
