@@ -11,7 +11,7 @@ from itertools import count
 from yollenka.commandline import a_file, counted, positive
 from yollenka.faults import Fault
 from yollenka.lab.hidden import hidden
-from yollenka.lab.ways import KEYS, Way, idle_of, is_torn_elsewhere
+from yollenka.lab.ways import KEYS, is_torn_elsewhere, ways_of
 from yollenka.launching import LONG
 from yollenka.programs import Builder, say
 from yollenka.scenarios import document, output, purchase_lines, read_document
@@ -37,7 +37,7 @@ hidden       what this purchase left in the card beside its counters: PIN new, l
 settlement   the lane's presentments and reversals
 balances     of all accounts, in their order
 
-Where all columns are those of a row above and only lines behind the purchase's end are others, hidden says "later 2", "later 3".
+Where all these columns are as above, and only later lines of the report are others, hidden says "later 2", "later 3".
 The status is 1 where the program refuses the scenario.
 """
 COLUMNS = (
@@ -46,6 +46,9 @@ COMMANDS = {
     "00a4": "SELECT", "80a8": "GET PROCESSING OPTIONS", "00b2": "READ RECORD", "0020": "VERIFY", "80ca": "GET DATA",
     "80ae": "GENERATE AC", "0082": "EXTERNAL AUTHENTICATE",
 }
+# Settlement messages by how they begin, as one object and in the style of ISO 8583.
+PRESENTMENT, REVERSAL = "presentment", "reversal"
+SENT = {"e3": PRESENTMENT, "e4": REVERSAL, "30323230": PRESENTMENT, "30343030": REVERSAL}
 WRITES = 40
 RELEASE = {"at": "release"}
 # In the order in which they come.
@@ -88,6 +91,17 @@ def next_counters(rest, card):
     return "-"
 
 
+def sent_as(message):
+    """Which settlement message these bytes in hexadecimal are."""
+    return next((name for begin, name in SENT.items() if message.startswith(begin)), None)
+
+
+def lane_of(line):
+    """The lane that a line is of, or None."""
+    found = re.match(r"[LS](\d+) ", line)
+    return int(found[1]) if found else None
+
+
 def show(text):
     """How far it is, where somebody looks."""
     if sys.stderr.isatty():
@@ -106,9 +120,13 @@ class Sweep:
         self.hidden = hidden
         self.card = scenario["lane"][lane]["purchase"][number - 1]["card"]
         self.is_durable = scenario["lane"][lane].get("durable", False)
-        idle = idle_of(scenario, lane, number)
-        self.ways = [Way(scenario, lane, number, one) for one in ([None, idle] if idle else [None])]
+        self.ways, self.number = ways_of(scenario, lane, number), number
+        self.lanes = {at for at, one in enumerate(scenario["lane"]) if at == lane or self.is_of(one)}
         self.is_torn_elsewhere = is_torn_elsewhere(scenario, lane, number)
+
+    def is_of(self, lane):
+        """Whether a lane uses the card too."""
+        return any(purchase["card"] == self.card for purchase in lane["purchase"])
 
     def report(self, text):
         """The program's report on a document."""
@@ -122,16 +140,16 @@ class Sweep:
         way, whose, tear = job
         text = document(way.torn({KEYS[whose]: tear} if tear else {}))
         report = self.report(text)
-        lines, later = purchase_lines("\n".join(way.lines(report)), self.lane, way.number - way.idles)
-        sent = [line.split()[2][:2] for line in later if line.startswith(f"S{self.lane} > ")]
+        lines, later = purchase_lines("\n".join(way.lines(report)), self.lane, self.number)
+        sent = [sent_as(line.split()[2]) for line in later if line.startswith(f"S{self.lane} > ")]
         return Outcome(
             cut=command_of(lines) if whose == "card" else store_call_of(lines, tear["commit"]),
             ends=lines[-1].split(" ", 3)[3].split(" tvr=")[0],
             counters=next_counters(later, self.card),
             hidden=self.hidden(text, report, self.lane, way.number),
-            settled=f"{sent.count('e3')} presented, {sent.count('e4')} reversed",
+            settled=f"{sent.count(PRESENTMENT)} presented, {sent.count(REVERSAL)} reversed",
             balances=" ".join(line.split()[2] for line in later if line.startswith("balance ")),
-            later="\n".join(later),
+            later="\n".join(line for line in later if lane_of(line) in (None, *self.lanes)),
         )
 
     def ways_of(self, tear):
