@@ -56,8 +56,7 @@ def object_texts(got, wanted):
         if its[1] != value:
             place = f", from byte {first_difference(its[1], value)}" if len(value) >= LONG else ""
             yield f"{object_name(tag)} is {shown(*its)}, should be {shown(tag, value)}{place}"
-    for tag, value in left:
-        yield f"{object_name(tag)} should not be there, and is {shown(tag, value)}"
+    yield from (f"{object_name(tag)} should not be there, and is {shown(tag, value)}" for tag, value in left)
 
 
 def byte_text(got, wanted):

@@ -98,6 +98,7 @@ def recorder(path):
     number = 0
 
     def record(line):
+        """Writes a line; gives its number."""
         nonlocal number
         number += 1
         if file:

@@ -19,6 +19,9 @@ DATE, NUMBER, RESULTS = "240615", "01020304", "8000000000"
 # What a session does to the card, from the least.
 NOTHING, COUNTS, BLOCKS = "changes nothing", "counts", "may block"
 RISKS = {"safe": (NOTHING,), "counting": (NOTHING, COUNTS), "blocking": (NOTHING, COUNTS, BLOCKS)}
+# Commands that are refused before an application is selected, and behind it.
+BEFORE_SELECTION = ("80CA9F3600", "00B2010C00", "8012000000", "FF12000000", "00A4040000", "00A4050007A000000003101000")
+WRONG = ("80A800000383010000", "00B2000C00", "00B2010D00", "80AE400001FF00", "0020008101FF", "0082000001FF", "841E000000")
 # Of a larger limit the last approvals aren't tried.
 MOST_APPROVALS = 10
 
@@ -117,14 +120,12 @@ def names(its):
 
 def refusals(its):
     """Commands that a card refuses: out of their order, of another form, of no class and no instruction that it knows."""
-    for text in ("80CA9F3600", "00B2010C00", "8012000000", "FF12000000", "00A4040000", "00A4050007A000000003101000"):
-        yield bytes.fromhex(text)
+    yield from (bytes.fromhex(text) for text in BEFORE_SELECTION)
     yield its.options()
     yield its.select()
     yield its.generate(TC, 1)
     yield its.verify("1234")
-    for text in ("80A800000383010000", "00B2000C00", "00B2010D00", "80AE400001FF00", "0020008101FF", "0082000001FF", "841E000000"):
-        yield bytes.fromhex(text)
+    yield from (bytes.fromhex(text) for text in WRONG)
 
 
 # What takes a transaction counter.
@@ -138,9 +139,7 @@ def begun(its):
 def records(its):
     """All records that the locator names, and one behind each file's last."""
     yield from begun(its)
-    for file, numbers in its.files():
-        for number in (*numbers, max(numbers, default=0) + 1):
-            yield read(file, number)
+    yield from (read(file, number) for file, numbers in its.files() for number in (*numbers, max(numbers, default=0) + 1))
     yield get("9F36")
 
 

@@ -55,7 +55,8 @@ def card_of(path, scenario, name, record):
     _, lines = begin("card_at_reader", [name] if name else [], card_document(scenario))
     first = lines.ask("off")
     if first != "off":
-        raise Fault(f"{path}: {first if first.startswith('refused') else f'it has no card with applications of the name {name!r}'}")
+        why = first if first.startswith("refused") else f"it has no card with applications of the name {name!r}"
+        raise Fault(f"{path}: {why}")
     return Card(lines, record)
 
 
@@ -128,16 +129,20 @@ def in_a_reader(card, port):
 
 # On a socket.
 
+def told_to(card, line):
+    """What a peer's line is answered, with a newline behind it."""
+    text = line.decode(errors="replace").strip()
+    told = card.ask(text.removeprefix(">").strip()) if len(line) <= LONGEST and LINE.fullmatch(text) else "?"
+    return told.encode() + b"\n"
+
+
 def talk(card, connection, seconds):
     """Answers a peer's lines until it goes; gives why it was dropped, or None."""
     connection.settimeout(seconds)
     kept = b""
     while True:
-        while b"\n" in kept:
-            line, kept = kept.split(b"\n", 1)
-            text = line.decode(errors="replace").strip()
-            told = card.ask(text.removeprefix(">").strip()) if len(line) <= LONGEST and LINE.fullmatch(text) else "?"
-            connection.sendall(told.encode() + b"\n")
+        *lines, kept = kept.split(b"\n")
+        connection.sendall(b"".join(told_to(card, line) for line in lines))
         if len(kept) > LONGEST:
             return f"a line of more than {LONGEST} bytes"
         try:
@@ -183,8 +188,8 @@ def host_reply(scenario, lane, purchase, answers):
 
 
 def at_a_card(terminal, reader, reply, tell):
-    """Holds the terminal's dialogue with the card in a reader; `reply` gives the line of the issuer's reply, by the card's answers
-    so far, and `tell` takes each line. Gives the terminal's last line."""
+    """Holds the terminal's dialogue with the card in a reader; `reply` gives the line of the issuer's reply, by the card's
+    answers so far, and `tell` takes each line. Gives the terminal's last line."""
     answers = []
     while (line := terminal.hear()).startswith(("> ", "host > ")):
         tell(line)

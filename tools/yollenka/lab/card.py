@@ -1,6 +1,6 @@
 """`lab card`: the answers of a card beside those of the proved card of its image."""
 import sys
-from dataclasses import dataclass, field
+from dataclasses import dataclass, field, replace
 from pathlib import Path
 
 from yollenka.faults import Fault
@@ -48,8 +48,7 @@ class Bench:
 
     def __init__(self, image, name):
         self.cards = [image.proved(name)]
-        for line in image.before(name):
-            self.cards[0].ask(line)
+        self.cards[0].hear(image.before(name))
         self.pulled = None
 
     def close(self):
@@ -122,18 +121,19 @@ class Bench:
         return held
 
 
+def sessions_in(path):
+    """The sessions of a log."""
+    text = text_of(path)
+    try:
+        return sessions_of(text)
+    except Fault as fault:
+        raise Fault(f"{path}: {fault}") from None
+
+
 def logs_of(paths):
     """The sessions of all logs, in their order; where there are several logs, each title has its log's name."""
-    found = []
-    for path in paths:
-        try:
-            sessions = sessions_of(text_of(path))
-        except Fault as fault:
-            raise Fault(str(fault) if str(fault).startswith(str(path)) else f"{path}: {fault}") from None
-        for one in sessions:
-            one.title = f"{Path(path).stem}, {one.title}" if len(paths) > 1 else one.title
-        found += sessions
-    return found
+    heads = {path: f"{Path(path).stem}, " if len(paths) > 1 else "" for path in paths}
+    return [replace(one, title=f"{heads[path]}{one.title}") for path in paths for one in sessions_in(path)]
 
 
 def compared(image, sessions, name):
@@ -191,11 +191,11 @@ def counters(text):
 def arguments(parser):
     """The command's words."""
     parser.add_argument("image", metavar="IMAGE.toml", help="the card's image: a scenario")
-    parser.add_argument("trace", nargs="*", metavar="TRACE", help="logs of what the card answered, in any form that `lab judge` reads; - is standard input")
-    parser.add_argument("--card", metavar="NAME", help="the card's name in IMAGE.toml; without it as the log says, or the first one")
+    parser.add_argument("trace", nargs="*", metavar="TRACE", help="what the card answered: logs as for `lab judge`; - is standard input")
+    parser.add_argument("--card", metavar="NAME", help="its name in IMAGE.toml; without it as the log says, or the first one")
     parser.add_argument("--counter", type=counters, metavar="N[,N..]",
                         help="the transaction counter of each of its applications when the first log begins")
-    parser.add_argument("--reader", metavar="NAME", help="holds sessions with the card in the first reader whose name has NAME in it")
+    parser.add_argument("--reader", metavar="NAME", help="holds sessions with the card in the first reader with NAME in its name")
     parser.add_argument("--up-to", choices=list(RISKS), default="counting", metavar="LEVEL",
                         help="with --reader: only `safe` sessions, `counting` ones too (as without it), or `blocking` ones too")
     parser.add_argument("--log", metavar="F", help="with --reader: writes each exchange to this file")

@@ -30,6 +30,9 @@ WHAT = {
     "pin": "pin", "count_limit": "the limits count_limit and sum_limit", "tries": "the limit of PIN tries",
     "currency_two": "a second currency and its limit", "ac_key": "the keys",
 }
+WANTED = {
+    "label": "50", "pan": "5A", "cdol1": "8C", "cdol2": "8D", "currency": "9F42", "counter": "9F36", "last_online": "9F13",
+}
 IN_AN_IMAGE = (0x50, 0x87, 0x9F38)
 LOG_ENTRY, SFI = 0x9F4D, 0x88
 GOOD = b"\x90\x00"
@@ -48,7 +51,7 @@ class Application:
     def table(self):
         """Its table in an image, as far as it was read."""
         made = {"aip": "0000", "afl": ""} | self.own
-        made["record"] = [{"sfi": file, "number": number, "bytes": body.hex().upper()} for (file, number), body in self.records.items()]
+        made["record"] = [{"sfi": place[0], "number": place[1], "bytes": body.hex().upper()} for place, body in self.records.items()]
         for key, tag in (("cdol1", 0x8C), ("cdol2", 0x8D)):
             if tag in self.held:
                 made[key] = self.held[tag].hex().upper()
@@ -60,8 +63,7 @@ class Application:
     def lacking(self):
         """The words that weren't read, and could be."""
         made = self.table()
-        wanted = {"label": "50", "pan": "5A", "cdol1": "8C", "cdol2": "8D", "currency": "9F42", "counter": "9F36", "last_online": "9F13"}
-        yield from (f"{key} ({tag})" for key, tag in wanted.items() if key not in made)
+        yield from (f"{key} ({tag})" for key, tag in WANTED.items() if key not in made)
         if "gpo_format" not in self.own:
             yield "the profile and the locator (GET PROCESSING OPTIONS)"
         if "ac_format" not in self.own:
@@ -73,6 +75,13 @@ class Reading:
 
     def __init__(self):
         self.apps, self.app, self.pse = {}, None, None
+
+    def hear(self, session):
+        """Hears a session."""
+        self.app = None
+        for one in session.exchanges:
+            if one.got is not None:
+                self.listen(one.sent, one.got)
 
     def listen(self, sent, got):
         """Hears an exchange."""
@@ -108,7 +117,7 @@ class Reading:
         own |= {"label": label.decode("ascii", "replace")} if label else {}
         own |= {"priority": indicator[0]} if indicator else {}
         own |= {"pdol": list_.hex().upper()} if list_ is not None else {}
-        log = next((one.value for one in primitives(b"".join(spelled(one.tag, one.value) for one in inner)) if one.tag == LOG_ENTRY), b"")
+        log = next((one.value for one in primitives(first(inner, 0xBF0C) or b"") if one.tag == LOG_ENTRY), b"")
         own |= {"log_sfi": log[0], "log": log[1]} if len(log) == 2 else {}
         self.app.other = [f"{one.tag:X}" for one in inner if one.tag not in (*IN_AN_IMAGE, 0xBF0C)]
 
@@ -118,7 +127,8 @@ class Reading:
         if outer is None:
             return
         inner = objects(outer.value)[0]
-        aip, afl = (outer.value[:2], outer.value[2:]) if outer.tag == 0x80 else (first(inner, 0x82) or b"", first(inner, 0x94) or b"")
+        in_two = first(inner, 0x82) or b"", first(inner, 0x94) or b""
+        aip, afl = in_two if outer.tag == 0x77 else (outer.value[:2], outer.value[2:])
         self.app.own |= {"aip": aip.hex().upper(), "afl": afl.hex().upper(), "gpo_format": 1 if outer.tag == 0x80 else 2}
         if "counter" in self.app.own:
             self.app.own["counter"] += 1
@@ -138,7 +148,8 @@ class Reading:
 
     def card(self):
         """The card's table in words; those that aren't known are left out."""
-        words = card_words({"name": "c1", **({"pse": self.pse} if self.pse else {}), "app": [app.table() for app in self.apps.values()]})
+        own = {"name": "c1"} | ({"pse": self.pse} if self.pse else {})
+        words = card_words(own | {"app": [app.table() for app in self.apps.values()]})
         for own, app in zip(words.get("app", [words]), self.apps.values()):
             unknown = [*SECRET, *(one.split(" ")[0] for one in app.lacking())]
             for key in unknown if "gpo_format" in app.own else [*unknown, "profile", "afl"]:
@@ -164,10 +175,7 @@ def read_in(sessions):
     """What these sessions show of the card."""
     found = Reading()
     for session in sessions:
-        found.app = None
-        for one in session.exchanges:
-            if one.got is not None:
-                found.listen(one.sent, one.got)
+        found.hear(session)
     return found
 
 
@@ -206,15 +214,13 @@ def whole(name):
         wanted = entries(first(information(answer)[0], 0x9F38) or b"")
     except NoList:
         wanted = []
-    for tag in ("9F36", "9F13", "9F17", "9F4F"):
-        yield get(tag)
+    yield from (get(tag) for tag in ("9F36", "9F13", "9F17", "9F4F"))
     reading = Reading()
     reading.app = Application({})
     reading.options((yield command("80A80000", spelled(0x83, bytes(total(wanted)))))[:-2])
     locator = bytes.fromhex(reading.app.own.get("afl", ""))
-    for at in range(0, len(locator) - 3, 4):
-        for number in range(locator[at + 1], locator[at + 2] + 1):
-            yield read(locator[at] >> 3, number)
+    groups = [locator[at : at + 3] for at in range(0, len(locator) - 3, 4)]
+    yield from (read(file >> 3, number) for file, begin, end in groups for number in range(begin, end + 1))
 
 
 def at_a_reader(options, open_=Pcsc):
@@ -254,9 +260,9 @@ def name_of(text):
 
 def arguments(parser):
     """The command's words."""
-    parser.add_argument("trace", nargs="*", metavar="TRACE", help="logs in which the card was read, in any form that `lab judge` reads")
+    parser.add_argument("trace", nargs="*", metavar="TRACE", help="logs as for `lab judge`, in which the card was read")
     parser.add_argument("--reader", metavar="NAME", help="reads the card in the first reader whose name has NAME in it")
-    parser.add_argument("--aid", action="append", default=[], type=name_of, metavar="AID", help="with --reader: a name to look for, too")
+    parser.add_argument("--aid", action="append", default=[], type=name_of, help="with --reader: a name to look for, too")
     parser.add_argument("--log", metavar="F", help="with --reader: writes each exchange to this file")
 
 

@@ -135,4 +135,5 @@ def bits(parent, caption, value, names):
         add(row, "th", number)
         for bit in range(8, 0, -1):
             is_set = byte >> bit - 1 & 1
-            add(row, "td", bit, title=f"{number}.{bit} {names.get(10 * number + bit, 'reserved')}", **({"class_": "set"} if is_set else {}))
+            title = f"{number}.{bit} {names.get(10 * number + bit, 'reserved')}"
+            add(row, "td", bit, title=title, class_="set" if is_set else "clear")

@@ -1,4 +1,6 @@
 """The image of a card that is compared: its document, and the state in which the card stood when its first log began."""
+from itertools import chain, takewhile
+
 from yollenka.faults import Fault
 from yollenka.lab.cards import table
 from yollenka.lab.cases import base
@@ -56,10 +58,10 @@ class Image:
 
     def document(self):
         """The document that the proved card gets."""
-        begun = {(card, number) for card, number in self.tries}
         cards = [
-            {**card, "app": [{**app, "counter": app.get("counter", 0) - ((name, number) in begun)} for number, app in enumerate(card["app"])]}
-            if "app" in card else card for name, card in self.cards.items()
+            card | {"app": [app | ({"counter": app.get("counter", 0) - 1} if (name, number) in self.tries else {})
+                            for number, app in enumerate(card["app"])]} if "app" in card else card
+            for name, card in self.cards.items()
         ]
         return document({key: self.table[key] for key in ("issuer",) if key in self.table} | {"card": cards})
 
@@ -80,17 +82,21 @@ class Image:
             own = [one for one in sessions if (name or self.known(one.card)) == card]
             heard = Heard(self.cards[card]["app"])
             heard.hear(own)
-            for app, key in sorted(heard.found):
-                if key != "counter" or counters is None:
-                    self.take(card, app, key, heard.found[app, key])
+            self.take_all(card, {place: value for place, value in heard.found.items() if place[1] != "counter" or counters is None})
             if counters is not None:
                 self.count(card, counters)
+
+    def take_all(self, card, found):
+        """Takes what was heard of a card."""
+        for app, key in sorted(found):
+            self.take(card, app, key, found[app, key])
 
     def count(self, card, counters):
         """Sets the counters of a card's applications, in their order."""
         apps = self.cards[card]["app"]
         if len(counters) != len(apps) or not all(0 <= one <= MOST for one in counters):
-            raise Fault(f"--counter: card {card} has {len(apps)} application{'s' * (len(apps) > 1)}: as many numbers from 0 to 65535")
+            count = f"{len(apps)} application{'s' * (len(apps) > 1)}"
+            raise Fault(f"--counter: card {card} has {count}: as many numbers from 0 to 65535")
         for app, one in zip(apps, counters):
             app["counter"] = one
 
@@ -120,6 +126,12 @@ class Image:
                 yield from ["power", *(line.hex() for line in lines), "off"]
 
 
+def exchanges_of(sessions):
+    """The exchanges of the sessions in front that have no power line, with a None before each session's."""
+    own = takewhile(lambda session: session.power is None, sessions)
+    return chain.from_iterable([None, *session.exchanges] for session in own)
+
+
 class Heard:
     """What GET DATA says in the sessions of a card up to the first pull, reckoned back to where they begin: `found` has it by the
     application's place and the key."""
@@ -130,11 +142,10 @@ class Heard:
 
     def hear(self, sessions):
         """Hears these sessions. A report's power lines tell more, and nothing is taken from it."""
-        for session in sessions:
-            self.app = None
-            for one in session.exchanges:
-                if session.power is not None or one.got is None:
-                    return
+        for one in takewhile(lambda one: one is None or one.got is not None, exchanges_of(sessions)):
+            if one is None:
+                self.app = None
+            else:
                 self.listen(one.sent, one.got)
 
     def listen(self, sent, got):

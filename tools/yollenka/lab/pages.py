@@ -18,7 +18,9 @@ END = re.compile(r"L\d+ end (\d+) (.*?)( tvr=.*)?$")
 RESULT = re.compile(r" (tvr|tsi)=((?:[0-9a-f]{2})+)")
 RESULTS = {"tvr": ("Terminal verification results", TVR), "tsi": ("Transaction status information", TSI)}
 # The colours of endings and of verdicts.
-COLOURS = {"approved": "good", "terminated": "bad", "lost": "bad", "cut": "open", PASSED: "good", FAILED: "bad", INCONCLUSIVE: "open"}
+COLOURS = {
+    "approved": "good", "terminated": "bad", "lost": "bad", "cut": "open", PASSED: "good", FAILED: "bad", INCONCLUSIVE: "open",
+}
 
 
 @dataclass
@@ -109,7 +111,7 @@ def entries_of(purchase):
 def of_purchase(title, purchase, verdict=None):
     """The section of a purchase in a log, with its verdict where there is one."""
     entries = list(entries_of(purchase))
-    lines = ["L0 power c1 canned", *(f"L0 {text.replace('end ', 'end 1 ', 1) if text.startswith('end ') else text}" for _, text in entries)]
+    lines = ["L0 power c1 canned", *(f"L0 {re.sub('^end ', 'end 1 ', text)}" for _, text in entries)]
     words = explained(lines, list(rows_of(verdict.lane)) if verdict and verdict.lane else ())[1:]
     section = Section(title, [Row(number, text, told) for (number, text), told in zip(entries, words)])
     section.ending = (purchase.end or (verdict.end if verdict else None) or "").split(" tvr=")[0]
@@ -181,6 +183,16 @@ def draw_row(body, row):
     draw_texts(said, row.words)
 
 
+def in_order(section):
+    """A section's rows, each behind the findings about its line; findings about no line of it come last."""
+    left = [line for line in section.findings if line.line is not None]
+    for row in section.rows:
+        its = [line for line in left if line.line == row.number]
+        left = [line for line in left if line not in its]
+        yield from (*its, row)
+    yield from left
+
+
 def draw_section(body, section, place):
     """A section with its title, its verdict, its exchanges and the bits of its results."""
     title = add(body, "h2", section.title + " ", id=place)
@@ -190,15 +202,14 @@ def draw_section(body, section, place):
     if of_all:
         box = add(body, "div", class_="finding note" if all(line.kind != WRONG for line in of_all) else "finding")
         draw_texts(box, (text for line in of_all for text in line_texts(line)))
-    left = [line for line in section.findings if line.line is not None]
     rows = talk(body)
-    for row in section.rows:
-        for line in [line for line in left if row.number == line.line]:
-            draw_finding(rows, line)
-            left.remove(line)
-        draw_row(rows, row)
-    for line in left:
-        draw_finding(rows, line)
+    for one in in_order(section):
+        draw_row(rows, one) if isinstance(one, Row) else draw_finding(rows, one)
+    draw_results(body, section)
+
+
+def draw_results(body, section):
+    """The bits of the results in a section's last line."""
     for name, value in RESULT.findall(section.rows[-1].text if section.rows else ""):
         caption, names = RESULTS[name]
         bits(body, caption, bytes.fromhex(value), names)
@@ -233,13 +244,8 @@ def reason_of(verdict):
     return next(line_texts(deciding[0])) if deciding and verdict.status != PASSED else ""
 
 
-def cases_page(title, cases, is_all=False):
-    """A page of many cases (Case), as text: all in a table, and the dialogues of those that didn't pass, or of all."""
-    page, body = sheet(title)
-    counts = [f"{sum(case.verdict.status == status for case in cases)} {status}" for status in (PASSED, FAILED, INCONCLUSIVE)]
-    add(body, "p", f"{len(cases)} cases: {', '.join(counts)}")
-    shown = [case for case in cases if is_all or case.verdict.status != PASSED]
-    places = {id(case): f"part{place}" for place, case in enumerate(shown)}
+def draw_cases(body, cases, places):
+    """The table of many cases, with a link to each that has a place."""
     rows = table(body, ["", "case", "verdict", "ending", "first finding"])
     for number, case in enumerate(cases, 1):
         row = add(rows, "tr")
@@ -249,6 +255,16 @@ def cases_page(title, cases, is_all=False):
         mark(add(row, "td"), case.verdict.status)
         add(row, "td", (case.verdict.end or "").split(" tvr=")[0])
         add(row, "td", reason_of(case.verdict))
+
+
+def cases_page(title, cases, is_all=False):
+    """A page of many cases (Case), as text: all in a table, and the dialogues of those that didn't pass, or of all."""
+    page, body = sheet(title)
+    counts = [f"{sum(case.verdict.status == status for case in cases)} {status}" for status in (PASSED, FAILED, INCONCLUSIVE)]
+    add(body, "p", f"{len(cases)} cases: {', '.join(counts)}")
+    shown = [case for case in cases if is_all or case.verdict.status != PASSED]
+    places = {id(case): f"part{place}" for place, case in enumerate(shown)}
+    draw_cases(body, cases, places)
     for case in shown:
         draw_section(body, of_purchase(case.name, case.purchase, case.verdict), places[id(case)])
     return printed(page)

@@ -61,10 +61,12 @@ def serve_terminal(options):
     reader, record = Pcsc(options.reader, options.wait), recorder(options.log)
 
     def tell(line):
+        """Takes a line of the dialogue."""
         record(line)
         print(line, flush=True)
 
     def reply(answers):
+        """The issuer's reply to the last message."""
         return host_reply(scenario, options.lane, options.purchase, answers) if options.host else "host < none"
 
     reader.power()
@@ -85,10 +87,11 @@ def card_arguments(parser):
     """The words of `lab serve card`."""
     parser.add_argument("scenario", metavar="SCENARIO.toml")
     parser.add_argument("card", metavar="CARD", nargs="?", help="the card's name; without it the first card")
-    parser.add_argument("--port", type=lambda text: int(text, 0), default=PORT, help="the virtual reader's port on this machine (35963)")
+    parser.add_argument("--port", type=lambda text: int(text, 0), default=PORT, help="the virtual reader's port here (35963)")
     parser.add_argument("--socket", type=address, metavar="[HOST:]PORT",
                         help="in place of the reader: listens here for the card's lines; without HOST on this machine alone")
-    parser.add_argument("--idle", type=float, default=IDLE, metavar="N", help="with --socket: a peer that says nothing for N seconds is dropped (60)")
+    parser.add_argument("--idle", type=float, default=IDLE, metavar="N",
+                        help="with --socket: a peer that says nothing for N seconds is dropped (60)")
     parser.add_argument("--pull", metavar="PLACE", help="pulls the card out here, as '3 within 2'")
     parser.add_argument("--log", metavar="F", help="writes each exchange to this file, a log for `lab card` and `lab page`")
     parser.add_argument("--lines", metavar="R,W", help="the card's program runs already: its lines are on these two open files")

@@ -31,6 +31,11 @@ class Proved:
             raise Fault(told or "card_at_reader has ended")
         return told
 
+    def hear(self, lines):
+        """Says these lines."""
+        for line in lines:
+            self.ask(line)
+
     def numbers(self):
         """The numbers of its power line; it is off behind it."""
         told = self.ask("power").removeprefix("power ")
@@ -54,9 +59,7 @@ class Proved:
         """A card to which the same was said, pulled out at this place behind its last power-up; and at which line from there."""
         last = len(self.said) - 1 - self.said[::-1].index("power")
         other = Proved(self.document, self.name)
-        for line in self.said[:last]:
-            other.ask(line)
-        other.ask(f"pull {plan}")
+        other.hear([*self.said[:last], f"pull {plan}"])
         for at, line in enumerate(self.said[last:]):
             if other.ask(line).endswith("torn"):
                 return other, at
@@ -123,7 +126,7 @@ def number_texts(got, wanted):
     if [len(one) for one in rows[0]] != [len(one) for one in rows[1]]:
         yield f"it is {got}, should be {wanted}"
         return
-    for app, (mine, other) in enumerate(zip(*rows), 1):
-        for name, value, should in zip(NAMES, mine, other):
-            if value != should:
-                yield f"{name}{f' of application {app}' if len(rows[0]) > 1 else ''} is {value}, should be {should}"
+    every = [(app, *one) for app, (mine, other) in enumerate(zip(*rows), 1) for one in zip(NAMES, mine, other)]
+    for app, name, value, should in every:
+        if value != should:
+            yield f"{name}{f' of application {app}' if len(rows[0]) > 1 else ''} is {value}, should be {should}"
