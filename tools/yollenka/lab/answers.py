@@ -8,7 +8,7 @@ NUMBERS = (0x9F36, 0x9F13, 0x9F17)
 # The objects of an answer of format 1, with their lengths; the last one takes the rest.
 FORMAT_1 = {b"\x80\xa8": ((0x82, 2), (0x94, None)), b"\x80\xae": ((0x9F27, 1), (0x9F36, 2), (0x9F26, 8), (0x9F10, None))}
 LONG = 12
-# The rows of a log, in the files from 11 on, have no tags (docs/formats.md).
+# The rows of a log, in the files from 11 on, have no tags (docs/proof/formats.md).
 READ, FIRST_OF_LOGS, LOG_FORMAT = b"\x00\xb2", 11, bytes.fromhex("9F02065F2A029A039F36029F2701")
 
 

@@ -82,7 +82,7 @@ class Subject:
         return command("00820000", response_two(key, heard[1], status) + status, b"")
 
     def script(self, text, heard):
-        """A script command in the words of docs/scenario.md."""
+        """A script command in the words of docs/use/scenario.md."""
         keys = (session_key(self.keys[name], heard[1]) for name in ("mac_key", "enc_key"))
         return command_of(text, *keys, SimpleNamespace(counter=heard[0], fields={0x9F26: heard[1]}))
 

@@ -155,7 +155,7 @@ def talk(card, connection, seconds):
 
 
 def on_a_socket(card, host, port, seconds):
-    """Answers one peer after another on this socket, as docs/reader.md has the card's lines. The card keeps its memory."""
+    """Answers one peer after another on this socket, as docs/use/reader.md has the card's lines. The card keeps its memory."""
     try:
         listening = socket.create_server((host, port))
     except OSError as error:

@@ -17,7 +17,7 @@ from yollenka.model.objects import Fault as NoList
 from yollenka.scenarios import document
 
 TEXT = """\
-Makes a card in words (docs/cases.md) of a real card: of logs in which it was read, or of the card in a reader. Above it stand
+Makes a card in words (docs/use/cases.md) of a real card: of logs in which it was read, or of the card in a reader. Above it stand
 what can't be read from outside, and what an image can't have; those words have defaults, and yours take their place.
 
 At a reader the directory is read, or else the applications of the names below --aid and of some well-known ones are looked
@@ -162,7 +162,7 @@ class Reading:
     def remarks(self, source):
         """What is said above the card."""
         yield f"{len(self.apps)} application{'s' * (len(self.apps) > 1)}, read from {source}."
-        yield f"What can't be read from outside has a default (docs/cases.md): {', '.join(WHAT.values())}."
+        yield f"What can't be read from outside has a default (docs/use/cases.md): {', '.join(WHAT.values())}."
         for name, app in self.apps.items():
             lacking = list(app.lacking())
             if lacking:
@@ -280,6 +280,6 @@ def run(options):
     words = found.card()
     wrong = refusal(words)
     remarks = [*found.remarks("the reader" if options.reader is not None else " ".join(options.trace))]
-    remarks += [f"An image like this is {wrong} (docs/scenario.md)."] if wrong else []
+    remarks += [f"An image like this is {wrong} (docs/use/scenario.md)."] if wrong else []
     print("".join(f"# {text}\n" for text in remarks) + "\n" + text_of({"card": words}), end="")
     return PASSED

@@ -49,15 +49,6 @@ class Section:
         return self
 
 
-@dataclass
-class Case:
-    """A case of many: its name, its purchase as a log has it (logs.Purchase), and its verdict (verdict.Verdict)."""
-
-    name: str
-    purchase: object
-    verdict: object
-
-
 # What stands in the sections.
 
 def explained(lines, words=()):
@@ -258,7 +249,7 @@ def draw_cases(body, cases, places):
 
 
 def cases_page(title, cases, is_all=False):
-    """A page of many cases (Case), as text: all in a table, and the dialogues of those that didn't pass, or of all."""
+    """A page of many cases (told.Result), as text: all in a table, and the dialogues of those that didn't pass, or of all."""
     page, body = sheet(title)
     counts = [f"{sum(case.verdict.status == status for case in cases)} {status}" for status in (PASSED, FAILED, INCONCLUSIVE)]
     add(body, "p", f"{len(cases)} cases: {', '.join(counts)}")

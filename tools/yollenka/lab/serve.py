@@ -12,7 +12,7 @@ from yollenka.scenarios import NoDocument, read_document
 
 TEXT = """\
 The proved card of a scenario in the virtual reader of this machine, or on a socket; or its proved terminal at a card in a
-reader. docs/reader.md has their lines, and what one has to know of readers."""
+reader. docs/use/reader.md has their lines, and what one has to know of readers."""
 IDLE = 60.0
 
 
