@@ -9,7 +9,7 @@ from yollenka.lab.emv import command_name
 from yollenka.lab.logs import HOST
 from yollenka.lab.oracle import rows_of
 from yollenka.lab.told import line_texts
-from yollenka.lab.verdict import BEHIND, FAILED, INCONCLUSIVE, NOTE, PASSED, WRONG
+from yollenka.lab.verdict import BEHIND, FAILED, INCONCLUSIVE, LACKING, OPEN, OWN, PASSED, WRONG
 from yollenka.lines import program
 from yollenka.words import TSI, TVR
 
@@ -21,6 +21,10 @@ RESULTS = {"tvr": ("Terminal verification results", TVR), "tsi": ("Transaction s
 COLOURS = {
     "approved": "good", "terminated": "bad", "lost": "bad", "cut": "open", PASSED: "good", FAILED: "bad", INCONCLUSIVE: "open",
 }
+
+
+# Which finding of a verdict stands in a table, of several the first of the lowest rank.
+RANKS = {WRONG: 0, OWN: 1, OPEN: 2, LACKING: 3}
 
 
 @dataclass
@@ -89,12 +93,12 @@ def of_report(text, words=()):
 
 
 def entries_of(purchase):
-    """The entries of a purchase in a log, each with the number of its line."""
+    """The entries of a purchase in a log, a command or message with the number of its line."""
     for one in purchase.exchanges:
         head, nothing = ("host ", "none") if one.side == HOST else ("", "gone")
         yield one.line, f"{head}> {one.sent.hex() or '-'}"
         if one.is_told:
-            yield one.line, f"{head}< {nothing if one.got is None else one.got.hex() or '-'}"
+            yield None, f"{head}< {nothing if one.got is None else one.got.hex() or '-'}"
     if purchase.end:
         yield None, f"end {purchase.end}"
 
@@ -231,7 +235,7 @@ def page_of(title, sections):
 
 def reason_of(verdict):
     """The first finding that decided a verdict, as one line."""
-    deciding = [line for line in verdict.lines if line.kind == WRONG] or [line for line in verdict.lines if line.kind != NOTE]
+    deciding = sorted(verdict.lines, key=lambda line: RANKS.get(line.kind, len(RANKS)))
     return next(line_texts(deciding[0])) if deciding and verdict.status != PASSED else ""
 
 
