@@ -21,7 +21,7 @@ def values_of(command, body):
             found.append((tag, left[:size]))
             left = left[size:] if size else b""
         return found
-    if command[:2] == READ and command[3] >> 3 >= FIRST_OF_LOGS and (row := fields(LOG_FORMAT, body)):
+    if command[:2] == READ and len(command) > 3 and command[3] >> 3 >= FIRST_OF_LOGS and (row := fields(LOG_FORMAT, body)):
         return [(one.tag, one.value) for one in row]
     return None if objects(body)[1] is not None else [(one.tag, one.value) for one in primitives(body)]
 

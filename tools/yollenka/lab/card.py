@@ -87,8 +87,8 @@ class Bench:
         held.tell(command_name(one.sent), place, one.line, texts)
         self.keep([nearest])
 
-    def pull(self, command, line, held):
-        """The card was pulled out before it had answered this command; None is the power-up."""
+    def pull(self, command, line, held, what="pulled"):
+        """The card was pulled out before it had answered this command; None is the power-up. `what` says it in a word."""
         for card in self.cards:
             if command is not None:
                 card.answer(command)
@@ -96,7 +96,7 @@ class Bench:
         name = command_name(command) if command is not None else "the power-up"
         count = len(self.cards)
         states = [f"{card.words or 'as before'}: {in_words(card.numbers())}" for card in self.cards]
-        held.tell(f"pulled at line {line}, {name}: {count} state{'s' * (count > 1)} may follow", None, None, states, False)
+        held.tell(f"{what} at line {line}, {name}: {count} state{'s' * (count > 1)} may follow", None, None, states, False)
         self.pulled = count
 
     def found(self, held):
@@ -114,7 +114,7 @@ class Bench:
             return held
         for place, one in enumerate(session.exchanges, 1):
             if one.got is None:
-                self.pull(one.sent, one.line, held)
+                self.pull(one.sent, one.line, held, "pulled" if one.is_told else "no answer in the log")
                 break
             self.answer(place, one, held)
             self.found(held)

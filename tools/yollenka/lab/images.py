@@ -79,6 +79,7 @@ class Image:
         for card in dict.fromkeys(name or self.known(one.card) for one in sessions):
             if not self.has_applications(card):
                 continue
+            self.proved(card).close()
             own = [one for one in sessions if (name or self.known(one.card)) == card]
             heard = Heard(self.cards[card]["app"])
             heard.hear(own)
@@ -106,7 +107,7 @@ class Image:
         if value == app.get(key, DEFAULTS[key]):
             return
         if key == "tries":
-            if app.get("pin") is None or value > app.get("tries", DEFAULTS[key]):
+            if app.get("pin") is None or value > app.get("tries", DEFAULTS[key]) or not app.get("counter"):
                 return
             self.tries[card, number] = value
         else:
