@@ -5,6 +5,8 @@ import tempfile
 import time
 from pathlib import Path
 
+from yollenka.lines import begin, card_document, program, terminal_document  # handed on
+
 # The virtual reader of Debian's vsmartcard-vpcd, and the port that its own file names.
 DRIVER = "/usr/lib/pcsc/drivers/serial/libifdvpcd.so"
 PORT = 0x8C7B

@@ -12,6 +12,7 @@ from yollenka.lab.cases import ISSUER
 from yollenka.lab.emv import DIRECTORY, data_of, information, primitives
 from yollenka.lab.make import text_of
 from yollenka.lab.worlds import Proved
+from yollenka.model.ciphers import pin_in
 from yollenka.model.objects import account_number, command, entries, first, objects, only, spelled, total
 from yollenka.model.objects import Fault as NoList
 from yollenka.scenarios import document
@@ -27,7 +28,7 @@ KNOWN = ("A000000003", "A000000004", "A000000025", "A000000065", "A000000152", "
 MOST_NEXT = 8
 SECRET = ("pin", "count_limit", "sum_limit", "tries", "currency_two", "limit_two", "ac_key")
 WHAT = {
-    "pin": "pin", "count_limit": "the limits count_limit and sum_limit", "tries": "the limit of PIN tries",
+    "pin": "the PIN", "count_limit": "the limits count_limit and sum_limit", "tries": "the limit of PIN tries",
     "currency_two": "a second currency and its limit", "ac_key": "the keys",
 }
 WANTED = {
@@ -59,6 +60,10 @@ class Application:
         made |= {"sequence": int(self.held[0x5F34].hex())} if self.held.get(0x5F34, b"").hex().isdigit() else {}
         made |= {"currency": self.held[0x9F42].hex()[-3:]} if self.held.get(0x9F42, b"").hex().isdigit() else {}
         return made
+
+    def secret(self):
+        """The words that no card tells, but for a PIN that was verified."""
+        return [key for key in SECRET if key not in self.own]
 
     def lacking(self):
         """The words that weren't read, and could be."""
@@ -98,6 +103,8 @@ class Reading:
             self.numbers(primitives(body))
         elif kind == "80ae":
             self.app.own["ac_format"] = 1 if only(body, 0x80) else 2
+        elif kind == "0020" and (pin := pin_in(2, data_of(sent).ljust(8, b"\0")[:8])):
+            self.app.own["pin"] = pin
 
     def select(self, sent, got):
         """Hears what is said of an application that is found, or of the directory."""
@@ -151,7 +158,7 @@ class Reading:
         own = {"name": "c1"} | ({"pse": self.pse} if self.pse else {})
         words = card_words(own | {"app": [app.table() for app in self.apps.values()]})
         for own, app in zip(words.get("app", [words]), self.apps.values()):
-            unknown = [*SECRET, *(one.split(" ")[0] for one in app.lacking())]
+            unknown = [*app.secret(), *(one.split(" ")[0] for one in app.lacking())]
             for key in unknown if "gpo_format" in app.own else [*unknown, "profile", "afl"]:
                 own.pop(key, None)
                 # No record gets the default of what no record had.
@@ -162,7 +169,9 @@ class Reading:
     def remarks(self, source):
         """What is said above the card."""
         yield f"{len(self.apps)} application{'s' * (len(self.apps) > 1)}, read from {source}."
-        yield f"What can't be read from outside has a default (docs/use/cases.md): {', '.join(WHAT.values())}."
+        secret = {key for app in self.apps.values() for key in app.secret()}
+        told = ", ".join(text for key, text in WHAT.items() if key in secret)
+        yield f"What can't be read from outside has a default (docs/use/cases.md): {told}."
         for name, app in self.apps.items():
             lacking = list(app.lacking())
             if lacking:
