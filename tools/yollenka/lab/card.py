@@ -20,8 +20,8 @@ TEXT = """\
 The commands of each log are given to the proved card of IMAGE.toml, and the answers compared object by object. A log has
 one or more sessions, each from a power-up to the next; a card remembers, so they are taken in their order, log by log.
 
-IMAGE.toml is a scenario, of which `issuer` and `card` are read. Where the card was pulled out, each state that it may be left
-in is tried, and later answers tell which one it was."""
+IMAGE.toml is a scenario, of which `issuer` and `card` are read, or a card in words (docs/use/cases.md). Where the card was
+pulled out, each state that it may be left in is tried, and later answers tell which one it was."""
 SHOWN = 2
 
 
@@ -190,8 +190,9 @@ def counters(text):
 
 def arguments(parser):
     """The command's words."""
-    parser.add_argument("image", metavar="IMAGE.toml", help="the card's image: a scenario")
-    parser.add_argument("trace", nargs="*", metavar="TRACE", help="what the card answered: logs as for `lab judge`; - is standard input")
+    parser.add_argument("image", metavar="IMAGE.toml", help="the card's image: a scenario, or a card in words")
+    parser.add_argument("trace", nargs="*", metavar="TRACE",
+                        help="what the card answered: logs as for `lab judge`; - is standard input")
     parser.add_argument("--card", metavar="NAME", help="its name in IMAGE.toml; without it as the log says, or the first one")
     parser.add_argument("--counter", type=counters, metavar="N[,N..]",
                         help="the transaction counter of each of its applications when the first log begins")

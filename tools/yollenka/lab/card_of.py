@@ -52,7 +52,8 @@ class Application:
     def table(self):
         """Its table in an image, as far as it was read."""
         made = {"aip": "0000", "afl": ""} | self.own
-        made["record"] = [{"sfi": place[0], "number": place[1], "bytes": body.hex().upper()} for place, body in self.records.items()]
+        places = ((file, number, body.hex().upper()) for (file, number), body in self.records.items())
+        made["record"] = [dict(zip(("sfi", "number", "bytes"), place)) for place in places]
         for key, tag in (("cdol1", 0x8C), ("cdol2", 0x8D)):
             if tag in self.held:
                 made[key] = self.held[tag].hex().upper()

@@ -3,16 +3,17 @@ import re
 from xml.etree.ElementTree import Element, SubElement, tostring
 
 CARD, TERMINAL, ISSUER = "card", "terminal", "issuer"
-# Where the parties' lines stand from left to right, how wide the three together are, and where an arrow stands from above.
+# Where the parties' lines stand from left to right, and where an arrow stands from above.
 AT = {CARD: 24, TERMINAL: 226, ISSUER: 336}
-WIDE, HIGH = 360, 22
+HIGH = 22
 # Characters of a label that fit between two parties.
 FITS = {(CARD, TERMINAL): 34, (TERMINAL, ISSUER): 18}
 NOT_IN_XML = re.compile("[^\t\n\r -\uD7FF\uE000-\uFFFD\U00010000-\U0010FFFF]")
 STYLE = """
 @page { size: A4; margin: 12mm }
 html { -webkit-print-color-adjust: exact; print-color-adjust: exact }
-body { font: 13px/1.4 "DejaVu Sans", "Helvetica Neue", Arial, sans-serif; color: #1b1b1b; max-width: 1020px; margin: 16px auto; padding: 0 12px }
+body { font: 13px/1.4 "DejaVu Sans", "Helvetica Neue", Arial, sans-serif; color: #1b1b1b }
+body { max-width: 1020px; margin: 16px auto; padding: 0 12px }
 h1 { font-size: 20px; margin: 0 0 4px } h2 { font-size: 15px; margin: 22px 0 6px; break-after: avoid }
 @media print { body { zoom: .74; max-width: none; margin: 0; padding: 0 } }
 p { margin: 2px 0; overflow-wrap: anywhere } a { color: inherit }
@@ -28,13 +29,14 @@ svg text { font-size: 10.5px; font-family: inherit } .party { font-weight: bold 
 .life { stroke: #c4c4c4 } .command { stroke: #173f75; fill: #173f75 } .answer { stroke: #5a5a5a; fill: #5a5a5a }
 .message { stroke: #1d6b39; fill: #1d6b39 } .lost { stroke: #c00d0d; fill: #c00d0d } .wanted { stroke: #a45a00; fill: #a45a00 }
 .lost line, .wanted line { stroke-dasharray: 5 3 } .cross { stroke-width: 2 } svg text { stroke: none }
-.head td { border-bottom: 1px solid #ddd; padding: 3px 14px 3px 0 } .head th { border-bottom: 1px solid #999; padding: 3px 14px 3px 0 }
+.head td, .head th { border-bottom: 1px solid #ddd; padding: 3px 14px 3px 0 } .head th { border-color: #999 }
 .bits { display: inline-block; margin: 4px 18px 4px 0; vertical-align: top; break-inside: avoid }
 .bits td, .bits th { border: 1px solid #ccc; width: 17px; text-align: center; padding: 1px 2px; font-size: 11px; color: #999 }
-.bits th { border: none; color: #333 } .bits td.set { background: #ffb347; color: #000; font-weight: bold } .bits caption { text-align: left; font-size: 12px }
+.bits th { border: none; color: #333 } .bits td.set { background: #ffb347; color: #000; font-weight: bold }
+.bits caption { text-align: left; font-size: 12px }
 .mark { padding: 1px 7px; border-radius: 8px; font-size: 12px; white-space: nowrap; background: #e4e4e4 }
 .good { background: #cfeccf } .bad { background: #f6c4c4 } .open { background: #fbe6b8 }
-.finding { border-left: 4px solid #c00d0d; padding-left: 8px; margin: 3px 0 } .finding.open, .finding.note { border-color: #d8a72a; background: none }
+.finding { border-left: 4px solid #c00d0d; padding-left: 8px; margin: 3px 0 } .finding.note { border-color: #d8a72a }
 """
 
 

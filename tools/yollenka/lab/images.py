@@ -19,7 +19,7 @@ SELECT, OPTIONS, VERIFY, GET_DATA, AUTHENTICATE = (bytes.fromhex(text) for text 
 GOOD = b"\x90\x00"
 
 
-def in_words(path, tables):
+def from_words(path, tables):
     """The image of a card in words, with the issuer's keys."""
     try:
         made = base(tables)
@@ -38,7 +38,7 @@ class Image:
         except NoDocument as fault:
             raise Fault(str(fault)) from None
         if isinstance(self.table.get("card"), dict):
-            self.table = in_words(path, self.table)
+            self.table = from_words(path, self.table)
         cards = self.table.get("card")
         if not isinstance(cards, list) or not all(isinstance(card, dict) for card in cards) or not cards:
             raise Fault(f"{path}: it has neither [[card]] nor [card], the card's image")
@@ -83,7 +83,8 @@ class Image:
             own = [one for one in sessions if (name or self.known(one.card)) == card]
             heard = Heard(self.cards[card]["app"])
             heard.hear(own)
-            self.take_all(card, {place: value for place, value in heard.found.items() if place[1] != "counter" or counters is None})
+            taken = {place: value for place, value in heard.found.items() if place[1] != "counter" or counters is None}
+            self.take_all(card, taken)
             if counters is not None:
                 self.count(card, counters)
 

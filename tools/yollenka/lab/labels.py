@@ -4,8 +4,6 @@ import re
 TAG = re.compile(r"  ([0-9A-F]{2,6}) [A-Z][^:]*(?:: ?(.*))?$")
 ASKED = re.compile(r"asks for (TC|ARQC|AAC)")
 CODE = re.compile(r"  (?:8A [^:]*|field 39 [^:]*): (..)")
-# Statuses of answers that went well.
-GOOD = "9000"
 
 
 def command(words):

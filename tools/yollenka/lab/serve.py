@@ -1,7 +1,7 @@
 """`lab serve`: the proved card and the proved terminal for a partner of another make."""
 import os
-import sys
 
+from yollenka.commandline import counted, positive
 from yollenka.faults import Fault
 from yollenka.lab import FAILED, PASSED
 from yollenka.lab.at_reader import Pcsc, recorder
@@ -101,8 +101,8 @@ def card_arguments(parser):
 def terminal_arguments(parser):
     """The words of `lab serve terminal`."""
     parser.add_argument("scenario", metavar="SCENARIO.toml")
-    parser.add_argument("lane", metavar="LANE", nargs="?", type=int, default=0, help="from 0")
-    parser.add_argument("purchase", metavar="PURCHASE", nargs="?", type=int, default=1, help="from 1")
+    parser.add_argument("lane", metavar="LANE", nargs="?", type=counted, default=0, help="from 0")
+    parser.add_argument("purchase", metavar="PURCHASE", nargs="?", type=positive, default=1, help="from 1")
     parser.add_argument("--reader", metavar="NAME", default="", help="the first reader whose name has NAME in it")
     parser.add_argument("--wait", type=float, default=10, metavar="N", help="waits so many seconds for a reader and its card (10)")
     parser.add_argument("--host", action="store_true", help="the scenario's issuer replies, by the accounts of the document")

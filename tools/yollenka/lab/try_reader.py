@@ -77,6 +77,7 @@ class Card:
         self.bridge = None
 
     def put_in(self, *words):
+        """Puts it into the reader, by a bridge with these words."""
         back, to = self.lines.back.fileno(), self.lines.to.fileno()
         # The scenario's name is only read where the bridge starts the program.
         self.bridge = subprocess.Popen(
@@ -87,10 +88,12 @@ class Card:
         time.sleep(1.0)
 
     def take_out(self, number=signal.SIGTERM):
+        """Ends the bridge, by this signal."""
         self.bridge.send_signal(number)
         self.bridge.wait()
 
     def end(self):
+        """Ends the card's program."""
         self.process.stdin.close()
         self.process.wait()
         # The daemon notices that the reader is empty.
@@ -189,7 +192,9 @@ def peek():
     print("$ cardpeek, its script emv.lua")
     for label, value in found:
         print(f"  {label}: {value}")
-    wanted = [("Application Label", "CREDIT"), ("Application Transaction Counter (ATC)", "11"), ("Application PAN", "4761739001010010")]
+    wanted = [
+        ("Application Label", "CREDIT"), ("Application Transaction Counter (ATC)", "11"), ("Application PAN", "4761739001010010"),
+    ]
     good = all(pair in found for pair in wanted)
     print(f"{'ok' if good else 'NOT OK'} cardpeek")
     return good
@@ -238,7 +243,8 @@ def killed():
     card.take_out()
     card.end()
     print(said[-1] if said else errors)
-    good = seen != "an answer" and power == "power 11,9,0,0,3,0" and said[-1:] and said[-1].startswith("end approved") and "atc=000c" in said[-1]
+    last = said[-1] if said else ""
+    good = seen != "an answer" and power == "power 11,9,0,0,3,0" and last.startswith("end approved") and "atc=000c" in last
     print(f"{'ok' if good else 'NOT OK'} a bridge that is killed")
     return good
 
