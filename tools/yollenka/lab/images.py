@@ -28,6 +28,14 @@ def from_words(path, tables):
         raise Fault(f"{path}: {fault}") from None
 
 
+def started_less(card, started):
+    """A card of which these applications, by their places, haven't begun their last transaction."""
+    if not started:
+        return card
+    return card | {"app": [app | ({"counter": app["counter"] - 1} if number in started else {})
+                           for number, app in enumerate(card["app"])]}
+
+
 class Image:
     """A card's image in a file. `taken` says what was taken from a log, so not judged."""
 
@@ -58,11 +66,7 @@ class Image:
 
     def document(self):
         """The document that the proved card gets."""
-        cards = [
-            card | {"app": [app | ({"counter": app.get("counter", 0) - 1} if (name, number) in self.tries else {})
-                            for number, app in enumerate(card["app"])]} if "app" in card else card
-            for name, card in self.cards.items()
-        ]
+        cards = [started_less(card, {number for its, number in self.tries if its == name}) for name, card in self.cards.items()]
         return document({key: self.table[key] for key in ("issuer",) if key in self.table} | {"card": cards})
 
     def proved(self, name):
