@@ -131,7 +131,7 @@ def numbers_filled_on_the_right():
     fitted_otherwise([objects.NUMERIC], lambda value, length: value[-length:].ljust(length, b"\0") if length else b"")
 
 
-@planted("^pdol-9F02-in-one|^list-9F02-4-bytes$")
+@planted("^pdol-9F1A-in-one|^list-9F02-4-bytes$")
 def numbers_cut_on_the_right():
     """A number in a shorter entry loses its last digits."""
     fitted_otherwise([objects.NUMERIC], lambda value, length: value[:length].rjust(length, b"\0"))
@@ -538,9 +538,15 @@ def objects_of_its_own():
     """The terminal gives additional objects."""
     @around(objects, "filled")
     def filled(old, list_, card, its):
-        return b"".join(b"\x11" * length if tag in (0x9F40, 0x9F1E, 0x9F15, 0x9F16, 0x9F41, 0x9F39) else old([(tag, length)], card, its)
-                        for tag, length in list_)
+        own = (0x9F40, 0x9F1E, 0x9F15, 0x9F16, 0x9F41, 0x9F39)
+        return b"".join(b"\x11" * one[1] if one[0] in own else old([one], card, its) for one in list_)
     selection.filled = objects.filled
+
+
+@permitted("^online-(code|request_lost)-|^cvm-online-pin-|^scripts-")
+def messages_of_its_own():
+    """The terminal's messages to the host are of another form."""
+    around(Terminal, "request")(lambda old, self: b"\xd7")
 
 
 @permitted("^analysis-bit-2.*-in-card-denial$|^restrictions-several$")

@@ -12,8 +12,14 @@ words name them. Without one the report comes on standard input: ./explain < NAM
 --lane N       the lines of other lanes, from 0
 --purchase N   of each lane the lines of other purchases, from 1
 
--q, first of all words, silences this launcher; --build proves and builds the program.
+-q, first of all words, silences this launcher; --build proves and builds the program. Wrong words, a file that can't be read,
+and a lane or a purchase that isn't there end with status 2 and a line on standard error.
 """
+FLAGS = ("--brief", "--ends")
+# The least and the greatest number behind a word, and what it counts.
+NUMBERED = {"--lane": (0, 15, "lane"), "--purchase": (1, 2**32 - 1, "purchase")}
+HANDED_ON = "--terminal"
+REPORT = re.compile(rb"(L\d+|S\d+|A [a-z0-9]+|balance|refused|generated|check|read) \S")
 TERMINAL = re.compile(r"(\d|1[0-5]),2[1-6],([0-9A-F]{2}){5,16},[01](,[0-9A-F]{10}){3}")
 
 
@@ -36,3 +42,76 @@ def terminal_words(text):
     except (UnicodeDecodeError, tomllib.TOMLDecodeError, AttributeError, KeyError, TypeError, ValueError):
         return []
     return [part for word in words for part in ("--terminal", word)] if all(map(TERMINAL.fullmatch, words)) else []
+
+
+def number_fault(word, text):
+    """What is wrong with the number behind a word; None where nothing is."""
+    least, most, name = NUMBERED[word]
+    if text is None:
+        return f"the number of a {name} stands behind {word}"
+    if text.isascii() and text.isdecimal() and least <= int(text) <= most:
+        return None
+    return f"{word} {text}: {name}s count from {least}" + (f" to {most}" if name == "lane" else "")
+
+
+def files_among(words):
+    """The words that name files: all that are no options and don't stand behind one that takes a value."""
+    return [word for at, word in enumerate(words)
+            if not word.startswith("-") and (at == 0 or words[at - 1] not in (*NUMBERED, HANDED_ON))]
+
+
+def words_fault(words):
+    """What is wrong with the words of a command line; None where nothing is."""
+    options = [word for word in words if word.startswith("-")]
+    for word in options:
+        if word not in (*FLAGS, *NUMBERED, HANDED_ON):
+            return f"{word} is no word of explain: ./explain --help has them"
+        if word != HANDED_ON and options.count(word) > 1:
+            return f"{word} stands more than once"
+    for word in NUMBERED:
+        if word in words:
+            fault = number_fault(word, (words[words.index(word) + 1 :] or [None])[0])
+            if fault:
+                return fault
+    return "more than one scenario" if len(files_among(words)) > 1 else None
+
+
+def is_report(text):
+    """Whether this is a report, and no document."""
+    return REPORT.match(text) is not None
+
+
+def asked_of(words):
+    """The lane and the purchase that are asked for, each a number or None."""
+    return [int(words[words.index(word) + 1]) if word in words else None for word in NUMBERED]
+
+
+def counts_of_report(text):
+    """How many purchases each lane of a report has; one that is cut off in a purchase has that one too."""
+    counts = {}
+    for lane, number in re.findall(rb"^L(\d+) (?:end (\d+) )?", text, re.MULTILINE):
+        ended, _ = counts.get(int(lane), (0, 0))
+        counts[int(lane)] = (int(number), 0) if number else (ended, 1)
+    return {lane: sum(pair) for lane, pair in counts.items()}
+
+
+def counts_of(text):
+    """How many purchases each lane of a document or a report has; none of a document that is refused."""
+    if is_report(text):
+        return counts_of_report(text)
+    try:
+        import tomllib
+        return dict(enumerate(len(lane["purchase"]) for lane in tomllib.loads(text.decode("utf-8-sig"))["lane"]))
+    except (ImportError, ValueError, KeyError, TypeError):
+        return {}
+
+
+def missing(words, text):
+    """What of the lane and the purchase that are asked for isn't in a document or a report; None where both are."""
+    (lane, number), counts = asked_of(words), counts_of(text)
+    if counts and lane is not None and lane not in counts:
+        return f"there is no lane {lane}: lanes count from 0, and the last one is {max(counts)}"
+    counts = counts if lane is None else {lane: counts.get(lane, 0)}
+    if any(counts.values()) and number is not None and number > max(counts.values()):
+        return f"there is no purchase {number}: purchases count from 1, and the last one is {max(counts.values())}"
+    return None

@@ -108,15 +108,26 @@ def run_on(program, words, document):
     return status_of(start(program, words, document.number))
 
 
+def answer_again(program, words, document):
+    """What the program answers, run once more."""
+    import subprocess
+    document.rewind()
+    return subprocess.run([program, *words], stdin=document.number, stdout=subprocess.PIPE).stdout
+
+
 def tell_place(program, words, document, tell):
     """Says where in a refused document the fault stands. It is run again for the line of its refusal."""
-    import subprocess
     from yollenka.refusals import hint
-    document.rewind()
-    answer = subprocess.run([program, *words], stdin=document.number, stdout=subprocess.PIPE).stdout
-    text = hint(document.bytes(), answer)
+    text = hint(document.bytes(), answer_again(program, words, document))
     if text:
         tell(text)
+
+
+def tell_wanted(program, words, document, tell):
+    """Says what is wanted where a trace differs, and where to ask why."""
+    from yollenka.differing import told
+    for line in told(document.bytes(), answer_again(program, words, document)):
+        tell(line)
 
 
 def run(program, words, document, is_proved, tell):
@@ -124,6 +135,8 @@ def run(program, words, document, is_proved, tell):
     if not is_proved and tell is not silent:
         warn(seconds_of(document.bytes()), tell, program)
     status = run_on(program, words, document)
-    if status == REFUSED and tell is not silent:
+    if tell is not silent and status == REFUSED:
         tell_place(program, words, document, tell)
+    elif tell is not silent and status == 0 and "check" in words:
+        tell_wanted(program, words, document, tell)
     return status

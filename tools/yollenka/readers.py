@@ -1,11 +1,11 @@
-"""What the bridges to a smart-card reader share: the two programs and their lines, and a daemon of one's own."""
+"""The virtual smart-card reader of Debian: its port, a daemon of one's own for it, and a connection to it."""
 import os
 import socket
 import tempfile
 import time
 from pathlib import Path
 
-from yollenka.lines import Lines, begin, card_document, program, read, terminal_document, without  # handed on to the bridges
+from yollenka.lines import begin, card_document, program, terminal_document  # handed on
 
 # The virtual reader of Debian's vsmartcard-vpcd, and the port that its own file names.
 DRIVER = "/usr/lib/pcsc/drivers/serial/libifdvpcd.so"

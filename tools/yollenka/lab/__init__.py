@@ -21,6 +21,10 @@ COMMANDS = {
     "terminal": "cases at a terminal of your own, each judged, and what they cover",
     "make": "cases in words, made into scenarios",
     "show": "a scenario's card in words",
+    "card": "a card, by logs of what it answered, beside the proved card of its image",
+    "card-of": "a card in words, as it was read",
+    "serve": "the proved card or the proved terminal, at a reader or on a socket",
+    "page": "a report or a log as one page to print, without scripts",
     "check": "what is wrong with a scenario's cards before anything runs",
 }
 

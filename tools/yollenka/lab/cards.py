@@ -1,4 +1,4 @@
-"""A card in words, made into the `[[card]]` table of a scenario, and back. docs/cases.md has the words."""
+"""A card in words, made into the `[[card]]` table of a scenario, and back. docs/use/cases.md has the words."""
 import re
 from calendar import monthrange
 
@@ -252,7 +252,7 @@ def flat(data):
 
 
 def laid_out(records):
-    """The lines of a layout for these records, and the values of the objects in them; what repeats one otherwise stands as it is."""
+    """The lines of a layout for these records, and the values of the objects in them; a record that repeats one stands as it is."""
     lines, values = [], {}
     for one in records:
         place, pairs = f"{one['sfi']}.{one['number']}", flat(bytes.fromhex(one["bytes"]))

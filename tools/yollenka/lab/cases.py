@@ -1,4 +1,4 @@
-"""Cases in words: a table of cases, or a folder of tables and scenarios, made into scenarios. docs/cases.md has the words."""
+"""Cases in words: a table of cases, or a folder of tables and scenarios, made into scenarios. docs/use/cases.md has the words."""
 import re
 from copy import deepcopy
 from itertools import product
@@ -105,7 +105,7 @@ def take_away(tables_, path):
 
 
 def patched(scenario, path, change):
-    """Writes bytes over those at a path of the scenario, from the place `at`, or keeps the first `cut`. `record.2` is the second."""
+    """Writes bytes over those at a path of the scenario, from the place `at`, or keeps the first `cut`; `record.2` is the second."""
     found = re.fullmatch(r"record\.(\d+)", path)
     whole = f"card.0.app.0.record.{int(found[1]) - 1}.bytes" if found else path
     at, last = holder(scenario, whole, False)
@@ -209,7 +209,9 @@ def answers_in(value):
         raise Fault("answer is a table: the name of a command, or its number from 1, with the answer")
     for key in value:
         check_key(key)
-    return {key: None if its == "gone" else bytes.fromhex(hexadecimal(its, f"answer {key}", range(300))) for key, its in value.items()}
+    told = {key: its for key, its in value.items() if its != "gone"}
+    answers = {key: bytes.fromhex(hexadecimal(its, f"answer {key}", range(300))) for key, its in told.items()}
+    return {key: answers.get(key) for key in value}
 
 
 def one_case(tables_, row, given):

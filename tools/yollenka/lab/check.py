@@ -9,7 +9,7 @@ from yollenka.lab.spelling import METHODS, rule_words
 from yollenka.model.objects import Fault as CodingFault
 from yollenka.model.objects import account_number, entries, tag_text, total
 from yollenka.model.selection import Terminated, check, gather, read
-from yollenka.readers import program
+from yollenka.lines import program
 from yollenka.scenarios import NoDocument, document, read_document
 from yollenka.words import CAUSE, TAGS, TVR
 
@@ -151,8 +151,8 @@ def list_faults(app):
 
 def code_faults(app):
     """Action codes that are always met, by a bit that every purchase has."""
-    ends = {"denial": "each purchase is declined", "online": "each purchase goes online", "default": "each purchase that can't go "
-            "online is declined"}
+    ends = {"denial": "each purchase is declined", "online": "each purchase goes online",
+            "default": "each purchase that can't go online is declined"}
     tags = {"denial": 0x9F0E, "online": 0x9F0F, "default": 0x9F0D}
     for lane, row in app.rows():
         bits = [18] + ([28] if app.held.get(0x9F08, bytes.fromhex(row["version"])).hex() != row["version"].lower() else [])

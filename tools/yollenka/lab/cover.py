@@ -1,8 +1,9 @@
 """What cases cover: counted from what the reference terminal was told and how it ended, never from the tried terminal's word."""
 import re
+import textwrap
 from collections import Counter
 
-from yollenka.lab.live import COMMANDS
+from yollenka.lab.emv import NAMES
 from yollenka.lab.spelling import CONDITIONS, METHODS
 from yollenka.words import ARC, RESULT, TVR
 
@@ -10,11 +11,11 @@ from yollenka.words import ARC, RESULT, TVR
 NEVER = (17, 14, 13, 12, 58)
 BITS = [place for place, name in TVR.items() if name != "reserved" and place not in NEVER]
 STEPS = "power select initiate read verify risk first authenticate script second".split()
+READING = ["initiate", "read", "first", "second"]
 CAUSES = {
     "cut": STEPS, "answer": [step for step in STEPS if step not in ("power", "script")], "no-candidate": ["select"],
-    "card-blocked": ["select"], "status": ["initiate", "read", "first", "second"], "coding": ["initiate", "read", "first", "second"],
-    "repeated": ["read"], "missing": ["initiate", "read", "first", "second"], "value": ["initiate", "read", "first", "second"],
-    "afl": ["initiate"], "dol": ["initiate", "read", "first", "second"], "too-much": ["read"], "kind": ["first", "second"],
+    "card-blocked": ["select"], "status": READING, "coding": READING, "repeated": ["read"], "missing": READING, "value": READING,
+    "afl": ["initiate"], "dol": READING, "too-much": ["read"], "kind": ["first", "second"],
 }
 KINDS = {0x00: "AAC", 0x40: "TC", 0x80: "ARQC", 0xC0: "reserved"}
 # Which kinds may be asked for and answered, in both halves.
@@ -26,14 +27,27 @@ REFUSED = ["first:TC-reserved", "first:ARQC-TC", "first:AAC-TC", "first:AAC-ARQC
 RESULTS = {
     "fail": [1], "plaintext pin": [1, 2], "online pin": [0, 1], "plaintext pin and signature": [0, 1], "signature": [0], "no cvm": [2],
 }
+METHOD_ROW, WIDTH = "CVM by condition and result", 120
 MARKS = {0: "?", 1: "-", 2: "+"}
-END = re.compile(r"end (.*?) tvr=(\w+) tsi=(\w+) cvm=(\w+) arc=(.*?) atc=\S+ ac=\S+ scripts=(\S+)")
+END = re.compile(r"end (.*?) tvr=(\w+) tsi=\w+ cvm=(\w+) arc=(.*?) atc=\S+ ac=\S+ scripts=(\S+)")
+
+
+def wrapped(parts):
+    """A list as lines that are not too long."""
+    return textwrap.wrap(", ".join(parts), WIDTH, initial_indent="  ", subsequent_indent="  ", break_on_hyphens=False)
 
 
 def kind_of(answer):
     """The kind of cryptogram in an answer to GENERATE AC, or None."""
     found = re.match(r"80[0-9a-f]{2}([0-9a-f]{2})|77[0-9a-f]*?9f2701([0-9a-f]{2})", answer)
     return KINDS[int(found[1] or found[2], 16) & 0xC0] if found else None
+
+
+def script_result(text):
+    """The result of a script, five bytes, in words."""
+    if text[0] == "2":
+        return "carried out"
+    return "of no form" if text[:2] == "00" else f"command {int(text[1], 16)} failed"
 
 
 class Coverage:
@@ -58,13 +72,13 @@ class Coverage:
         for said, told in zip(fed, fed[1:]):
             if not said.startswith("> ") or told == "< gone" or len(told) < 6:
                 continue
-            name = COMMANDS.get(said[2:6], "other")
+            name = NAMES.get(said[2:6], "other")
             self.statuses[f"{name} {told[-4:]}"] += 1
             if name == "GENERATE AC":
                 asked, kind = KINDS[int(said[6:8], 16) & 0xC0], kind_of(told[2:]) or told[-4:]
                 self.kinds[f"{next(halves)}:{asked}-{kind}"] += 1
 
-    def add_end(self, ending, results, _, methods, code, scripts):
+    def add_end(self, ending, results, methods, code, scripts):
         """Adds what an end line tells."""
         number = int(results, 16)
         self.bits.update(place for place in BITS if number >> 8 * (5 - place // 10) + place % 10 - 1 & 1)
@@ -76,8 +90,7 @@ class Coverage:
         self.endings[" ".join(words[:2])] += 1
         self.codes[code] += 1
         made = [] if scripts == "-" else re.findall("..........", scripts)
-        self.scripts.update("carried out" if one[0] == "2" else "of no form" if one[:2] == "00" else f"command {int(one[1], 16)} failed"
-                            for one in made)
+        self.scripts.update(map(script_result, made))
 
     def rows(self):
         """Each kind of thing with the names that can be and the counts of those that were."""
@@ -85,7 +98,7 @@ class Coverage:
             f"{place // 10}.{place % 10}": count for place, count in self.bits.items()}
         cells = {(METHODS[method], condition, result): f"{method} {name} {RESULT[result]}" for method, results in RESULTS.items()
                  for name, condition in CONDITIONS.items() for result in results}
-        yield "CVM by condition and result", list(cells.values()), {
+        yield METHOD_ROW, list(cells.values()), {
             cells[one]: count for one, count in self.methods.items() if one in cells}
         yield "causes by step", [f"{step} {cause}" for cause, steps in CAUSES.items() for step in steps], {
             f"{step} {cause}": count for (cause, step), count in self.causes.items()}
@@ -99,19 +112,19 @@ class Coverage:
         for name, can_be, counts in self.rows():
             met = [one for one in can_be if counts.get(one)]
             yield f"{name}: {len(met)} of {len(can_be)}"
-            if is_whole and "CVM" not in name:
-                yield f"  {', '.join(f'{one} {counts[one]}' for one in met)}"
-                yield f"  never: {', '.join(one for one in can_be if one not in met) or 'none'}"
-            elif is_whole:
+            if is_whole and name == METHOD_ROW:
                 yield from self.method_lines()
+            elif is_whole:
+                yield from wrapped(f"{one} {counts[one]}" for one in met)
+                yield from wrapped([f"never: {', '.join(one for one in can_be if one not in met) or 'none'}"])
         for name, counts in (("endings", self.endings), ("scripts", self.scripts), ("statuses", self.statuses)):
             yield f"{name}: {len(counts)}"
-            if is_whole:
-                yield f"  {', '.join(f'{one} {count}' for one, count in sorted(counts.items()))}"
+            yield from wrapped(f"{one} {count}" for one, count in sorted(counts.items())) if is_whole else []
 
     def method_lines(self):
         """The table of methods by conditions: which results each rule had."""
-        yield f"  {'+ successful, - failed, ? unknown, . never; condition':54} {'  '.join(f'{one:02}' for one in CONDITIONS.values())}"
+        conditions = "  ".join(f"{one:02}" for one in CONDITIONS.values())
+        yield f"  {'+ successful, - failed, ? unknown, . never; condition':54} {conditions}"
         for method in RESULTS:
             cells = ("".join(MARKS[one] for one in RESULTS[method] if self.methods[METHODS[method], condition, one]) or "."
                      for condition in CONDITIONS.values())

@@ -4,6 +4,7 @@ import subprocess
 from itertools import count
 
 from yollenka.faults import Fault
+from yollenka.lab.emv import NAMES
 from yollenka.model.document import scenario_of
 from yollenka.model.issuer import Issuer, Message
 from yollenka.model.objects import Fault as ListFault
@@ -11,16 +12,10 @@ from yollenka.model.objects import account_number, command_in, entries, entry_in
 from yollenka.model.selection import DIRECTORY, Terminated, gather, profile_and_locator
 from yollenka.model.terminal import Terminal, cryptogram_in
 from yollenka.model.world import Canned, World
-from yollenka.readers import begin, card_document
+from yollenka.lines import begin, card_document
 from yollenka.refusals import near
 from yollenka.scenarios import document
 
-# The commands by class and instruction, and script commands by their parameters too.
-COMMANDS = {
-    "00a4": "SELECT", "00b2": "READ RECORD", "80a8": "GET PROCESSING OPTIONS", "0020": "VERIFY", "80ca": "GET DATA",
-    "80ae": "GENERATE AC", "0082": "EXTERNAL AUTHENTICATE", "841e": "APPLICATION BLOCK", "8418": "APPLICATION UNBLOCK",
-    "8416": "CARD BLOCK", "8424": "PIN CHANGE/UNBLOCK", "04da": "PUT DATA",
-}
 # The bit of the verification results' third byte.
 ONLINE_PIN_ENTERED = 0x04
 ORDINALS = "first second third fourth fifth sixth seventh eighth ninth tenth".split()
@@ -30,7 +25,7 @@ KEY = re.compile(rf"(?:({'|'.join(ORDINALS)}) )?([A-Z][A-Z/ ]*?[A-Z])(?: (\S*[0-
 def names_of(said):
     """The names of a command: the plain one, and the one with what it is about."""
     one = command_in(said)
-    plain = COMMANDS.get(said[:2].hex(), "")
+    plain = NAMES.get(said[:2].hex(), "")
     if one is None or not plain:
         return (plain,)
     high, low = one.header[2:]
@@ -44,8 +39,8 @@ def names_of(said):
 def check_key(key):
     """Refuses a key of `answer` that names no command."""
     found = KEY.fullmatch(key)
-    if not key.isdigit() and (not found or found[2] not in COMMANDS.values()):
-        wanted = [*COMMANDS.values(), *ORDINALS]
+    if not key.isdigit() and (not found or found[2] not in NAMES.values()):
+        wanted = [*NAMES.values(), *ORDINALS]
         raise Fault(f"answer: '{key}' is no command, as 'second GENERATE AC', and no number{near(key.upper(), wanted)}")
 
 
@@ -167,7 +162,7 @@ def request_of(settings, exchanges):
     terminal, pins = Terminal(settings, purchase, []), list(purchase["pins"])
     try:
         for one in exchanges:
-            name = COMMANDS.get(one.sent[:2].hex())
+            name = NAMES.get(one.sent[:2].hex())
             if name == "GET PROCESSING OPTIONS":
                 terminal.profile = profile_and_locator(one.got[:-2])[0]
             elif name == "READ RECORD":

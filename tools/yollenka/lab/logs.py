@@ -202,8 +202,10 @@ def report_purchase(lane, end, events, names, line):
 
 def entries(lines):
     """Entries, and what `scriptor` and clients of pyscard write; an answer may go on in the next line."""
-    held = None
+    held, is_whole = None, True
     for number, line in lines:
+        # Behind an answer with its meaning `scriptor` shows the next command as it was typed.
+        was_whole, is_whole = is_whole, " : " in line
         line = re.sub(r" : .*$", "", line)
         if re.fullmatch(r"(?:> ?)?(?:RESET|reset)|< ?OK.*|(?:dis)?connecting .*", line):
             yield from (one for one in (held, Event(BEGIN, CARD, None, number)) if one)
@@ -211,6 +213,8 @@ def entries(lines):
         elif ENTRY.match(line) or line.startswith("end"):
             yield from (one for one in (held,) if one)
             held = entry_event(line, number)
+        elif was_whole and re.fullmatch(r"[0-9A-Fa-f ]+", line):
+            is_whole = True
         elif held and held.value and re.fullmatch(r"[0-9A-Fa-f ]+", line):
             held = replace(held, value=held.value + hexadecimal(line, number))
         elif line and not line.startswith("#") and held:

@@ -7,7 +7,7 @@ from yollenka.scenarios import pair, toml
 
 WIDTH = 130
 
-TEXT = """Makes the scenarios of cases that stand in words (docs/cases.md).
+TEXT = """Makes the scenarios of cases that stand in words (docs/use/cases.md).
 
 Without NAME the names of the cases are printed, a line each; with NAME the scenario of this case, as TOML. It is one that
 `emvrun replay` takes: where the case puts answers in place of the card's, the card is one of canned answers. With --card

@@ -15,8 +15,8 @@ METHODS = {
     "enciphered pin and signature": 0x05, "signature": 0x1E, "no cvm": 0x1F,
 }
 CONDITIONS = {
-    "always": 0, "unattended cash": 1, "not cash and not cashback": 2, "supported": 3, "manual cash": 4, "cashback": 5, "under x": 6,
-    "over x": 7, "under y": 8, "over y": 9,
+    "always": 0, "unattended cash": 1, "not cash and not cashback": 2, "supported": 3, "manual cash": 4, "cashback": 5,
+    "under x": 6, "over x": 7, "under y": 8, "over y": 9,
 }
 ALL_METHODS = {name.lower(): code for code, name in CVM.items()} | METHODS
 ALL_CONDITIONS = {name.lower().removeprefix("if "): code for code, name in COND.items()} | CONDITIONS
@@ -24,8 +24,8 @@ RULE = re.compile(r"(?P<method>.+?)(?: if (?P<condition>.+?))?(?: else (?P<other
 NEXT = 0x40
 # How many bytes an object has where a list doesn't say.
 LENGTHS = {
-    "8A": 2, "91": 10, "95": 5, "9A": 3, "9B": 2, "9C": 1, "5F2A": 2, "9F02": 6, "9F03": 6, "9F09": 2, "9F1A": 2, "9F1C": 8, "9F21": 3,
-    "9F33": 3, "9F34": 3, "9F35": 1, "9F37": 4,
+    "8A": 2, "91": 10, "95": 5, "9A": 3, "9B": 2, "9C": 1, "5F2A": 2, "9F02": 6, "9F03": 6, "9F09": 2, "9F1A": 2, "9F1C": 8,
+    "9F21": 3, "9F33": 3, "9F34": 3, "9F35": 1, "9F37": 4,
 }
 
 
@@ -62,7 +62,8 @@ def bits(value, table, size, what):
 
 def bit_words(text, table, size):
     """The words of the bits that are set; the bytes themselves where one of them has no name."""
-    places = [10 * (byte + 1) + bit for byte, value in enumerate(bytes.fromhex(text)) for bit in range(8, 0, -1) if value >> bit - 1 & 1]
+    data = bytes.fromhex(text)
+    places = [10 * byte + bit for byte in range(1, size + 1) for bit in range(8, 0, -1) if data[byte - 1] >> bit - 1 & 1]
     return [table[place] for place in places] if all(table.get(place, "reserved") != "reserved" for place in places) else text
 
 

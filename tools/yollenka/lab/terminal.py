@@ -10,6 +10,7 @@ from concurrent.futures import ThreadPoolExecutor
 from dataclasses import replace
 from pathlib import Path
 
+from yollenka.commandline import a_new_file, positive
 from yollenka.faults import Fault
 from yollenka.lab.cases import cases_in
 from yollenka.lab.cover import Coverage
@@ -18,15 +19,15 @@ from yollenka.lab.live import Host, card_of
 from yollenka.lab.logs import CARD, HOST, Exchange, Purchase
 from yollenka.lab.told import Result, junit, status_of, tap_lines
 from yollenka.lab.walk import FAILED, NOTE, PASSED, WRONG, Line, judge
-from yollenka.readers import program, terminal_document
+from yollenka.lines import program, terminal_document
 
 TEXT = """Tries cases at a terminal of your own, each judged as `lab judge` judges a log with the whole lane.
 
 COMMAND is started once for each case. On its standard input it gets a line `document N`, then N bytes: the terminal and its
-purchase as a TOML document (docs/reader.md, section 2). It writes a command as `> H`, or as bare hexadecimal, and reads
+purchase as a TOML document (docs/use/reader.md, section 2). It writes a command as `> H`, or as bare hexadecimal, and reads
 `< H` or `< gone`; `host > H` is answered `host < H` or `host < none`; at last it writes `end ..`, as much of it as it has
-(docs/report.md, section 3), or just ends. `{case}` in a word of COMMAND becomes the case's name. CASES is a table of cases
-(docs/cases.md), a scenario, or a folder of them."""
+(docs/use/report.md, section 3), or just ends. `{case}` in a word of COMMAND becomes the case's name. CASES is a table of cases
+(docs/use/cases.md), a scenario, or a folder of them."""
 LONGEST, MOST_EXCHANGES, SHOWN = 8192, 2000, 5
 COMMAND_LINE = re.compile(r"(?:> ?)?((?:[0-9a-fA-F]{2} ?)+)")
 
@@ -35,13 +36,13 @@ def arguments(parser):
     """The command's words."""
     parser.add_argument("cases", metavar="CASES", help="a table of cases, a scenario, or a folder")
     parser.add_argument("command", metavar="COMMAND", nargs="+", help="behind `--`: your terminal, with its words")
-    parser.add_argument("-j", dest="jobs", type=int, default=os.cpu_count() or 1, metavar="N", help="so many at a time")
+    parser.add_argument("-j", dest="jobs", type=positive, default=os.cpu_count() or 1, metavar="N", help="so many at a time")
     parser.add_argument("--only", default="", metavar="REGEX", help="the cases in whose names this is found")
     parser.add_argument("--seconds", type=float, default=10, help="how long a terminal may take for a line (10)")
     parser.add_argument("--keep", metavar="DIR", help="keeps each dialogue there, as CASE.log")
     parser.add_argument("--all", action="store_true", help="shows each difference behind a fault too")
     parser.add_argument("--coverage", action="store_true", help="tells all that is covered, and what isn't")
-    parser.add_argument("--junit", metavar="F", help="writes the results as JUnit XML to this file")
+    parser.add_argument("--junit", metavar="F", type=a_new_file, help="writes the results as JUnit XML to this file")
 
 
 class Quiet(Exception):
@@ -179,9 +180,15 @@ def chosen(options):
     cases = [case for case in cases_in(options.cases) if wanted.search(case.name)]
     if not cases:
         raise Fault(f"{options.cases} has no case with '{options.only}' in its name")
-    if options.jobs < 1:
-        raise Fault(f"-j {options.jobs} should be 1 or more")
     return cases
+
+
+def make_folder(path):
+    """Makes a folder, where it isn't there."""
+    try:
+        path.mkdir(parents=True, exist_ok=True)
+    except OSError as error:
+        raise Fault(f"{path}: {error.strerror}") from None
 
 
 def run(options):
@@ -190,7 +197,7 @@ def run(options):
     for name in ("card_at_reader", "terminal_at_reader"):
         program(name)
     if options.keep:
-        Path(options.keep).mkdir(parents=True, exist_ok=True)
+        make_folder(Path(options.keep))
     print(f"TAP version 13\n1..{len(cases)}")
     with ThreadPoolExecutor(options.jobs) as pool:
         for case, result in zip(cases, pool.map(lambda case: tried(case, options), cases)):
@@ -199,5 +206,5 @@ def run(options):
             print("\n".join(tap_lines(len(results), result, options.all)), flush=True)
     print("\n".join(f"# {line}" for line in coverage.lines(options.coverage)))
     if options.junit:
-        Path(options.junit).write_text("\n".join(junit(results, f"lab terminal {shlex.join(options.command)}")) + "\n")
+        options.junit.write_text("\n".join(junit(results, f"lab terminal {shlex.join(options.command)}")) + "\n")
     return status_of(results)

@@ -12,20 +12,30 @@ class Lost(Exception):
 
 
 class Pages:
-    """The pages as the program's own memory has them: an unsure cell gives the torn byte and the one before by turns."""
+    """The pages as the program's own memory has them.
+
+    A cell is the byte that was written last, perhaps torn, and the one that it gives. Where they differ it is unsure: at every
+    other power-up it goes over to the torn byte, and stays with it.
+    """
 
     def __init__(self):
         self.cells = [[(0, 0)] * CELLS for _ in range(PAGES)]
-        self.tear, self.powered = None, 0
+        self.tear, self.powered, self.torn = None, 0, set()
 
     def power_up(self, tear=None):
         """Turns them on; the tear is where power will go."""
         self.tear, self.commit, self.writes = tear, 0, 0
         self.powered += 1
+        for page in self.torn:
+            self.cells[page] = [self.settled(*place) for place in enumerate(self.cells[page])]
+
+    def settled(self, cell, pair):
+        """What becomes of a cell at this power-up."""
+        return (pair[0], pair[0]) if (cell + self.powered) % 2 == 0 else pair
 
     def read(self, page):
         """The bytes of a page; the same ones up to the next power-up."""
-        return bytes(pair[(cell + self.powered) % 2] for cell, pair in enumerate(self.cells[page]))
+        return bytes(given for _, given in self.cells[page])
 
     def mark(self):
         """Begins a commit."""
@@ -37,11 +47,11 @@ class Pages:
         tear, before = self.tear, self.read(page)
         if tear and tear["commit"] == self.commit and tear["write"] == self.writes:
             if tear["at"] == "within":
-                # A cell that is sure of its new byte stays so.
-                torn = zip(self.cells[page], content, before)
-                self.cells[page] = [pair if pair == (new, new) else (new, old) for pair, new, old in torn]
+                self.cells[page] = list(zip(content, before))
+                self.torn.add(page)
             raise Lost
         self.cells[page] = [(byte, byte) for byte in content]
+        self.torn.discard(page)
 
     def release(self):
         """Ends a commit, or loses power where that is planned, and where a planned write didn't come."""

@@ -1,11 +1,10 @@
-#!/usr/bin/python3
-"""try-at-reader: the proved card and the proved terminal over PC/SC, in a virtual reader of this machine.
+"""`lab serve try`: the proved card and the proved terminal over PC/SC, in a virtual reader of this machine.
 
 It needs the Debian packages pcscd, vsmartcard-vpcd, python3-pyscard, opensc and pcsc-tools, and ends with a word where one
 is missing. A `pcscd` of its own is started, on a socket of its own. Then
 - the dialogues of ten examples are held over PC/SC, and have to equal the lines of `emvrun replay`,
-- `opensc-tool` and `pcsc_scan`, clients that no one here wrote, talk with the card, and what they print is shown; so does
-  `cardpeek`, where its package is installed too, which reads the card as a bank card without a screen,
+- `opensc-tool`, `scriptor` and `pcsc_scan`, clients that no one here wrote, talk with the card, and what they print is shown; it
+  fits the image, by `lab card`; so does `cardpeek`, where its package is installed, which reads the card as a bank card,
 - the bridge is killed in the middle of a command: the client sees an error, and the card's next power-up what it promises.
 """
 import importlib.util
@@ -19,14 +18,18 @@ import tempfile
 import time
 from pathlib import Path
 
-sys.dont_write_bytecode = True
-from yollenka.commandline import words_of
+from yollenka.lab import FAILED, INCONCLUSIVE, PASSED
+from yollenka.lab.card import compared
+from yollenka.lab.images import Image
+from yollenka.lab.sessions import sessions_of
 from yollenka.programs import ROOT
-from yollenka.readers import DAEMON, DRIVER, Daemon, Lines, begin, card_document, program, read
+from yollenka.lines import begin, card_document, program, read
+from yollenka.readers import DAEMON, DRIVER, Daemon
 
 PORT = 0x9C7B
 SECONDS = 60
-MISSING = 3
+IMAGE = ROOT / "examples" / "offline-approval.toml"
+LAB = [sys.executable, str(ROOT / "lab"), "serve"]
 WHOLE = [
     "offline-approval", "online-approval", "decline-by-action-code", "answers-in-format-2", "partial-names",
     "application-blocked", "cvm-pin-for-the-issuer", "script-before",
@@ -74,16 +77,23 @@ class Card:
         self.bridge = None
 
     def put_in(self, *words):
+        """Puts it into the reader, by a bridge with these words."""
         back, to = self.lines.back.fileno(), self.lines.to.fileno()
         # The scenario's name is only read where the bridge starts the program.
         self.bridge = subprocess.Popen(
-            [ROOT / "tools/card-at-pcsc", "-", "--port", str(PORT), "--lines", f"{back},{to}", *words], pass_fds=(back, to))
+            [*LAB, "card", "-", "--port", str(PORT), "--lines", f"{back},{to}", *words], pass_fds=(back, to),
+            stderr=subprocess.PIPE)
+        # The bridge says that the card is in, and the daemon notices it.
+        self.bridge.stderr.readline()
+        time.sleep(1.0)
 
     def take_out(self, number=signal.SIGTERM):
+        """Ends the bridge, by this signal."""
         self.bridge.send_signal(number)
         self.bridge.wait()
 
     def end(self):
+        """Ends the card's program."""
         self.process.stdin.close()
         self.process.wait()
         # The daemon notices that the reader is empty.
@@ -92,8 +102,7 @@ class Card:
 
 def terminal(path):
     """What the terminal of a scenario says over PC/SC."""
-    run = subprocess.run([ROOT / "tools/terminal-at-pcsc", path, "--host", "--reader", "emvrun"],
-                         capture_output=True, timeout=SECONDS)
+    run = subprocess.run([*LAB, "terminal", path, "--host", "--reader", "emvrun"], capture_output=True, timeout=SECONDS)
     return run.stdout.decode().splitlines(), run.stderr.decode()
 
 
@@ -127,16 +136,32 @@ def shown(words, seconds=SECONDS):
     return text
 
 
+def scripted(commands):
+    """What `scriptor` prints of these commands."""
+    with tempfile.NamedTemporaryFile("w", suffix=".script") as file:
+        print("reset", *commands, sep="\n", file=file, flush=True)
+        return shown(["scriptor", "-r", "emvrun 00 00", file.name])
+
+
+def fits(text):
+    """Whether what a client prints is a log that fits the card's image, by `lab card`."""
+    image = Image(IMAGE)
+    sessions = sessions_of(text)
+    image.begin(sessions, None, None)
+    return not any(held.is_wrong() for held in compared(image, sessions, None))
+
+
 def clients():
-    """Other clients: SELECT and GET PROCESSING OPTIONS by opensc-tool, and the ATR by pcsc_scan."""
-    card = Card(read(ROOT / "examples/offline-approval.toml"), "c1")
+    """Other clients: SELECT and GET PROCESSING OPTIONS by opensc-tool and by scriptor, and the ATR by pcsc_scan."""
+    card = Card(read(IMAGE), "c1")
     card.put_in()
-    time.sleep(1.0)
-    sent = shown(["opensc-tool", "-c", "default", "-s", "00A4040007A000000003101000", "-s", "80A8000002830000"])
+    commands = ["00A4040007A000000003101000", "80CA9F3600", "80A8000002830000"]
+    sent = shown(["opensc-tool", "-c", "default", *(word for one in commands for word in ("-s", one))])
+    again = scripted(commands)
     seen = shown(["timeout", "4", "pcsc_scan", "-n"])
     card.take_out()
     card.end()
-    good = sent.count("SW1=0x90, SW2=0x00") == 2 and "3B 86 01 45 4D 56 52 55 4E 90" in seen
+    good = sent.count("SW1=0x90, SW2=0x00") == 3 and fits(sent) and fits(again) and "3B 86 01 45 4D 56 52 55 4E 90" in seen
     print(f"{'ok' if good else 'NOT OK'} other clients")
     return good
 
@@ -159,16 +184,17 @@ def peek():
     if shutil.which("cardpeek") is None:
         print("cardpeek is not installed, and not tried")
         return True
-    card = Card(read(ROOT / "examples/offline-approval.toml"), "c1")
+    card = Card(read(IMAGE), "c1")
     card.put_in()
-    time.sleep(1.0)
     found = peeked()
     card.take_out()
     card.end()
     print("$ cardpeek, its script emv.lua")
     for label, value in found:
         print(f"  {label}: {value}")
-    wanted = [("Application Label", "CREDIT"), ("Application Transaction Counter (ATC)", "11"), ("Application PAN", "4761739001010010")]
+    wanted = [
+        ("Application Label", "CREDIT"), ("Application Transaction Counter (ATC)", "11"), ("Application PAN", "4761739001010010"),
+    ]
     good = all(pair in found for pair in wanted)
     print(f"{'ok' if good else 'NOT OK'} cardpeek")
     return good
@@ -202,10 +228,8 @@ def stop_before_the_answer(card):
 
 def killed():
     """The bridge is killed in the middle of a command, and another one puts the card in again."""
-    path = ROOT / "examples/offline-approval.toml"
-    card = Card(read(path), "c1")
+    card = Card(read(IMAGE), "c1")
     card.put_in()
-    time.sleep(1.0)
     seen = stop_before_the_answer(card)
     print(f"the client saw: {seen}")
     time.sleep(1.0)
@@ -215,21 +239,22 @@ def killed():
     power = card.lines.ask("power")
     print(f"the card's next power-up: {power}")
     card.put_in()
-    said, errors = terminal(path)
+    said, errors = terminal(IMAGE)
     card.take_out()
     card.end()
     print(said[-1] if said else errors)
-    good = seen != "an answer" and power == "power 11,9,0,0,3,0" and said[-1:] and said[-1].startswith("end approved") and "atc=000c" in said[-1]
+    last = said[-1] if said else ""
+    good = seen != "an answer" and power == "power 11,9,0,0,3,0" and last.startswith("end approved") and "atc=000c" in last
     print(f"{'ok' if good else 'NOT OK'} a bridge that is killed")
     return good
 
 
-def main():
-    words_of(__doc__)
+def run():
+    """Tries all; gives the status."""
     lacking = missing()
     if lacking:
-        print(f"try-at-reader: not tried, since these packages are missing: {' '.join(lacking)}")
-        return MISSING
+        print(f"not tried, since these Debian packages are missing: {' '.join(lacking)}")
+        return INCONCLUSIVE
     for name in ("card_at_reader", "terminal_at_reader", "emvrun"):
         program(name)
     daemon = Daemon(PORT)
@@ -239,8 +264,4 @@ def main():
     finally:
         daemon.end()
     print(f"at a reader: {sum(map(bool, good))} passed, {len(good) - sum(map(bool, good))} failed")
-    return 0 if all(good) else 1
-
-
-if __name__ == "__main__":
-    sys.exit(main())
+    return PASSED if all(good) else FAILED

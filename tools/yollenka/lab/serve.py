@@ -1,0 +1,124 @@
+"""`lab serve`: the proved card and the proved terminal for a partner of another make."""
+import os
+
+from yollenka.commandline import counted, positive
+from yollenka.faults import Fault
+from yollenka.lab import FAILED, PASSED
+from yollenka.lab.at_reader import Pcsc, recorder
+from yollenka.lab.bridges import HERE, Card, at_a_card, card_of, host_reply, in_a_reader, on_a_socket
+from yollenka.lines import Lines, begin, terminal_document
+from yollenka.readers import PORT
+from yollenka.scenarios import NoDocument, read_document
+
+TEXT = """\
+The proved card of a scenario in the virtual reader of this machine, or on a socket; or its proved terminal at a card in a
+reader. docs/use/reader.md has their lines, and what one has to know of readers."""
+IDLE = 60.0
+
+
+def scenario_in(path):
+    """A scenario in a file."""
+    try:
+        return read_document(path)
+    except NoDocument as fault:
+        raise Fault(str(fault)) from None
+
+
+def address(text):
+    """A host and a port behind --socket; without a host it is this machine alone."""
+    host, _, port = text.rpartition(":")
+    if not 0 <= int(port) <= 65535:
+        raise ValueError
+    return host.strip("[]") or HERE, int(port)
+
+
+def serve_card(options):
+    """Serves the card until it is ended."""
+    record = recorder(options.log)
+    if options.lines:
+        back, to = (os.fdopen(int(number), mode) for number, mode in zip(options.lines.split(","), ("rb", "wb")))
+        card = Card(Lines(to, back), record)
+        card.in_step()
+    else:
+        card = card_of(options.scenario, scenario_in(options.scenario), options.card, record)
+    if options.pull and card.ask(f"pull {options.pull}") == "?":
+        raise Fault(f"--pull: this is no place: {options.pull}")
+    if options.socket:
+        on_a_socket(card, *options.socket, options.idle)
+    else:
+        in_a_reader(card, options.port)
+    return PASSED
+
+
+def serve_terminal(options):
+    """Holds a purchase's dialogue with the card in a reader; each line of it is printed, as the entries of a trace."""
+    scenario = scenario_in(options.scenario)
+    try:
+        text = terminal_document(scenario, options.lane, options.purchase)
+    except (KeyError, IndexError, TypeError):
+        raise Fault(f"{options.scenario}: there is no purchase {options.purchase} of lane {options.lane}") from None
+    process, terminal = begin("terminal_at_reader", [], text)
+    terminal.require_taken(options.scenario)
+    reader, record = Pcsc(options.reader, options.wait), recorder(options.log)
+
+    def tell(line):
+        """Takes a line of the dialogue."""
+        record(line)
+        print(line, flush=True)
+
+    def reply(answers):
+        """The issuer's reply to the last message."""
+        return host_reply(scenario, options.lane, options.purchase, answers) if options.host else "host < none"
+
+    reader.power()
+    last = at_a_card(terminal, reader, reply, tell)
+    reader.close()
+    process.stdin.close()
+    process.wait()
+    return PASSED if last.startswith("end ") else FAILED
+
+
+def serve_try(_):
+    """Tries all of it on this machine."""
+    from yollenka.lab import try_reader
+    return try_reader.run()
+
+
+def card_arguments(parser):
+    """The words of `lab serve card`."""
+    parser.add_argument("scenario", metavar="SCENARIO.toml")
+    parser.add_argument("card", metavar="CARD", nargs="?", help="the card's name; without it the first card")
+    parser.add_argument("--port", type=lambda text: int(text, 0), default=PORT, help="the virtual reader's port here (35963)")
+    parser.add_argument("--socket", type=address, metavar="[HOST:]PORT",
+                        help="in place of the reader: listens here for the card's lines; without HOST on this machine alone")
+    parser.add_argument("--idle", type=float, default=IDLE, metavar="N",
+                        help="with --socket: a peer that says nothing for N seconds is dropped (60)")
+    parser.add_argument("--pull", metavar="PLACE", help="pulls the card out here, as '3 within 2'")
+    parser.add_argument("--log", metavar="F", help="writes each exchange to this file, a log for `lab card` and `lab page`")
+    parser.add_argument("--lines", metavar="R,W", help="the card's program runs already: its lines are on these two open files")
+    parser.set_defaults(serve=serve_card)
+
+
+def terminal_arguments(parser):
+    """The words of `lab serve terminal`."""
+    parser.add_argument("scenario", metavar="SCENARIO.toml")
+    parser.add_argument("lane", metavar="LANE", nargs="?", type=counted, default=0, help="from 0")
+    parser.add_argument("purchase", metavar="PURCHASE", nargs="?", type=positive, default=1, help="from 1")
+    parser.add_argument("--reader", metavar="NAME", default="", help="the first reader whose name has NAME in it")
+    parser.add_argument("--wait", type=float, default=10, metavar="N", help="waits so many seconds for a reader and its card (10)")
+    parser.add_argument("--host", action="store_true", help="the scenario's issuer replies, by the accounts of the document")
+    parser.add_argument("--log", metavar="F", help="writes each line to this file, too")
+    parser.set_defaults(serve=serve_terminal)
+
+
+def arguments(parser):
+    """The command's words."""
+    kinds = parser.add_subparsers(required=True, metavar="WHAT")
+    card_arguments(kinds.add_parser("card", help="a scenario's card"))
+    terminal_arguments(kinds.add_parser("terminal", help="a scenario's terminal"))
+    kinds.add_parser("try", help="tries both in a virtual reader of this machine").set_defaults(serve=serve_try)
+
+
+def run(options):
+    """Serves; gives the status."""
+    return options.serve(options)
