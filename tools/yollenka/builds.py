@@ -34,6 +34,11 @@ def quick_place(name):
     return os.path.join(place(name), f"{name}-quick")
 
 
+def is_known(name):
+    """Whether there is such a program: in an installed tree it is there, in a repository its crate."""
+    return os.path.isfile(proved_place(name)) or os.path.isdir(os.path.dirname(place(name)))
+
+
 def is_slow(program):
     """Whether this is a plain trial build, which takes some 300 times as long as the proved program."""
     return str(program).endswith("-trial")
@@ -105,6 +110,17 @@ def quicken(name):
     files = [(os.POSIX_SPAWN_DUP2, nothing, number) for number in (0, 1, 2)]
     words = [sys.executable, "-B", "-I", "-S", worker, name]
     os.posix_spawn(sys.executable, words, os.environ, file_actions=files, setsid=True)
+
+
+def launched(name, main, words):
+    """Runs a launcher; gives its status, also where it is stopped or a file of it can't be had."""
+    try:
+        return main(words)
+    except KeyboardInterrupt:
+        return 130
+    except OSError as error:
+        print(f"{name}: {error.filename or name}: {error.strerror}", file=sys.stderr)
+        return 2
 
 
 def end_as(program, words):

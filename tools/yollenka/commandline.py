@@ -77,14 +77,33 @@ def carried_out(name, run, *options):
         return 1
 
 
-def begin(run, text, *rows):
-    """A script's whole main: reads its words, rows of what argparse takes of each, and runs it with what they say.
+# Rows of what argparse takes that several scripts have: another program than the proved one, and a page made anew.
+PROGRAM = ("program", {"nargs": "?", "type": a_program, "metavar": "PROGRAM", "help": "which is tried, in place of the repository's"})
+NUMBERS = ("numbers", {"nargs": "*", "type": counted, "metavar": "FIRST LAST", "help": "the numbers from FIRST to LAST alone"})
+WRITE = ("--write", {"action": "store_true", "help": "makes anew what would be compared"})
 
-    Without rows there are no words but `--help`, and the script is run with nothing.
-    """
-    name = os.path.basename(sys.argv[0])
-    parser = parser_of(name, text)
+
+def first_and_last(numbers):
+    """The numbers from the first to the last one; None where none are named."""
+    if len(numbers) not in (0, 2):
+        raise Fault("FIRST and LAST are two numbers")
+    return range(numbers[0], numbers[1] + 1) if numbers else None
+
+
+def script():
+    """The name under which this script was called."""
+    return os.path.basename(sys.argv[0])
+
+
+def words_of(text, *rows):
+    """What a script's words say: rows of what argparse takes of each, and `--help`."""
+    parser = parser_of(script(), text)
     for *names, how in rows:
         parser.add_argument(*names, **how)
-    options = parser.parse_args()
-    sys.exit(carried_out(name, run, *([options] if rows else [])))
+    return parser.parse_args()
+
+
+def begin(run, text, *rows):
+    """A script's whole main: reads its words and runs it with what they say, or with nothing where it has none."""
+    options = words_of(text, *rows)
+    sys.exit(carried_out(script(), run, *([options] if rows else [])))

@@ -2,6 +2,7 @@
 import subprocess
 import tomllib
 
+from yollenka.faults import Fault
 from yollenka.programs import Builder, say
 from yollenka.scenarios import document
 
@@ -16,7 +17,7 @@ class Lines:
     """A program that is talked with line by line."""
 
     def __init__(self, to, back):
-        self.to, self.back = to, back
+        self.to, self.back, self.first = to, back, None
 
     def say(self, line):
         """Hands on a line; a program that has ended takes none."""
@@ -28,7 +29,14 @@ class Lines:
 
     def hear(self):
         """The next line, or an empty text at the end."""
-        return self.back.readline().decode(errors="replace").rstrip("\n")
+        line, self.first = self.first, None
+        return self.back.readline().decode(errors="replace").rstrip("\n") if line is None else line
+
+    def require_taken(self, path):
+        """Waits for a line, which is heard afterwards too; a fault where it says that the document of this file is refused."""
+        self.first = self.hear()
+        if self.first.startswith("refused "):
+            raise Fault(f"{path}: {self.first}")
 
     def ask(self, line):
         """Hands on a line, and gives the next one."""

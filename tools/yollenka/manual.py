@@ -38,13 +38,17 @@ SECTIONS = [
         ("`-q`", "First of all words: the launcher says nothing but what keeps it from running the program."),
         ("`--build`", "Proves and builds the program with all that it stands on, a line for each crate."),
         ("`--help`", "Prints this text."),
-        ("`--version`", "Prints the commit, the build that would answer, and the toolchain."),
+        ("`--version`", "Prints the version, the build that would answer, and the toolchain."),
     ]),
     ("BUILDS", [
-        "Without a proved program that is newer than all sources the launcher makes a trial build, in one to two "
-        "minutes. It is not proved, it checks itself as it runs, and it is some 300 times slower: 15 ms for a purchase, "
-        "where the proved program takes 0.05 ms. The launcher warns before work that takes a trial build more than five "
-        "seconds. `--build` takes one to two and a half hours of one processor from nothing, and less where several are free.",
+        "A build counts by what its sources hold, whatever their times. Without a proved program of the sources as they are "
+        "the launcher makes a trial build, in one to two minutes. It is not proved, it checks itself as it runs, and it is "
+        "some 300 times slower: 15 ms for a purchase, where the proved program takes 0.05 ms. The launcher warns before work "
+        "that takes it more than five seconds.",
+        "Behind a trial build a quick one is made beside all else, of the same code by an optimising compiler. It is not proved "
+        "either, and takes a few times as long as the proved program.",
+        "`--build` proves as many crates at a time as processors and memory allow, which from nothing are one to two and a "
+        "half hours of one processor. What is proved is kept, also where it is ended.",
     ]),
     ("EXIT STATUS", [
         ("0", "The scenario was run to its end, whatever became of its purchases; or the trace was compared."),
@@ -72,6 +76,11 @@ SECTIONS = [
 ]
 
 
+def usage():
+    """One line of the words that the program takes, as it prints it for others."""
+    return "usage: emvrun read|replay|generate N|check"
+
+
 def plain():
     """The text for a screen."""
     lines = []
@@ -93,13 +102,24 @@ def escaped(text):
     return re.sub(r"^([.'])", r"\\&\1", text)
 
 
-def man():
-    """The man page."""
-    lines = ['.TH EMVRUN 1 "" "Yollenka" "User commands"']
-    for title, parts in SECTIONS:
+class Lines(str):
+    """A text whose lines stay as they are."""
+
+
+def as_it_stands(text):
+    """A text line by line, as troff takes it."""
+    return [".nf", *(escaped(line) for line in text.rstrip().split("\n")), ".fi"]
+
+
+def man(name="EMVRUN", sections=None):
+    """The man page of a command; of emvrun without words."""
+    lines = [f'.TH {name} 1 "" "Yollenka" "User commands"']
+    for title, parts in sections or SECTIONS:
         lines.append(f".SH {title}")
         for number, part in enumerate(parts):
-            if isinstance(part, str):
+            if isinstance(part, Lines):
+                lines += as_it_stands(part)
+            elif isinstance(part, str):
                 lines += ([".PP"] if number else []) + [escaped(part)]
             elif part[1]:
                 lines += [".TP", escaped(part[0]), escaped(part[1])]

@@ -14,8 +14,7 @@ from yollenka.builds import say, silent
 
 ROOT = Path(seals.ROOT)
 TOOL = "rt"
-# What a clone needs, as measured on four processors (docs/inside/performance.md has the tables).
-BUILD_TIME = "from nothing one to two and a half hours of one processor, less where several are free; what is proved is kept"
+# How long that takes, as measured on four processors.
 TRIAL_TIME = "one to two minutes"
 
 libraries, crates_of, is_fresh = seals.libraries, seals.crates_of, seals.is_fresh
@@ -77,18 +76,24 @@ class Builder:
         sys.exit(1)
 
     def run(self, words, crate, **more):
-        """Runs the toolchain in a crate's folder; gives what it wrote."""
-        return subprocess.run([self.tool(), *words], cwd=crate, stdin=subprocess.DEVNULL, stdout=subprocess.PIPE,
-                              stderr=subprocess.STDOUT, text=True, **more)
+        """Runs the toolchain in a crate's folder; gives what it wrote. Where this run is ended, it is told to end too."""
+        process = subprocess.Popen([self.tool(), *words], cwd=crate, stdin=subprocess.DEVNULL, stdout=subprocess.PIPE,
+                                   stderr=subprocess.STDOUT, text=True, errors="replace", **more)
+        try:
+            return process.communicate()[0]
+        except BaseException:
+            process.terminate()
+            process.wait()
+            raise
 
     def build(self):
         """Has the toolchain prove what isn't proved yet, one crate after the other, and build the program; seals it."""
         before = seals.digest(self.name)
         proved(self.name).unlink(missing_ok=True)
         # Without words the program prints its usage line and ends with 2.
-        run = self.run(["run"], self.crate)
+        said = self.run(["run"], self.crate)
         if not os.access(proved(self.name), os.X_OK):
-            self.failed(f"{self.name}: the build", run.stdout)
+            self.failed(f"{self.name}: the build", said)
         if seals.digest(self.name) != before:
             proved(self.name).unlink()
             self.failed(f"{self.name}: the build", "a source changed meanwhile")

@@ -8,7 +8,6 @@ import os
 import shutil
 import signal
 import subprocess
-import sys
 import time
 from concurrent.futures import FIRST_COMPLETED, ThreadPoolExecutor, wait
 from pathlib import Path
@@ -23,11 +22,12 @@ PREFIX = "proving-"
 # What a crate's proof leaves in out/ beside its program.
 LEFT = ("rlib", "incremental")
 # Bytes that a proof takes: at least, and for each line of the crates below and of the crate itself.
-LEAST, BELOW, OWN = 800_000_000, 150_000, 250_000
+LEAST, BELOW, OWN = 1_400_000_000, 80_000, 350_000
 # Lines that are proved in a second of one processor, roughly.
-PACE = 12
+PACE = 9
 # Seconds after which it is looked again whether there is room.
 LOOK = 20
+STOPPED = 130
 
 
 def minutes(start):
@@ -218,17 +218,22 @@ class Prover:
 
 def prove(builder):
     """Proves the crates below a program, then builds the program; gives the status."""
+    signal.signal(signal.SIGTERM, signal.default_int_handler)
+    try:
+        return prove_all(builder)
+    except KeyboardInterrupt:
+        builder.tell("stopped: what is proved is kept, and the next call goes on from there")
+        return STOPPED
+
+
+def prove_all(builder):
+    """Does so, and tells what it is at."""
     plan = Plan(builder.name)
     builder.tell(f"{len(plan.crates)} crates are proved, then the program is built, on {len(os.sched_getaffinity(0))} processors; "
                  "what is proved is kept")
-    signal.signal(signal.SIGTERM, lambda number, _: sys.exit(128 + number))
     with held(CRATES.parent / "crates.txt", lambda: builder.tell("another --build works here: it is waited for")):
         prover = Prover(builder, plan)
-        try:
-            prover.all()
-        except KeyboardInterrupt:
-            builder.tell("stopped: what is proved is kept, and the next call goes on from there")
-            return 130
+        prover.all()
         builder.tell(f"{minutes(prover.start)}: {builder.name}, the program; 0 wait")
         builder.build()
     builder.tell(f"{minutes(prover.start)}: proved and built")

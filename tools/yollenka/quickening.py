@@ -1,7 +1,8 @@
 """Makes the quick trial build of a program from what its trial build left: the same code, optimised by the kit's compiler.
 
 It is no proof either. It is made by a process of its own at the lowest priority, one at a time, in the folder of the parts,
-which goes when the build is in its place. Where a compiler is missing or fails, the plain trial build stays.
+which goes when the build is in its place. Where the making fails, the plain trial build stays, and where the kit isn't there
+the parts stay too.
 """
 import ctypes
 import fcntl
@@ -46,7 +47,7 @@ def ran(words, work, **more):
 
 def compiler():
     """The kit's own compiler, beside the page that the toolchain names."""
-    page = ran(["rt", "doc"], os.getcwd())
+    page = ran(["rt", "doc"], Path.cwd())
     return page and Path(page.decode().strip()).parent / "toolchain" / "bin" / "clang"
 
 
@@ -56,13 +57,12 @@ def answer(program):
     return ended.returncode, ended.stdout, ended.stderr
 
 
-def make(parts, work, name):
+def make(clang, parts, work, name):
     """Makes the build in this folder; tells whether it is there and answers as the trial build does."""
-    clang = compiler()
     code, program = work / "quick.o", work / "quick"
-    compiled = clang and ran([clang, "-Os", "-march=x86-64-v2", "-x", "ir", "-c", parts / "module.bc", "-o", code], work)
+    compiled = ran([clang, "-Os", "-march=x86-64-v2", "-x", "ir", "-c", parts / "module.bc", "-o", code], work)
     linked = compiled is not None and ran(["cc", "-no-pie", "-o", program, code, *sorted(parts.glob("input-*"))], work)
-    if not clang or linked is None or not program.exists():
+    if linked is None or not program.exists():
         return False
     return answer(program) == answer(builds.trial_place(name))
 
@@ -76,12 +76,13 @@ def quicken(name):
     # One after the other in this repository.
     others = os.open(parts.parents[2], os.O_RDONLY)
     fcntl.flock(others, fcntl.LOCK_EX)
-    work = parts / "work"
+    clang, work = compiler(), parts / "work"
+    if not clang:
+        return
     shutil.rmtree(work, ignore_errors=True)
     work.mkdir()
     try:
-        good = make(parts, work, name)
-        if good:
+        if make(clang, parts, work, name):
             (work / "quick").replace(builds.quick_place(name))
             seals.seal(builds.quick_place(name), sources)
     finally:

@@ -3,7 +3,8 @@ import json
 import re
 from difflib import get_close_matches
 
-from yollenka.schema import read_schema, resolved, table_at
+from yollenka.schema import homes, read_schema, resolved, table_at
+from yollenka.spoilt import fault_of
 
 LINE = re.compile(r"refused \d (\w+)(?: (.*))?\n", re.DOTALL)
 SKIPPED = re.compile(r"(?:[ \t\r\n]+|#[^\n]*)*")
@@ -165,10 +166,30 @@ def missing_at_top(text, places, key):
         return "the document is a scenario, which `replay` and `read` run"
     if key == "issuer" and ("trace",) in places:
         return "the document is a trace, which `check` looks at"
-    elsewhere = [path for path in places if path and path[-1] == key]
-    if elsewhere:
-        return f"{line_and_column(text, places[elsewhere[0]])}: {key} stands there: it belongs before the first table"
-    return f"the document has no {key}"
+    row = keys_at((), ("trace",) in places).get(key, {})
+    return misplaced(text, places, key, ()) or f"the document has no {key}{values_of(row, key)}"
+
+
+def misplaced(text, places, key, table):
+    """Where a key stands that belongs in another table; None where it stands in none."""
+    is_trace = ("trace",) in places
+    for path, place in places.items():
+        if path and path[-1] == key and key not in keys_at(path[:-1], is_trace):
+            return f"{line_and_column(text, place)}: {key} stands there: {belongs(table)}"
+    return None
+
+
+def named(path):
+    """A path's keys, without the numbers of elements."""
+    return tuple(step for step in path if isinstance(step, str))
+
+
+def belongs(table):
+    """Where a key belongs, by the path of its table."""
+    if not table:
+        return "it belongs before the first table"
+    name = ".".join(named(table))
+    return f"it belongs in [[{name}]]" if isinstance(table[-1], int) else f"it belongs in [{name}]"
 
 
 def missing_hint(text, places, table, key, known):
@@ -179,7 +200,9 @@ def missing_hint(text, places, table, key, known):
         return f"{line_and_column(text, places[(*table, found[0])])}: {found[0]} stands there: did you mean {key}?"
     if not table:
         return missing_at_top(text, places, key)
-    return f"{line_and_column(text, places[table])}: {as_text(table)} begins there, and has no {key}"
+    return misplaced(text, places, key, table) or (
+        f"{line_and_column(text, places[table])}: {as_text(table)} begins there, and has no {key}"
+        f"{values_of(known.get(key, {}), '.'.join((*named(table), key)))}")
 
 
 def names_of_cards(text):
@@ -220,6 +243,8 @@ def form_of(row, name):
     if row.get("type") == "array" and "$ref" in row["items"]:
         inner = resolved(row["items"]["$ref"], read_schema())
         return f"a table [[{name}]] for each" if inner.get("type") == "object" else "an array"
+    if row.get("type") == "object":
+        return f"a table [{name}]"
     for pattern, words in FORMS:
         if found := pattern.fullmatch(row.get("pattern", "")):
             return words.format(*(count.replace(",", " to ") for count in found.groups()))
@@ -232,15 +257,49 @@ def values_of(row, name):
     return f" ({form})" if form else ""
 
 
+def text_at(text, place, is_element):
+    """The text in quotes that stands at a key or as an element; None where something else does."""
+    begin = place if is_element else text.find("=", place) + 1
+    found = TEXT.match(text, SKIPPED.match(text, begin).end())
+    return found[0].strip("\"'") if found else None
+
+
+def spoilt(text, place, row, name, is_element):
+    """What is wrong with a text, behind its form; an empty text where there is nothing to say."""
+    value = text_at(text, place, is_element)
+    fault = None if value is None else fault_of(row.get("pattern", ""), name, value)
+    return f": {fault}" if fault else ""
+
+
+def element_hint(text, path, place, is_trace):
+    """Where an element of an array stands, which values it may have, and what is wrong with it."""
+    name = path[-2]
+    row = keys_at(path[:-2], is_trace).get(name, {})
+    inner = row.get("items", {})
+    inner = resolved(inner["$ref"], read_schema()) if "$ref" in inner else inner
+    form, meant = form_of(inner, name), row.get("description")
+    return (f"{line_and_column(text, place)}: {as_text(path)} stands there" + (f": {meant}" if meant else "")
+            + (f" ({form})" if form else "") + spoilt(text, place, inner, name, True))
+
+
+def unknown_hint(said, name, table, keys):
+    """What may be meant by a key that its table doesn't have: one like it, or another table's."""
+    close = near(name, keys)
+    known = [] if close else homes(name, read_schema())
+    return said + (f": {belongs(known[0])}" if len(known) == 1 and named(known[0]) != table else close)
+
+
 def key_hint(text, fault, path, place, is_trace):
     """Where a key or an element stands, and what may be meant in its place."""
+    if isinstance(path[-1], int) and isinstance(path[-2], str):
+        return element_hint(text, path, place, is_trace)
     name = path[-1] if isinstance(path[-1], str) else as_text(path)
     keys = keys_at(path[:-1], is_trace)
     said = f"{line_and_column(text, place)}: {name} stands there"
     if fault == "UnknownKey" and path[:-1] and name in keys_at((), is_trace):
         return f"{said}: it belongs before the first table"
     if fault == "UnknownKey":
-        return said + near(name, keys)
+        return unknown_hint(said, name, named(path[:-1]), keys)
     if is_trace and name in LEFT_OUT and fault == "BadValue":
         return f"{said}: a trace has none"
     if is_trace and path == ("lane", "purchase"):
@@ -248,8 +307,8 @@ def key_hint(text, fault, path, place, is_trace):
     if fault == "UnknownName" and name == "card":
         return said + name_hint(text, place)
     row = keys.get(name, {})
-    meant = row.get("description")
-    return said + (f": {meant}" if meant else "") + values_of(row, name)
+    meant, inner = row.get("description"), resolved(row["$ref"], read_schema()) if "$ref" in row else row
+    return said + (f": {meant}" if meant else "") + values_of(row, ".".join(named(path))) + spoilt(text, place, inner, name, False)
 
 
 def default_hint(text, places, table, key):

@@ -14,15 +14,15 @@ def read_schema(path=SCHEMA):
 
 
 def is_type(value, name):
-    """JSON knows one kind of number: 1.0 is an integer; true and false are none."""
+    """A document is TOML, which tells 25.00 from 25: the first is no integer, and neither are true and false."""
     if name == "integer":
-        return not isinstance(value, bool) and isinstance(value, (int, float)) and value == int(value)
+        return isinstance(value, int) and not isinstance(value, bool)
     return isinstance(value, TYPES[name])
 
 
 def is_same(one, other):
     """Equality of JSON values: true is not 1."""
-    return isinstance(one, bool) == isinstance(other, bool) and one == other
+    return type(one) is type(other) and one == other
 
 
 def matches(pattern, text):
@@ -146,3 +146,15 @@ def table_at(place, root):
         if "$ref" in schema:
             schema = {**resolved(schema["$ref"], root), **{key: schema[key] for key in schema if key != "$ref"}}
     return schema
+
+
+def homes(key, root, schema=None, path=()):
+    """The tables of a scenario that may have this key, by their paths; of arrays the first element."""
+    schema = root if schema is None else schema
+    found = [path] if key in schema.get("properties", {}) else []
+    for name, inner in schema.get("properties", {}).items():
+        below = (*path, name, 0) if "items" in inner else (*path, name)
+        inner = inner.get("items", inner)
+        if isinstance(inner, dict) and "$ref" in inner:
+            found += homes(key, root, resolved(inner["$ref"], root), below)
+    return found

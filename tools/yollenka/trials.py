@@ -2,6 +2,8 @@
 import fcntl
 import os
 import shutil
+import signal
+import sys
 import tempfile
 import threading
 import time
@@ -84,11 +86,24 @@ def keep_parts(kept, name, sources):
         kept.replace(parts)
 
 
+@contextmanager
+def ended_by_signal():
+    """A run that is told to end does so by an exception, so that nothing is left behind."""
+    if threading.current_thread() is not threading.main_thread():
+        yield
+        return
+    before = signal.signal(signal.SIGTERM, lambda number, _: sys.exit(128 + number))
+    try:
+        yield
+    finally:
+        signal.signal(signal.SIGTERM, before)
+
+
 def make(builder):
     """Makes the trial build, which is not proved; where another launcher is at it, that one is waited for."""
     place = Path(seals.place(builder.name))
     place.mkdir(exist_ok=True)
-    with held(place, lambda: builder.tell("another launcher makes it: it is waited for")):
+    with ended_by_signal(), held(place, lambda: builder.tell("another launcher makes it: it is waited for")):
         if builds.kept(builder.name) is None:
             with workroom(place, PREFIX) as room:
                 make_in(room, builder)
@@ -101,11 +116,11 @@ def make_in(room, builder):
     (room / "tries").mkdir()
     watch = threading.Thread(target=keep_files, args=(room / "tries", kept, ended), daemon=True)
     watch.start()
-    run = builder.run(["try", "--seconds", "60"], builder.crate, env={**os.environ, "TMPDIR": str(room / "tries")})
+    said = builder.run(["try", "--seconds", "60"], builder.crate, env={**os.environ, "TMPDIR": str(room / "tries")})
     ended.set()
     watch.join()
     if not (kept / "program").exists():
-        builder.failed("the trial build", run.stdout)
+        builder.failed("the trial build", said)
     trial = builds.trial_place(builder.name)
     (kept / "program").replace(trial)
     seals.seal(trial, sources)

@@ -41,11 +41,17 @@ def overview():
     return parser
 
 
-def carry_out(name, words):
-    """Reads a command's own words, and carries it out; gives its status."""
+def command_of(name):
+    """The parser of a command's own words, and its module."""
     command = importlib.import_module(f"yollenka.lab.{name.replace('-', '_')}")
     parser = parser_of(f"lab {name}", command.TEXT)
     command.arguments(parser)
+    return parser, command
+
+
+def carry_out(name, words):
+    """Reads a command's own words, and carries it out; gives its status."""
+    parser, command = command_of(name)
     return command.run(parser.parse_args(words))
 
 

@@ -2,13 +2,13 @@
 import subprocess
 from typing import NamedTuple
 
+from yollenka.builds import is_known
 from yollenka.faults import Fault
 from yollenka.lab.cases import refused
 from yollenka.lab.spelling import METHODS, rule_words
 from yollenka.model.objects import Fault as CodingFault
 from yollenka.model.objects import account_number, entries, tag_text, total
 from yollenka.model.selection import Terminated, check, gather, read
-from yollenka.programs import ROOT
 from yollenka.lines import program
 from yollenka.scenarios import NoDocument, document, read_document
 from yollenka.words import CAUSE, TAGS, TVR
@@ -227,7 +227,7 @@ def verdict_words(verdict):
 
 def well_formed_faults(scenario):
     """The purchases that begin with a card that isn't well-formed, by the proved call; nothing where the program isn't there."""
-    if not (ROOT / "crates" / CARD_CHECK).is_dir():
+    if not is_known(CARD_CHECK):
         return
     told = subprocess.run([program(CARD_CHECK)], input=document(scenario), capture_output=True, text=False).stdout.decode()
     for line in told.splitlines():
