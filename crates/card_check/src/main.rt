@@ -1,0 +1,29 @@
+//! Whether the cards of a scenario are well-formed for its purchases: standard input gives a scenario's document, and
+//! standard output gets a line for each purchase.
+#![tactic(auto)]
+
+mod top;
+mod verdicts;
+
+use emv_ports::{StdinSource, StdoutSink};
+use std::process::ExitCode;
+use std::{env, io};
+use top::run;
+
+/// Judges the cards of the document. Where there is no memory for the words, the status is 5.
+fn main(rt: HostRuntime) -> ExitCode {
+    let mut source = StdinSource::new(rt.reader());
+    let mut sink = StdoutSink::new(io::writer(&rt));
+    let mut words = Vec::new(rt.alloc());
+    match env::args(&rt) {
+        Ok(given) => {
+            for word in given.skip(1) {
+                if words.push(word).is_err() {
+                    return ExitCode::from(5);
+                }
+            }
+        }
+        Err(_) => return ExitCode::from(5),
+    }
+    ExitCode::from(run(rt.alloc(), &words, &mut source, &mut sink))
+}

@@ -1,0 +1,6 @@
+mod Clashes
+mod Services
+mod Wholes
+mod Opening
+mod Walking
+mod Readiness
