@@ -221,12 +221,11 @@ fn refuse_in<P: Pages>(rt: &impl Abort, image: &Image, pages: P, phase: usize, b
 #[test]
 fn refusals_come_in_the_order_of_the_checks(rt: HostRuntime) -> Result<(), Fail> {
     let alloc = rt.alloc();
-    for (phase, row) in PHASES.iter().enumerate() {
-        let (variant, before) = *row;
-        assert!(rt; phase < 6);
-        let image = image_of(&rt, alloc, variant)?;
+    for phase in 0..6 {
+        let row = &PHASES[phase];
+        let image = image_of(&rt, alloc, row.0)?;
         let pages = Held::new(alloc, MemoryPages::blank())?;
-        refuse_in(&rt, &image, pages, phase, before);
+        refuse_in(&rt, &image, pages, phase, row.1);
     }
     Ok(())
 }
