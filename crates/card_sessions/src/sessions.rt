@@ -267,7 +267,8 @@ fn send_all<'i, P: Pages>(rt: &impl Abort, card: Card<'i, P>, session: &[Line]) 
             let mut out = Answer::new();
             match card.process(bytes_of(command).as_slice(), &mut out) {
                 Ok(card) => {
-                    assert!(rt; out.as_slice() == bytes_of(answer).as_slice(), "to {command}");
+                    let wanted = bytes_of(answer);
+                    assert!(rt; out.as_slice() == wanted.as_slice(), "to {command}");
                     send_all(rt, card, rest);
                 }
                 Err(_) => panic!(rt; "the power is gone"),
