@@ -1,6 +1,5 @@
 //! Messages and replies in their second spelling.
 use crate::changes::changed;
-use crate::facts::agree;
 use crate::iso_samples::{
     PLAIN_REPLY, PRESENTMENT, PRESENTMENT_ITEMS, REPLY, REPLY_ITEMS, REQUEST, REQUEST_ITEMS,
     REVERSAL,
@@ -51,34 +50,33 @@ fn is_reversal_read() -> bool {
     }
 }
 
-/// A reply with two scripts of no bytes.
-const SHORT_REPLY: [u8; 22] = *b"0110\x00\x00\x00\x00\x02\x00\x02\x00000004\x71\x00\x72\x00";
-
-/// Whether these bytes are a reply of this kind with code 00 and these scripts, and no issuer authentication data.
-fn is_reply_read(bytes: &[u8], kind: CallKind, scripts: &[u8]) -> bool {
-    match read_iso_reply(bytes) {
-        Ok((found, reply)) => {
-            found == kind
-                && reply.code == *b"00"
-                && reply.auth.is_none()
-                && reply.scripts == scripts
-        }
-        Err(_) => false,
-    }
-}
+/// Replies without issuer authentication data, of which kind they are, and their scripts. A byte 00 between
+/// two scripts is none of them.
+const REPLIES: [(&[u8], CallKind, &[u8]); 2] = [
+    (&PLAIN_REPLY, CallKind::Reversal, &[]),
+    (
+        b"0110\x00\x00\x00\x00\x02\x00\x02\x00000004\x71\x00\x72\x00",
+        CallKind::Request,
+        b"\x71\x00\x72\x00",
+    ),
+];
 
 #[test]
 fn a_worked_reversal_and_short_replies_are_read(rt: HostRuntime) {
-    let plain = is_reply_read(&PLAIN_REPLY, CallKind::Reversal, &[]);
-    let short = is_reply_read(&SHORT_REPLY, CallKind::Request, &SHORT_REPLY[18..]);
-    agree(
-        &rt,
-        &[
-            ("the reversal", is_reversal_read()),
-            ("a plain reply", plain),
-            ("a short reply", short),
-        ],
-    );
+    assert!(rt; is_reversal_read());
+    for row in &REPLIES {
+        let (bytes, kind, scripts) = *row;
+        let is_read = match read_iso_reply(bytes) {
+            Ok((found, reply)) => {
+                found == kind
+                    && reply.code == *b"00"
+                    && reply.auth.is_none()
+                    && reply.scripts == scripts
+            }
+            Err(_) => false,
+        };
+        assert!(rt; is_read, "{scripts:?}");
+    }
 }
 
 #[test]
@@ -124,90 +122,93 @@ fn another_bitmap_is_a_fault(rt: HostRuntime) {
     }
 }
 
-/// No place of a message.
-const NOWHERE: (usize, u8) = (usize::MAX, 0);
+/// A message, other bytes at places of it, bytes behind it, and the first fault in the order of the bytes.
+type Row = (
+    &'static [u8],
+    &'static [(usize, u8)],
+    &'static [u8],
+    IsoFault,
+);
 
-/// Other bytes at places of the reversal, a byte behind it, and the first fault in the order of the bytes.
-type Row = ([(usize, u8); 2], Option<u8>, IsoFault);
-
-const SPOILT: [Row; 19] = [
-    ([(1, b'3'), NOWHERE], None, IsoFault::WrongType),
-    ([(1, b'1'), NOWHERE], None, IsoFault::Bitmap),
-    ([(12, b'a'), NOWHERE], None, IsoFault::Field(2)),
-    ([(12, b'9'), NOWHERE], None, IsoFault::Short(12)),
-    ([(13, b'2'), NOWHERE], None, IsoFault::Field(2)),
-    ([(20, b':'), NOWHERE], None, IsoFault::Field(2)),
-    ([(30, b'/'), NOWHERE], None, IsoFault::Field(4)),
-    ([(42, b' '), NOWHERE], None, IsoFault::Field(11)),
-    ([(47, b'2'), NOWHERE], None, IsoFault::Field(11)),
-    ([(50, b'1'), NOWHERE], None, IsoFault::Field(37)),
-    ([(59, b'x'), NOWHERE], None, IsoFault::Field(37)),
-    ([(70, b'a'), NOWHERE], None, IsoFault::Field(49)),
-    ([(76, b'8'), NOWHERE], None, IsoFault::Field(55)),
-    ([(73, b'-'), NOWHERE], None, IsoFault::Field(55)),
+const SPOILT: [Row; 21] = [
+    (&REVERSAL, &[(1, b'3')], &[], IsoFault::WrongType),
+    (&REVERSAL, &[(1, b'1')], &[], IsoFault::Bitmap),
+    (&REVERSAL, &[(12, b'a')], &[], IsoFault::Field(2)),
+    (&REVERSAL, &[(12, b'9')], &[], IsoFault::Short(12)),
+    (&REVERSAL, &[(13, b'2')], &[], IsoFault::Field(2)),
+    (&REVERSAL, &[(20, b':')], &[], IsoFault::Field(2)),
+    (&REVERSAL, &[(30, b'/')], &[], IsoFault::Field(4)),
+    (&REVERSAL, &[(42, b' ')], &[], IsoFault::Field(11)),
+    (&REVERSAL, &[(47, b'2')], &[], IsoFault::Field(11)),
+    (&REVERSAL, &[(50, b'1')], &[], IsoFault::Field(37)),
+    (&REVERSAL, &[(59, b'x')], &[], IsoFault::Field(37)),
+    (&REVERSAL, &[(70, b'a')], &[], IsoFault::Field(49)),
+    (&REVERSAL, &[(76, b'8')], &[], IsoFault::Field(55)),
+    (&REVERSAL, &[(73, b'-')], &[], IsoFault::Field(55)),
     // The counter is another than those of fields 11 and 37.
-    ([(85, 0x0C), NOWHERE], None, IsoFault::Field(11)),
-    // A fault of field 49 comes before what fields 11 and 37 should be.
-    ([(47, b'2'), (72, b'x')], None, IsoFault::Field(49)),
-    ([NOWHERE, NOWHERE], Some(0), IsoFault::Rest(86)),
+    (&REVERSAL, &[(85, 0x0C)], &[], IsoFault::Field(11)),
+    // Field 3 ends in four zeros; a fault in it comes before one behind it, and one of field 49 before what
+    // fields 11 and 37 should be.
+    (&REQUEST, &[(35, b'1'), (40, b'x')], &[], IsoFault::Field(3)),
+    (
+        &REVERSAL,
+        &[(47, b'2'), (72, b'x')],
+        &[],
+        IsoFault::Field(49),
+    ),
+    (&REVERSAL, &[], &[0], IsoFault::Rest(86)),
     // Another field 11 stands before the byte behind the last field.
-    ([(47, b'2'), NOWHERE], Some(0), IsoFault::Field(11)),
+    (&REVERSAL, &[(47, b'2')], &[0], IsoFault::Field(11)),
+    // The length of the first item in two bytes, 81 01.
+    (
+        &REVERSAL,
+        &[
+            (75, b'1'),
+            (76, b'0'),
+            (79, 0x81),
+            (81, 0x01),
+            (82, 0x9F),
+            (83, 0x36),
+            (84, 0x02),
+            (85, 0x00),
+        ],
+        &[0x0B],
+        IsoFault::Field(55),
+    ),
     // A byte 00 behind the last item.
-    ([(75, b'1'), (76, b'0')], Some(0), IsoFault::Field(55)),
+    (
+        &REVERSAL,
+        &[(75, b'1'), (76, b'0')],
+        &[0],
+        IsoFault::Field(55),
+    ),
+];
+
+/// A reply with a byte 00 between its scripts, and a call.
+const NO_REPLIES: [(&[u8], IsoFault); 2] = [
+    (
+        b"0110\x00\x00\x00\x00\x02\x00\x02\x00000005\x71\x00\x00\x72\x00",
+        IsoFault::Field(55),
+    ),
+    (&REVERSAL, IsoFault::WrongType),
 ];
 
 #[test]
 fn the_first_fault_in_the_order_of_the_bytes_is_told(rt: HostRuntime) {
     for row in &SPOILT {
-        let (changes, more, expected) = *row;
-        let bytes = changed(&REVERSAL, &changes, more);
-        assert!(rt; fault(bytes.as_slice()) == Some(expected), "{changes:?}");
+        let (message, changes, more, expected) = *row;
+        let bytes = changed(message, changes, more);
+        assert!(rt;
+            fault(bytes.as_slice()) == Some(expected),
+            "{changes:?} {more:?}"
+        );
     }
-}
-
-/// The length of the first item in two bytes, 81 01.
-fn with_long_length() -> [u8; 87] {
-    let mut long = [0; 87];
-    long[..79].copy_from_slice(&REVERSAL[..79]);
-    long[75] = b'1';
-    long[76] = b'0';
-    long[79] = 0x81;
-    long[80..].copy_from_slice(&REVERSAL[79..]);
-    long
-}
-
-/// A reply with a byte 00 between its scripts.
-const PADDED_REPLY: [u8; 23] = *b"0110\x00\x00\x00\x00\x02\x00\x02\x00000005\x71\x00\x00\x72\x00";
-
-#[test]
-fn other_bytes_are_no_calls_and_no_replies(rt: HostRuntime) {
-    // Field 3 ends in four zeros; a fault in it comes before one behind it.
-    let request = changed(&REQUEST, &[(35, b'1'), (40, b'x')], None);
-    agree(
-        &rt,
-        &[
-            (
-                "a request",
-                fault(request.as_slice()) == Some(IsoFault::Field(3)),
-            ),
-            (
-                "a long length",
-                fault(&with_long_length()) == Some(IsoFault::Field(55)),
-            ),
-            (
-                "a reply is no call",
-                fault(&PLAIN_REPLY) == Some(IsoFault::WrongType),
-            ),
-            (
-                "a padded reply",
-                reply_fault(&PADDED_REPLY) == Some(IsoFault::Field(55)),
-            ),
-            (
-                "a call is no reply",
-                reply_fault(&REVERSAL) == Some(IsoFault::WrongType),
-            ),
-        ],
-    );
+    for row in &NO_REPLIES {
+        let (bytes, expected) = *row;
+        assert!(rt; reply_fault(bytes) == Some(expected), "{bytes:?}");
+    }
+    // A reply is no call.
+    assert!(rt; fault(&PLAIN_REPLY) == Some(IsoFault::WrongType));
 }
 
 /// Whether a request whose account number has so many digits, with this block or without, is read again.

@@ -30,226 +30,97 @@ enum Call {
     Release,
 }
 
-/// Of which account.
-#[derive(Clone, Copy)]
-enum Whose {
-    First,
-    Other,
-    Nobody,
-}
-
-/// What it answers.
-#[derive(Clone, Copy, PartialEq, Eq)]
-enum Answer {
-    Done,
-    /// The amount is above the balance.
-    NoFunds,
-    Unknown,
-    /// The transaction has such an entry.
-    Held,
-    Booked,
-    Released,
-    /// Want of memory, or the entry of another transaction.
-    Else,
-}
-
-/// What is asked; the account, its sequence number and the counter of the transaction; the amount; the answer, with
-/// the balance or the amount that it names; and both balances behind it. A table holds no references: each of them
-/// costs the proof as much as ten numbers.
-type Row = (Call, Whose, u8, u16, u64, Answer, i128, [i128; 2]);
+/// What is asked; the account number, the sequence number and the counter of the transaction, and the amount;
+/// the answer in a word, with the balance or the amount that it names; and both balances behind it.
+type Row = (
+    Call,
+    (&'static [u8], u8, u16),
+    u64,
+    (&'static str, i128),
+    [i128; 2],
+);
 
 /// It holds what is there. A card of the same account with another sequence number has transactions of
 /// its own.
 const HOLDS: [Row; 7] = [
     (
         Call::Hold,
-        Whose::First,
-        1,
-        11,
+        (&PAN, 1, 11),
         3000,
-        Answer::NoFunds,
-        2500,
+        ("no funds", 2500),
         [2500, 10],
     ),
-    (
-        Call::Hold,
-        Whose::First,
-        1,
-        11,
-        2500,
-        Answer::Done,
-        0,
-        [0, 10],
-    ),
-    (
-        Call::Hold,
-        Whose::First,
-        1,
-        11,
-        2500,
-        Answer::Held,
-        2500,
-        [0, 10],
-    ),
-    (
-        Call::Hold,
-        Whose::First,
-        1,
-        12,
-        1,
-        Answer::NoFunds,
-        0,
-        [0, 10],
-    ),
-    (
-        Call::Hold,
-        Whose::Nobody,
-        1,
-        11,
-        1,
-        Answer::Unknown,
-        0,
-        [0, 10],
-    ),
-    (Call::Hold, Whose::Other, 1, 11, 10, Answer::Done, 0, [0, 0]),
-    (Call::Hold, Whose::Other, 2, 11, 0, Answer::Done, 0, [0, 0]),
+    (Call::Hold, (&PAN, 1, 11), 2500, ("done", 0), [0, 10]),
+    (Call::Hold, (&PAN, 1, 11), 2500, ("held", 2500), [0, 10]),
+    (Call::Hold, (&PAN, 1, 12), 1, ("no funds", 0), [0, 10]),
+    (Call::Hold, (&NONE, 1, 11), 1, ("unknown", 0), [0, 10]),
+    (Call::Hold, (&OTHER, 1, 11), 10, ("done", 0), [0, 0]),
+    (Call::Hold, (&OTHER, 2, 11), 0, ("done", 0), [0, 0]),
 ];
 
 /// It books once.
 const BOOKS: [Row; 3] = [
-    (
-        Call::Hold,
-        Whose::First,
-        1,
-        11,
-        2000,
-        Answer::Done,
-        0,
-        [500, 10],
-    ),
-    (
-        Call::Book,
-        Whose::First,
-        1,
-        11,
-        1500,
-        Answer::Done,
-        0,
-        [1000, 10],
-    ),
+    (Call::Hold, (&PAN, 1, 11), 2000, ("done", 0), [500, 10]),
+    (Call::Book, (&PAN, 1, 11), 1500, ("done", 0), [1000, 10]),
     (
         Call::Release,
-        Whose::First,
-        1,
-        11,
+        (&PAN, 1, 11),
         1500,
-        Answer::Booked,
-        1500,
+        ("booked", 1500),
         [1000, 10],
     ),
 ];
 
 /// It releases once.
 const RELEASES: [Row; 3] = [
-    (
-        Call::Hold,
-        Whose::First,
-        1,
-        12,
-        1000,
-        Answer::Done,
-        0,
-        [1500, 10],
-    ),
-    (
-        Call::Release,
-        Whose::First,
-        1,
-        12,
-        1000,
-        Answer::Done,
-        0,
-        [2500, 10],
-    ),
+    (Call::Hold, (&PAN, 1, 12), 1000, ("done", 0), [1500, 10]),
+    (Call::Release, (&PAN, 1, 12), 1000, ("done", 0), [2500, 10]),
     (
         Call::Book,
-        Whose::First,
-        1,
-        12,
+        (&PAN, 1, 12),
         1000,
-        Answer::Released,
-        1000,
+        ("released", 1000),
         [2500, 10],
     ),
 ];
 
 /// It books and releases what was not held.
 const UNHELD: [Row; 3] = [
-    (
-        Call::Book,
-        Whose::First,
-        1,
-        13,
-        4000,
-        Answer::Done,
-        0,
-        [-1500, 10],
-    ),
-    (
-        Call::Release,
-        Whose::First,
-        1,
-        14,
-        4000,
-        Answer::Done,
-        0,
-        [-1500, 10],
-    ),
+    (Call::Book, (&PAN, 1, 13), 4000, ("done", 0), [-1500, 10]),
+    (Call::Release, (&PAN, 1, 14), 4000, ("done", 0), [-1500, 10]),
     (
         Call::Hold,
-        Whose::First,
+        (&PAN, 1, 14),
         1,
-        14,
-        1,
-        Answer::Released,
-        4000,
+        ("released", 4000),
         [-1500, 10],
     ),
 ];
 
-/// An answer, with the balance or the amount that it names.
-fn told(answer: Result<(), LedgerFault>, key: &Key) -> (Answer, i128) {
+/// An answer in a word, with the balance or the amount that it names.
+fn told(answer: Result<(), LedgerFault>, key: &Key) -> (&'static str, i128) {
     match answer {
-        Ok(()) => (Answer::Done, 0),
-        Err(LedgerFault::NoFunds(balance)) => (Answer::NoFunds, balance),
-        Err(LedgerFault::UnknownAccount) => (Answer::Unknown, 0),
+        Ok(()) => ("done", 0),
+        Err(LedgerFault::NoFunds(balance)) => ("no funds", balance),
+        Err(LedgerFault::UnknownAccount) => ("unknown", 0),
         Err(LedgerFault::AlreadyBooked(entry)) => {
-            let told = match entry.state {
-                EntryState::Held => Answer::Held,
-                EntryState::Booked => Answer::Booked,
-                EntryState::Released => Answer::Released,
+            let word = match entry.state {
+                EntryState::Held => "held",
+                EntryState::Booked => "booked",
+                EntryState::Released => "released",
             };
-            let told = if entry.key == *key {
-                told
-            } else {
-                Answer::Else
-            };
-            (told, i128::from(entry.amount))
+            let word = if entry.key == *key { word } else { "another" };
+            (word, i128::from(entry.amount))
         }
-        Err(_) => (Answer::Else, 0),
+        Err(_) => ("memory", 0),
     }
 }
 
 /// Asks the ledger, and compares the answer and the balances.
 fn play(rt: &impl Abort, ledger: &mut Ledger, row: Row) -> Result<(), Fail> {
-    let (call, whose, sequence, counter, amount, wanted, number, [first, other]) = row;
-    let pan = match whose {
-        Whose::First => digits(&PAN)?,
-        Whose::Other => digits(&OTHER)?,
-        Whose::Nobody => digits(&NONE)?,
-    };
+    let (call, (pan, sequence, counter), amount, (word, number), [first, other]) = row;
     let key = Key {
-        pan,
+        pan: digits(pan)?,
         sequence,
         counter,
     };
@@ -263,8 +134,10 @@ fn play(rt: &impl Abort, ledger: &mut Ledger, row: Row) -> Result<(), Fail> {
     let is_kept = ledger.balance(&digits(&PAN)?) == Some(first)
         && ledger.balance(&digits(&OTHER)?) == Some(other)
         && ledger.balance(&digits(&NONE)?).is_none();
-    let is_told = found == wanted && of == number;
-    assert!(rt; is_told && is_kept, "{counter} {amount}: {first} {other}");
+    assert!(rt;
+        found == word && of == number && is_kept,
+        "{counter} {amount}: {word} {number}"
+    );
     Ok(())
 }
 

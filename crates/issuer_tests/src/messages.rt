@@ -109,20 +109,19 @@ const FAULTS: [(&[u8], MessageFault); 8] = [
     (&[0xE4, 0x00, 0xE4, 0x01, 0x9F], MessageFault::Coding(2)),
 ];
 
-/// A place in the request, the last half byte of each field of digits, and the field's tag.
-const OF_DIGITS: [(usize, u32); 6] = [
-    (26, 0x5F34),
-    (32, 0x5F24),
-    (41, 0x9F02),
-    (50, 0x9F03),
-    (67, 0x5F2A),
-    (72, 0x9A),
+/// A place in a message, another byte there, and the first fault then. In the request it is the last half byte
+/// of each field of digits. In the reversal it is the outer length: one too large; and one too small, so
+/// that the last field ends in the message and not in the outer item, and a byte is left behind that one.
+const SPOILT: [(&[u8], usize, u8, MessageFault); 8] = [
+    (&REQUEST, 26, 0x0A, MessageFault::Value(Tag(0x5F34))),
+    (&REQUEST, 32, 0x0A, MessageFault::Value(Tag(0x5F24))),
+    (&REQUEST, 41, 0x0A, MessageFault::Value(Tag(0x9F02))),
+    (&REQUEST, 50, 0x0A, MessageFault::Value(Tag(0x9F03))),
+    (&REQUEST, 67, 0x0A, MessageFault::Value(Tag(0x5F2A))),
+    (&REQUEST, 72, 0x0A, MessageFault::Value(Tag(0x9A))),
+    (&REVERSAL, 1, 0x31, MessageFault::Coding(0)),
+    (&REVERSAL, 1, 0x2F, MessageFault::Coding(46)),
 ];
-
-/// Whether the message with this byte at this place has this first fault.
-fn is_spoilt(message: &[u8], place: usize, byte: u8, expected: MessageFault) -> bool {
-    fault(changed(message, &[(place, byte)], None).as_slice()) == Some(expected)
-}
 
 #[test]
 fn the_first_fault_of_a_message_is_told(rt: HostRuntime) {
@@ -130,16 +129,15 @@ fn the_first_fault_of_a_message_is_told(rt: HostRuntime) {
         let (bytes, expected) = *row;
         assert!(rt; fault(bytes) == Some(expected), "{bytes:?}");
     }
-    for row in &OF_DIGITS {
-        let (place, tag) = *row;
-        let expected = MessageFault::Value(Tag(tag));
-        assert!(rt; is_spoilt(&REQUEST, place, 0x0A, expected), "{place}");
+    for row in &SPOILT {
+        let (message, place, byte, expected) = *row;
+        let bytes = changed(message, &[(place, byte)], &[]);
+        assert!(rt;
+            fault(bytes.as_slice()) == Some(expected),
+            "{place}: {byte}"
+        );
     }
-    // The outer length: one too large; and one too small, so that the last field ends in the message and not in
-    // the outer item, and a byte is left behind that one.
-    let large = is_spoilt(&REVERSAL, 1, 0x31, MessageFault::Coding(0));
-    let small = is_spoilt(&REVERSAL, 1, 0x2F, MessageFault::Coding(46));
-    assert!(rt; large && small && fault(&REVERSAL).is_none());
+    assert!(rt; fault(&REVERSAL).is_none());
 }
 
 /// A reply without issuer authentication data and scripts.
@@ -166,6 +164,11 @@ fn two_scripts(outer: u8, second: u8) -> [u8; 1033] {
     long
 }
 
+/// All but the last byte.
+fn without_last(long: &[u8; 1033]) -> &[u8] {
+    &long[..1032]
+}
+
 /// A reply, its issuer authentication data, and where its scripts begin and end.
 type Parts<'a> = (&'a [u8], Option<&'a [u8]>, usize, usize);
 
@@ -176,7 +179,7 @@ fn replies_are_read(rt: HostRuntime) {
         (&REPLY, Some(&REPLY[8..18]), 18, 73),
         (&PLAIN_REPLY, None, 6, 6),
         (&EIGHT_SCRIPTS, None, 6, 29),
-        (&long[..1032], None, 8, 1032),
+        (without_last(&long), None, 8, 1032),
     ];
     for (bytes, auth, from, to) in rows {
         assert!(rt; from <= to && to <= bytes.len());
